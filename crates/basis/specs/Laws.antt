@@ -1,0 +1,6 @@
+pub mod Choice
+pub mod Refusals
+pub mod Computed
+pub mod Lists
+pub mod Sums
+pub mod Units

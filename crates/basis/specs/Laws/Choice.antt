@@ -1,0 +1,13 @@
+-- Laws of choice.
+use mathlib.Core.Path.{_≡_, refl}
+use mathlib.Core.Bool.{Bool, true, false}
+use Rattle.basis.specs.Choice.{pick, both, either}
+
+-- a case split that keeps its equation
+pub decide : {R : Type 0} (t : Bool) → (t ≡ true → R) → (t ≡ false → R) → R
+decide true f g = f refl
+decide false f g = g refl
+
+pub both-true : (a b : Bool) → both a b ≡ true → (a ≡ true) × (b ≡ true)
+both-true true b e = (refl, e)
+both-true false b e = (e, cc)

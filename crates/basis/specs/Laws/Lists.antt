@@ -1,0 +1,37 @@
+-- Laws of lists and of lent buffers.
+use Prim.Native.Nat.{ℕ, zero, suc, _+_, _-_, _≤_, _<_}
+use mathlib.Core.Path.{_≡_, refl, ap, sym, _∙_}
+use mathlib.Core.List.{List, [], _∷_, _++_, append-assoc, append-nil}
+use native.Mathlib.Nat.{not-suc-le-zero}
+use native.Mathlib.Numerals.{add-one}
+use native.Mathlib.Omega.{arith}
+use lib.ListN.{length, getD, take, drop, set, length-append, length-drop, drop-of-length-le}
+use lib.Seq.{length-take-le, take-suc, take-all, take-at, drop-at, drop-drop, set-at}
+use borrow.Rule.Slice.PartMut.{putMid}
+use Rattle.basis.specs.Lists.{overlay}
+
+pub length-overlay : (w old : List ℕ) → length w ≤ length old → length (overlay w old) ≡ length old
+length-overlay w old h = simp (length-append, length-drop) (omega arith)
+
+-- the next byte is written
+set-next : (w old : List ℕ) (x : ℕ) → 0 < length old → (k : ℕ) → length w ≡ k → set (w ++ old) k x ≡ (w ++ (x ∷ [])) ++ drop 1 old
+set-next w [] x h k e = absurd (not-suc-le-zero h)
+set-next w (y ∷ old) x h k e = set-at w y old x k e ∙ sym (append-assoc w (x ∷ []) old)
+
+pub overlay-next : (w old : List ℕ) (k x : ℕ) → length w ≡ k → k < length old → set (overlay w old) k x ≡ overlay (w ++ (x ∷ [])) old
+overlay-next w old k x e h =
+    let q : 0 < length (drop (length w) old) = simp length-drop (omega arith) in
+    rw (set-next w (drop (length w) old) x q k e, drop-drop 1 (length w) old, length-append w (x ∷ []))
+
+-- one more byte of what is to be written
+pub overlay-more : (new old : List ℕ) (i d : ℕ) → i < length new → i < length old → set (overlay (take i new) old) i (getD new i d) ≡ overlay (take (i + 1) new) old
+overlay-more new old i d h k =
+    rw (add-one, take-suc new i d) (overlay-next (take i new) old i (getD new i d) (length-take-le i new (omega arith)) k)
+
+-- a part behind what was written is lent on and written: the whole is written through
+pub overlay-part : (f s old F P : List ℕ) (k : ℕ) → length f ≡ k → F ≡ overlay f old → P ≡ overlay s (take (length F - k) (drop k F)) → putMid k (length F - k) F P ≡ overlay (f ++ s) old
+overlay-part f s old F P k lf eF eP =
+    let r = drop (length f) old in
+    let l : length r ≤ length (f ++ r) - k = omega (arith, length-append f r) in
+    let e : P ≡ overlay s r = rw (eF, drop-at f r k lf, take-all (length (f ++ r) - k) r l) at eP in
+    rw (eF, e, take-at f r k lf, drop-at f r k lf, drop-of-length-le r l, append-nil, drop-drop, length-append) (sym (append-assoc f s (drop (length f + length s) old)))

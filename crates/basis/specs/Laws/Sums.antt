@@ -1,0 +1,39 @@
+-- Laws of sums.
+use Prim.Native.Nat.{ℕ, _+_, _-_, _%_, _<_}
+use mathlib.Core.Path.{_≡_, refl, ap}
+use mathlib.Core.List.{List, [], _∷_, _++_}
+use native.Mathlib.Omega.{arith}
+use Rattle.basis.specs.Sums.{total, sumOf, checksumOf}
+
+pub total-append : (s t : List ℕ) → total (s ++ t) ≡ total s + total t
+unfolding total
+total-append [] t = omega arith
+total-append (x ∷ s) t = omega (arith, total-append s t)
+
+pub sum-nil : sumOf [] ≡ 0
+unfolding sumOf total
+sum-nil = refl
+
+pub sum-append : (s t : List ℕ) → sumOf (s ++ t) ≡ (sumOf s + sumOf t) % 256
+unfolding sumOf
+sum-append s t = omega (arith, total-append s t)
+
+-- one more byte
+pub sum-more : (s : List ℕ) (x : ℕ) → sumOf (s ++ (x ∷ [])) ≡ (sumOf s + x) % 256
+unfolding sumOf total
+sum-more s x = omega (arith, total-append s (x ∷ []))
+
+pub sum-below : (s : List ℕ) → sumOf s < 256
+unfolding sumOf
+sum-below s = omega arith
+
+pub checksum-below : (s : List ℕ) → checksumOf s < 256
+checksum-below s = omega arith
+
+-- a list with its checksum sums to zero
+pub sum-closed : (s : List ℕ) → sumOf (s ++ (checksumOf s ∷ [])) ≡ 0
+sum-closed s = omega (arith, sum-more s (checksumOf s), sum-below s)
+
+-- and no other byte makes it so
+pub checksum-only : (s : List ℕ) (x : ℕ) → x < 256 → sumOf (s ++ (x ∷ [])) ≡ 0 → x ≡ checksumOf s
+checksum-only s x h e = omega (arith, sum-more s x, sum-below s)

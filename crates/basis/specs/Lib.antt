@@ -1,0 +1,7 @@
+-- The vocabulary of the whole product. Definitions stand here, what is proved of them under Laws.
+pub mod Choice
+pub mod Refusals
+pub mod Lists
+pub mod Units
+pub mod Sums
+pub mod Laws
