@@ -11,3 +11,9 @@ decide false f g = g refl
 pub both-true : (a b : Bool) → both a b ≡ true → (a ≡ true) × (b ≡ true)
 both-true true b e = (refl, e)
 both-true false b e = (e, cc)
+
+pub both-second : (a b : Bool) → a ≡ true → both a b ≡ b
+both-second a b e = simp e
+
+pub both-false : (a b : Bool) → a ≡ false → both a b ≡ false
+both-false a b e = simp e

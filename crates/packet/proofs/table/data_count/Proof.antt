@@ -1,0 +1,16 @@
+use borrow.Author.Tests.{le-leb, lt-leb}
+use Rattle.packet.proofs.table.data_count.Statement.{statement}
+use Rattle.packet.proofs.table.data_count.Tie as tie
+use Rattle.packet.proofs.table.data_count.Reads as reads
+use Rattle.packet.proofs.table.data_count.Lts as lts
+
+-- src/table.rt:62:1
+returns : tie.Need-returns
+returns c = simp (le-leb 6 _ (c .if1 .taken))
+
+-- src/table.rt:62:1
+returns-2 : tie.Need-returns-2
+returns-2 c = simp (lt-leb 6 _ (c .if1 .left))
+
+pub data-count-spec : {M : Type 1} → statement M
+data-count-spec = tie.close (tie.spec returns returns-2)

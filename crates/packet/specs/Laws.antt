@@ -1,0 +1,3 @@
+pub mod Turn
+pub mod Table
+pub mod Packet
