@@ -13,6 +13,13 @@ use Rattle.basis.specs.Refusals.{Answer, refused, given, Rule, _when_, f
 pub apart : {A : Type 0} {n : ℕ} {x : A} → refused n ≡ given x → ⊥
 apart e = let z : _≡_ {A = ℕ} 0 1 = cc in omega arith
 
+-- what is given alike is alike, and so is what is refused
+pub given-one : {A : Type 0} {x y : A} → given x ≡ given y → x ≡ y
+given-one e = cc
+
+pub refused-one : {A : Type 0} {m n : ℕ} → _≡_ {A = Answer A} (refused m) (refused n) → m ≡ n
+refused-one e = cc
+
 module _ {A : Type 0} where
   -- a row whose test fails is passed over
   pub skip : (n : ℕ) (t : Bool) (l : List Rule) (r : Answer A) → t ≡ false → first (n when t ∷ l) r ≡ first l r

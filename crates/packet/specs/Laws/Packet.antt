@@ -5,18 +5,18 @@ use mathlib.Core.Bool.{Bool, true, false, not}
 use mathlib.Core.List.{List, [], _∷_, _++_, map}
 use native.Mathlib.Nat.{div-div-eq-div-mul, div-add-mod', mod-eq-of-lt}
 use native.Mathlib.Omega.{arith}
-use borrow.Author.Tests.{le-leb, lt-leb, lt-ltb, le-ltb, eq-eqb, eqb-true}
+use borrow.Author.Tests.{le-leb, lt-leb, lt-ltb, le-ltb, ltb-false, eq-eqb, eqb-true, not-false}
 use lib.Dec.{leb, eqb}
 use lib.ListN.{length, getD, take, drop, length-append, length-map}
 use lib.Seq.{take-at}
 use Rattle.basis.specs.Choice.{both}
 use Rattle.basis.specs.Laws.Choice.{decide, both-true, both-second}
-use Rattle.basis.specs.Laws.Refusals.{skip, stop, done}
+use Rattle.basis.specs.Laws.Refusals.{skip, stop, done, passed}
 use Rattle.basis.specs.Laws.Sums.{sum-closed}
 use Rattle.basis.specs.Refusals.{Answer, refused, given, first}
 use Rattle.basis.specs.Sums.{sumOf}
-use Rattle.packet.specs.Laws.Table.{table-passes}
-use Rattle.packet.specs.Packet.{addressBytes, carriedOf, summed, packet, buildOf, kind, joined, parts, said, rows, tabledOf, readOf}
+use Rattle.packet.specs.Laws.Table.{table-passes, table-holds, kind-counts}
+use Rattle.packet.specs.Packet.{addressBytes, carriedOf, summed, packet, buildOf, count, command, kind, joined, Parts, parts, said, startsRight, rows, tabledOf, readOf}
 use Rattle.packet.specs.Table.{listed, dataCount, protectType, shapeOf, table}
 
 pub packet-length : (c a : ℕ) (d : List ℕ) → length (packet c a d) ≡ length d + 9
@@ -60,16 +60,6 @@ address-back a h =
     let e₂ = rw (div-div-eq-div-mul a 65536 256) at (div-add-mod' (a / 65536) 256) in
     let l : a / 16777216 < 256 = omega arith in
     rw (mod-eq-of-lt l) (join a (a / 256) (a / 65536) (a / 16777216) (a % 256) (a / 256 % 256) (a / 65536 % 256) (div-add-mod' a 256) e₁ e₂)
-
--- the byte after the address counts for P alone
-kind-counts : (c n t u : ℕ) → (c ≡ 0x50 → n ≡ 6 → t ≡ u) → shapeOf c n t ≡ true → shapeOf c n u ≡ true
-kind-counts c n t u e h =
-    decide (eqb c 0x50)
-    (λ p. let q : c ≡ 0x50 = eqb-true c 0x50 p in
-    let b : both (eqb n 6) (protectType t) ≡ true = rw q at h in
-    let x = both-true (eqb n 6) (protectType t) b in
-    rw (q, ← e q (eqb-true n 6 (x .0))) b)
-    (λ p. rw p (rw p at h))
 
 one-byte : (c a : ℕ) (d : List ℕ) → c ≡ 0x50 → length d + 5 ≡ 6 → getD d 0 0 ≡ kind (packet c a d)
 unfolding packet
@@ -117,3 +107,32 @@ module _ (a : ℕ) (h : a < 2 ^ 32) where
 
   pub read-run : readOf (packet 0x52 a []) ≡ given (said 0x52 a [])
   read-run = read-packet 0x52 a [] h refl refl
+
+-- what an input is that reading accepts
+pub record Accepted (s : List ℕ) (p : Parts) : Type 0 where
+  pub starts : startsRight s ≡ true
+  pub enough : 5 ≤ count s
+  pub long : length s ≡ count s + 4
+  pub zero : sumOf (drop 2 s) ≡ 0
+  pub command-listed : listed (command s) ≡ true
+  pub shape : shapeOf (command s) (count s) (kind s) ≡ true
+  pub says : parts s ≡ p
+
+pub accepted : (s : List ℕ) (p : Parts) → readOf s ≡ given p → Accepted s p
+unfolding readOf rows tabledOf
+accepted s p e =
+    let p₁ = passed _ _ _ _ e in
+    let p₂ = passed _ _ _ _ (p₁ .1) in
+    let p₃ = passed _ _ _ _ (p₂ .1) in
+    let p₄ = passed _ _ _ _ (p₃ .1) in
+    let p₅ = passed _ _ _ _ (p₄ .1) in
+    let t = table-holds (command s) (count s) (kind s) (given (parts s)) (sym (done _) ∙ p₅ .1) in
+    record {
+      starts = not-false _ (p₁ .0);
+      enough = ltb-false _ _ (p₃ .0);
+      long = eqb-true _ _ (not-false _ (p₄ .0));
+      zero = eqb-true _ _ (not-false _ (p₅ .0));
+      command-listed = t .0;
+      shape = t .1;
+      says = cc (t .2);
+    }

@@ -37,3 +37,13 @@ shape-short c n t =
         go : (x : Bool) → pick x a b ≡ true → n ≤ 255
         go true = f
         go false = g
+
+-- the byte after the address counts for P alone
+pub kind-counts : (c n t u : ℕ) → (c ≡ 0x50 → n ≡ 6 → t ≡ u) → shapeOf c n t ≡ true → shapeOf c n u ≡ true
+kind-counts c n t u e h =
+    decide (eqb c 0x50)
+    (λ p. let q : c ≡ 0x50 = eqb-true c 0x50 p in
+    let b : both (eqb n 6) (protectType t) ≡ true = rw q at h in
+    let x = both-true (eqb n 6) (protectType t) b in
+    rw (q, ← e q (eqb-true n 6 (x .0))) b)
+    (λ p. rw p (rw p at h))
