@@ -3,4 +3,3 @@ pub mod Refusals
 pub mod Computed
 pub mod Lists
 pub mod Sums
-pub mod Units

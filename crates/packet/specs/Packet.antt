@@ -57,20 +57,11 @@ pub record Parts : Type 0 where
   pub place : ℕ
   pub size : ℕ
 
--- what a packet of a command, an address and plain data says
-abbrev pub said : ℕ → ℕ → List ℕ → Parts
-said c a d = record { command = c; address = a; place = 8; size = length d }
-
--- the plain data that a reading of s names: those of V turned back
-abbrev pub plain : ℕ → ℕ → ℕ
-plain c b = pick (eqb c 0x56) (restoredOf b) b
-
-abbrev pub dataOf : Parts → List ℕ → List ℕ
-dataOf p s = map (plain (p .command)) (take (p .size) (drop (p .place) s))
-
+-- what an input says
 abbrev pub parts : List ℕ → Parts
 parts s = record { command = command s; address = address s; place = 8; size = count s - 5 }
 
+-- the first two bytes
 abbrev pub startsRight : List ℕ → Bool
 startsRight s = both (leb 2 (length s)) (both (eqb (getD s 0 0) 0x07) (eqb (getD s 1 0) 0x0E))
 
@@ -91,3 +82,14 @@ rows s =
 -- reading
 unfoldable pub readOf : List ℕ → Answer Parts
 readOf s = first (rows s) (tabledOf s)
+
+-- what a packet of a command, an address and plain data says
+abbrev pub said : ℕ → ℕ → List ℕ → Parts
+said c a d = record { command = c; address = a; place = 8; size = length d }
+
+-- the plain data that a reading of s names: those of V turned back
+abbrev pub plain : ℕ → ℕ → ℕ
+plain c b = pick (eqb c 0x56) (restoredOf b) b
+
+abbrev pub dataOf : Parts → List ℕ → List ℕ
+dataOf p s = map (plain (p .command)) (take (p .size) (drop (p .place) s))

@@ -19,8 +19,8 @@ abbrev pub protectType : ℕ → Bool
 protectType t = either (eqb t 0x00) (either (eqb t 0x0F) (eqb t 0x01))
 
 -- the row of a listed command c: its N, and for P the byte t after the address
-abbrev pub shapeOf : ℕ → ℕ → ℕ → Bool
-shapeOf c n t =
+abbrev pub inShape : ℕ → ℕ → ℕ → Bool
+inShape c n t =
     pick (eqb c 0x45) (eqb n 6)
     (pick (eqb c 0x57) (dataCount n)
     (pick (eqb c 0x56) (dataCount n)
@@ -29,4 +29,4 @@ shapeOf c n t =
 
 -- 5: command not in the table; 6: N or P type not in the table
 abbrev pub table : ℕ → ℕ → ℕ → List Rule
-table c n t = 5 when not (listed c) ∷ 6 when not (shapeOf c n t) ∷ []
+table c n t = 5 when not (listed c) ∷ 6 when not (inShape c n t) ∷ []

@@ -1,7 +1,7 @@
 -- Laws of choice.
-use mathlib.Core.Path.{_≡_, refl}
 use mathlib.Core.Bool.{Bool, true, false}
-use Rattle.basis.specs.Choice.{pick, both, either}
+use mathlib.Core.Path.{_≡_, refl}
+use Rattle.basis.specs.Choice.{both}
 
 -- a case split that keeps its equation
 pub decide : {R : Type 0} (t : Bool) → (t ≡ true → R) → (t ≡ false → R) → R

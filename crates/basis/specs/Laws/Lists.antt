@@ -1,20 +1,17 @@
 -- Laws of lists and of lent buffers.
-use Prim.Native.Nat.{ℕ, zero, suc, _+_, _-_, _≤_, _<_}
-use mathlib.Core.Path.{_≡_, refl, ap, sym, _∙_}
+use Prim.Native.Nat.{ℕ, _+_, _-_, _≤_, _<_}
 use mathlib.Core.List.{List, [], _∷_, _++_, append-assoc, append-nil}
+use mathlib.Core.Path.{_≡_, sym, _∙_}
 use native.Mathlib.Nat.{not-suc-le-zero}
 use native.Mathlib.Numerals.{add-one}
 use native.Mathlib.Omega.{arith}
+use borrow.Author.Tests.{ltb-true, ltb-false}
+use borrow.Rule.Slice.PartMut.{putMid}
 use lib.Dec.{ltb, lit<}
 use lib.ListN.{length, getD, take, drop, set, length-append, length-take, length-drop, drop-of-length-le, List·getD-eq-default}
 use lib.Seq.{length-take-le, take-suc, take-all, take-at, drop-at, drop-drop, set-at, getD-take, getD-drop}
-use borrow.Author.Tests.{ltb-true, ltb-false}
-use borrow.Rule.Slice.PartMut.{putMid}
 use Rattle.basis.specs.Laws.Choice.{decide}
 use Rattle.basis.specs.Lists.{Bytes, overlay}
-
-pub length-overlay : (w old : List ℕ) → length w ≤ length old → length (overlay w old) ≡ length old
-length-overlay w old h = simp (length-append, length-drop) (omega arith)
 
 -- the next byte is written
 set-next : (w old : List ℕ) (x : ℕ) → 0 < length old → (k : ℕ) → length w ≡ k → set (w ++ old) k x ≡ (w ++ (x ∷ [])) ++ drop 1 old

@@ -1,7 +1,7 @@
 -- Two outcomes that a contract permits are equal: the paper's numbers and values tell all cases apart.
 use Prim.Native.Nat.{ℕ}
-use mathlib.Core.Path.{_≡_, refl, ap, sym, _∙_}
 use mathlib.Core.List.{List}
+use mathlib.Core.Path.{_≡_, refl, ap, sym, _∙_}
 use lib.Dec.{eqb}
 use Rattle.basis.specs.Choice.{pick}
 use Rattle.basis.specs.Laws.Refusals.{apart, given-one, refused-one, determined}

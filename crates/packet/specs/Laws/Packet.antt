@@ -1,23 +1,22 @@
 -- Laws of the packet: its length, what building gives, and what reading gives.
 use Prim.Native.Nat.{ℕ, _+_, _-_, _*_, _/_, _%_, _^_, _≤_, _<_}
+use mathlib.Core.Bool.{true, not}
+use mathlib.Core.List.{List, [], _∷_, map}
 use mathlib.Core.Path.{_≡_, refl, ap, sym, _∙_}
-use mathlib.Core.Bool.{Bool, true, false, not}
-use mathlib.Core.List.{List, [], _∷_, _++_, map}
 use native.Mathlib.Nat.{div-div-eq-div-mul, div-add-mod', mod-eq-of-lt}
 use native.Mathlib.Omega.{arith}
 use borrow.Author.Tests.{le-leb, lt-leb, lt-ltb, le-ltb, ltb-false, eq-eqb, eqb-true, not-false}
-use lib.Dec.{leb, eqb}
+use lib.Dec.{leb}
 use lib.ListN.{length, getD, take, drop, length-append, length-map}
 use lib.Seq.{take-at}
-use Rattle.basis.specs.Choice.{both}
-use Rattle.basis.specs.Laws.Choice.{decide, both-true, both-second}
+use Rattle.basis.specs.Laws.Choice.{both-second}
 use Rattle.basis.specs.Laws.Refusals.{skip, stop, done, passed}
 use Rattle.basis.specs.Laws.Sums.{sum-closed}
-use Rattle.basis.specs.Refusals.{Answer, refused, given, first}
+use Rattle.basis.specs.Refusals.{refused, given, first}
 use Rattle.basis.specs.Sums.{sumOf}
 use Rattle.packet.specs.Laws.Table.{table-passes, table-holds, kind-counts}
-use Rattle.packet.specs.Packet.{addressBytes, carriedOf, summed, packet, buildOf, count, command, kind, joined, Parts, parts, said, startsRight, rows, tabledOf, readOf}
-use Rattle.packet.specs.Table.{listed, dataCount, protectType, shapeOf, table}
+use Rattle.packet.specs.Packet.{carriedOf, summed, packet, buildOf, count, command, kind, joined, Parts, parts, said, startsRight, rows, tabledOf, readOf}
+use Rattle.packet.specs.Table.{listed, dataCount, protectType, inShape, table}
 
 pub packet-length : (c a : ℕ) (d : List ℕ) → length (packet c a d) ≡ length d + 9
 unfolding packet
@@ -77,7 +76,7 @@ data-fits : (d : List ℕ) → 0 < length d → length d ≤ 250 → dataCount (
 data-fits d l m = both-second (leb 6 (length d + 5)) (leb (length d + 5) 255) (le-leb 6 (length d + 5) (omega arith)) ∙ le-leb (length d + 5) 255 (omega arith)
 
 -- what stands in the table reads back
-pub read-packet : (c a : ℕ) (d : List ℕ) → a < 2 ^ 32 → listed c ≡ true → shapeOf c (length d + 5) (getD d 0 0) ≡ true → readOf (packet c a d) ≡ given (said c a d)
+pub read-packet : (c a : ℕ) (d : List ℕ) → a < 2 ^ 32 → listed c ≡ true → inShape c (length d + 5) (getD d 0 0) ≡ true → readOf (packet c a d) ≡ given (said c a d)
 unfolding readOf rows tabledOf packet
 read-packet c a d h l s =
     let w = packet c a d in
@@ -115,7 +114,7 @@ pub record Accepted (s : List ℕ) (p : Parts) : Type 0 where
   pub long : length s ≡ count s + 4
   pub zero : sumOf (drop 2 s) ≡ 0
   pub command-listed : listed (command s) ≡ true
-  pub shape : shapeOf (command s) (count s) (kind s) ≡ true
+  pub shape : inShape (command s) (count s) (kind s) ≡ true
   pub says : parts s ≡ p
 
 pub accepted : (s : List ℕ) (p : Parts) → readOf s ≡ given p → Accepted s p

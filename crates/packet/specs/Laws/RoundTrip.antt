@@ -1,26 +1,26 @@
 -- What the builder accepts, the reader reads back; what the reader accepts is what the builder writes.
-use Prim.Native.Nat.{ℕ, suc, _+_, _-_, _*_, _/_, _%_, _^_, _≤_, _<_}
-use mathlib.Core.Path.{_≡_, refl, ap, sym, _∙_}
-use mathlib.Core.Bool.{Bool, true, false, not}
+use Prim.Native.Nat.{ℕ, suc, _+_, _-_, _/_, _%_, _^_, _≤_, _<_}
+use mathlib.Core.Bool.{Bool, true, false}
 use mathlib.Core.List.{List, [], _∷_, _++_, map}
+use mathlib.Core.Path.{_≡_, refl, ap, sym, _∙_}
 use native.Mathlib.Omega.{arith}
-use borrow.Author.Tests.{leb-true, ltb-false, eqb-true, not-false}
+use borrow.Author.Tests.{eqb-true}
 use lib.Dec.{leb, ltb, eqb}
 use lib.ListN.{length, getD, take, drop, length-drop, length-map}
 use lib.Seq.{take-suc, take-all, length-take-le, getD-drop}
-use Rattle.basis.specs.Choice.{pick, both}
+use Rattle.basis.specs.Choice.{pick}
 use Rattle.basis.specs.Laws.Choice.{both-true}
 use Rattle.basis.specs.Laws.Lists.{bytes-take, bytes-drop}
-use Rattle.basis.specs.Laws.Refusals.{passed, done}
+use Rattle.basis.specs.Laws.Refusals.{passed}
 use Rattle.basis.specs.Laws.Sums.{checksum-only}
 use Rattle.basis.specs.Lists.{Bytes}
-use Rattle.basis.specs.Refusals.{given, first}
+use Rattle.basis.specs.Refusals.{given}
 use Rattle.basis.specs.Sums.{sumOf, checksumOf}
 use Rattle.packet.specs.Laws.Packet.{packet-data, build-table, read-packet, Accepted, accepted}
 use Rattle.packet.specs.Laws.Table.{table-passes, table-holds, kind-counts}
-use Rattle.packet.specs.Laws.Turn.{restored-turned, turned-restored, restored-below}
-use Rattle.packet.specs.Packet.{addressBytes, carriedOf, plain, summed, packet, buildOf, count, command, kind, joined, address, Parts, parts, said, dataOf, startsRight, rows, tabledOf, readOf}
-use Rattle.packet.specs.Table.{listed, shapeOf, table}
+use Rattle.packet.specs.Laws.Turn.{restored-turned, turned-restored}
+use Rattle.packet.specs.Packet.{addressBytes, carriedOf, plain, summed, packet, buildOf, count, command, kind, joined, address, Parts, parts, said, dataOf, readOf}
+use Rattle.packet.specs.Table.{inShape}
 use Rattle.packet.specs.Turn.{turnedOf, restoredOf}
 
 -- a byte and its carried form give each other back
@@ -143,9 +143,9 @@ built-read room s p b h e =
     let r = accepted s p e in
     let c = command s in
     let d = dataOf (parts s) s in
-    let t : shapeOf c (length d + 5) (getD d 0 0) ≡ true =
-      rw (data-length s p b r)
-      (kind-counts c (count s) (kind s) (getD d 0 0) (λ ec en. sym (getD-drop 8 s 0 0) ∙ one-plain c (count s) (drop 8 s) ec en) (r .shape)) in
+    let t : inShape c (length d + 5) (getD d 0 0) ≡ true =
+    rw (data-length s p b r)
+    (kind-counts c (count s) (kind s) (getD d 0 0) (λ ec en. sym (getD-drop 8 s 0 0) ∙ one-plain c (count s) (drop 8 s) ec en) (r .shape)) in
     rw (← r .says)
     (build-table room c (address s) d h
     ∙ table-passes c (length d + 5) (getD d 0 0) (given (packet c (address s) d)) (r .command-listed) t

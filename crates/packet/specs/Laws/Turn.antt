@@ -1,7 +1,6 @@
 -- Turning and turning back undo each other.
 use Prim.Native.Nat.{ℕ, _<_}
 use mathlib.Core.Path.{_≡_}
-use native.Mathlib.Omega.{arith}
 use Rattle.basis.specs.Laws.Computed.{agree}
 use Rattle.packet.specs.Turn.{turnedOf, restoredOf}
 
@@ -10,9 +9,3 @@ restored-turned b h = agree (λ (x : ℕ). restoredOf (turnedOf x)) (λ (x : ℕ
 
 pub turned-restored : (t : ℕ) → t < 256 → turnedOf (restoredOf t) ≡ t
 turned-restored t h = agree (λ (x : ℕ). turnedOf (restoredOf x)) (λ (x : ℕ). x) 256 tt t h
-
-pub turned-below : (b : ℕ) → b < 256 → turnedOf b < 256
-turned-below b h = omega arith
-
-pub restored-below : (t : ℕ) → t < 256 → restoredOf t < 256
-restored-below t h = omega arith

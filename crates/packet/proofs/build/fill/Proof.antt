@@ -1,6 +1,6 @@
 use Prim.Native.Nat.{_≤_, _<_, _-_}
-use mathlib.Core.Path.{_≡_, refl, _∙_}
 use mathlib.Core.List.{map}
+use mathlib.Core.Path.{_≡_, refl, _∙_}
 use native.Mathlib.Omega.{arith}
 use borrow.Author.Needs.{needs}
 use lib.ListN.{length, take, length-set, length-map, List·getD-map}
@@ -10,9 +10,6 @@ use Rattle.basis.specs.Lists.{overlay}
 use Rattle.packet.specs.Packet.{carriedOf}
 use Rattle.packet.proofs.build.fill.Statement.{statement}
 use Rattle.packet.proofs.build.fill.Tie as tie
-use Rattle.packet.proofs.build.fill.Reads as reads
-use Rattle.packet.proofs.build.fill.Lts as lts
-use Rattle.packet.proofs.build.carried.Reads as carried-reads
 
 abbrev Inv-loop : tie.InvT-loop
 Inv-loop part₀ command plain i₀ part i =
@@ -21,31 +18,24 @@ Inv-loop part₀ command plain i₀ part i =
 abbrev μ-loop : tie.MeasureT-loop
 μ-loop part₀ command plain i₀ part i = length plain - i
 
--- src/build.rt:85:5
 loop-holds : tie.Need-loop-holds Inv-loop μ-loop
 loop-holds c = (search needs, refl, refl)
 
--- src/build.rt:86:36
 shared-slice-read-carried : tie.Need-shared-slice-read-carried Inv-loop μ-loop
 shared-slice-read-carried c = search needs
 
--- src/build.rt:86:19
 carried-requires : tie.Need-carried-requires Inv-loop μ-loop
 carried-requires c κs = search needs
 
--- src/build.rt:86:9
 slice-write-part : tie.Need-slice-write-part Inv-loop μ-loop
 slice-write-part c = omega arith
 
--- src/build.rt:87:9
 add-i : tie.Need-add-i Inv-loop μ-loop
 add-i c = search needs
 
--- src/build.rt:85:5
 loop-less : tie.Need-loop-less Inv-loop μ-loop
 loop-less c = search needs
 
--- src/build.rt:85:5
 loop-again : tie.Need-loop-again Inv-loop μ-loop
 loop-again c = let a = c .before .before .before .before .before .before .args in
     let f = carriedOf (a .command) in
@@ -54,11 +44,9 @@ loop-again c = let a = c .before .before .before .before .before .before .args i
     let k : c .before .before .before .loop .i < length (a .part .now) = omega arith in
     (search needs, simp length-set (c .before .before .before .loop .inv .1), cc (overlay-more new (a .part .now) (c .before .before .before .loop .i) (f 0) h k, List·getD-map f (a .plain .now) (c .before .before .before .loop .i) 0))
 
--- src/build.rt:80:1
 same-length : tie.Need-same-length Inv-loop μ-loop
 same-length c = c .before .loop .inv .1
 
--- src/build.rt:80:1
 returns : tie.Need-returns Inv-loop μ-loop
 returns c = let a = c .before .before .before .before .args in
     let new = map (carriedOf (a .command)) (a .plain .now) in

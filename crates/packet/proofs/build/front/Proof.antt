@@ -1,71 +1,53 @@
-use mathlib.Core.Path.{_≡_}
 use native.Mathlib.Omega.{arith}
+use borrow.Author.Needs.{needs}
 use lib.ListN.{length-set}
 use lib.Seq.{sets-eq}
 use Rattle.packet.specs.Packet.{frontOf}
-use borrow.Author.Needs.{needs}
 use Rattle.packet.proofs.build.front.Statement.{statement}
 use Rattle.packet.proofs.build.front.Tie as tie
-use Rattle.packet.proofs.build.front.Reads as reads
-use Rattle.packet.proofs.build.front.Lts as lts
 
--- src/build.rt:69:5
 slice-write-buffer : tie.Need-slice-write-buffer
 slice-write-buffer c = search needs
 
--- src/build.rt:70:5
 slice-write-buffer-2 : tie.Need-slice-write-buffer-2
 slice-write-buffer-2 c = simp length-set (omega arith)
 
--- src/build.rt:71:17
 cast-buffer : tie.Need-cast-buffer
 cast-buffer c = search needs
 
--- src/build.rt:71:5
 slice-write-buffer-3 : tie.Need-slice-write-buffer-3
 slice-write-buffer-3 c = simp length-set (omega arith)
 
--- src/build.rt:72:5
 slice-write-buffer-4 : tie.Need-slice-write-buffer-4
 slice-write-buffer-4 c = simp length-set (omega arith)
 
--- src/build.rt:73:17
 cast-buffer-2 : tie.Need-cast-buffer-2
 cast-buffer-2 c = search needs
 
--- src/build.rt:73:5
 slice-write-buffer-5 : tie.Need-slice-write-buffer-5
 slice-write-buffer-5 c = simp length-set (omega arith)
 
--- src/build.rt:74:17
 cast-buffer-3 : tie.Need-cast-buffer-3
 cast-buffer-3 c = search needs
 
--- src/build.rt:74:5
 slice-write-buffer-6 : tie.Need-slice-write-buffer-6
 slice-write-buffer-6 c = simp length-set (omega arith)
 
--- src/build.rt:75:17
 cast-buffer-4 : tie.Need-cast-buffer-4
 cast-buffer-4 c = search needs
 
--- src/build.rt:75:5
 slice-write-buffer-7 : tie.Need-slice-write-buffer-7
 slice-write-buffer-7 c = simp length-set (omega arith)
 
--- src/build.rt:76:17
 cast-buffer-5 : tie.Need-cast-buffer-5
 cast-buffer-5 c = search needs
 
--- src/build.rt:76:5
 slice-write-buffer-8 : tie.Need-slice-write-buffer-8
 slice-write-buffer-8 c = simp length-set (omega arith)
 
--- src/build.rt:64:1
 same-length : tie.Need-same-length
 same-length c = search needs
 
--- src/build.rt:64:1
 returns : tie.Need-returns
 returns c = let a = c .args in sets-eq (frontOf (a .n) (a .command) (a .address .0)) (a .buffer .now) 0 (c .pre .0)
 

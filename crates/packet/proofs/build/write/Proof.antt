@@ -1,22 +1,17 @@
 use Prim.Native.Nat.{ℕ, _+_, _-_, _<_}
+use mathlib.Core.List.{List, _++_, map}
 use mathlib.Core.Path.{_≡_, refl, ap, _∙_}
-use mathlib.Core.List.{List, [], _∷_, _++_, map}
 use native.Mathlib.Omega.{arith}
+use borrow.Author.Needs.{needs}
 use borrow.Rule.Slice.PartMut.{putMid}
-use lib.ListN.{length, take, drop, set, length-set, length-append, length-map}
+use lib.ListN.{length, take, drop, set, length-set, length-map}
 use lib.Seq.{take-at}
 use Rattle.basis.specs.Laws.Lists.{overlay-part, overlay-next}
 use Rattle.basis.specs.Lists.{overlay}
 use Rattle.basis.specs.Sums.{checksumOf}
 use Rattle.packet.specs.Packet.{frontOf, carriedOf, summed, packet}
-use borrow.Author.Needs.{needs}
 use Rattle.packet.proofs.build.write.Statement.{statement}
 use Rattle.packet.proofs.build.write.Tie as tie
-use Rattle.packet.proofs.build.write.Reads as reads
-use Rattle.packet.proofs.build.write.Lts as lts
-use Rattle.basis.proofs.sums.checksum.Reads as checksum-reads
-use Rattle.packet.proofs.build.fill.Reads as fill-reads
-use Rattle.packet.proofs.build.front.Reads as front-reads
 
 -- a buffer F with the front written, its part P behind the front with the data, and the checksum x of what stands from N on
 module _ (c a : ℕ) (d old F P : List ℕ) (eF : F ≡ overlay (frontOf (length d + 5) c a) old) (eP : P ≡ overlay (map (carriedOf c) d) (take (length F - 8) (drop 8 F))) where
@@ -33,67 +28,53 @@ module _ (c a : ℕ) (d old F P : List ℕ) (eF : F ≡ overlay (frontOf (length
       let y : x ≡ checksumOf t = e ∙ ap checksumOf (rw w (take-at t _ (8 + length d - 2) m)) in
       rw (w, y) (overlay-next (f ++ s) old (8 + length d) (checksumOf t) k h)
 
--- src/build.rt:56:15
 add-end : tie.Need-add-end
 add-end c = search needs
 
--- src/build.rt:57:37
 add-front : tie.Need-add-front
 add-front c = search needs
 
--- src/build.rt:57:5
 front-requires : tie.Need-front-requires
 front-requires c κs = search needs
 
--- src/build.rt:58:10
 sub-fill : tie.Need-sub-fill
 sub-fill c = search needs
 
--- src/build.rt:58:10
 part-fill-start : tie.Need-part-fill-start
 part-fill-start c = search needs
 
--- src/build.rt:58:10
 part-fill-end : tie.Need-part-fill-end
 part-fill-end c = search needs
 
--- src/build.rt:58:5
 fill-requires : tie.Need-fill-requires
 fill-requires c κs = search needs
 
--- src/build.rt:59:28
 sub-checksum : tie.Need-sub-checksum
 sub-checksum c = search needs
 
--- src/build.rt:59:28
 part-checksum-start : tie.Need-part-checksum-start
 part-checksum-start c = search needs
 
--- src/build.rt:59:28
 part-checksum-end : tie.Need-part-checksum-end
 part-checksum-end c = search needs
 
--- src/build.rt:59:19
 checksum-requires : tie.Need-checksum-requires
 checksum-requires c κs = search needs
 
--- src/build.rt:59:5
 slice-write-buffer : tie.Need-slice-write-buffer
 slice-write-buffer c = search needs
 
--- src/build.rt:60:5
 add-result : tie.Need-add-result
 add-result c = search needs
 
--- src/build.rt:49:1
 same-length : tie.Need-same-length
 same-length c = simp length-set (omega arith)
 
--- src/build.rt:49:1
 returns : tie.Need-returns
-returns c = let a = c .before .before .before .before .before .before .before .before .before .before .before .before .before .args in
-    ( omega arith
-    , closed (a .command) (a .address .0) (a .plain .now) (a .buffer .now) (c .before .before .before .before .before .before .before .before .before .front .last .0) (c .before .before .before .before .before .fill .last .0) (c .before .before .before .before .before .before .before .before .before .front .ensures) (c .before .before .before .before .before .fill .ensures) (c .checksum .result) (c .checksum .ensures) (omega arith))
+returns c = let a = c .before .before .before .before .before .before .before .before .before .before .before .before .before .args in (
+  omega arith,
+  closed (a .command) (a .address .0) (a .plain .now) (a .buffer .now) (c .before .before .before .before .before .before .before .before .before .front .last .0) (c .before .before .before .before .before .fill .last .0) (c .before .before .before .before .before .before .before .before .before .front .ensures) (c .before .before .before .before .before .fill .ensures) (c .checksum .result) (c .checksum .ensures) (omega arith),
+)
 
 pub write-spec : {M : Type 1} → statement M
 write-spec =

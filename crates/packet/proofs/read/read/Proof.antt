@@ -1,8 +1,9 @@
 use Prim.Native.Nat.{ℕ, _-_, _≤_}
-use mathlib.Core.Path.{_≡_, ap, sym, _∙_}
 use mathlib.Core.Bool.{not}
 use mathlib.Core.List.{List}
+use mathlib.Core.Path.{_≡_, ap, sym, _∙_}
 use native.Mathlib.Omega.{arith}
+use borrow.Author.Needs.{needs}
 use borrow.Author.Tests.{le-leb, lt-leb, lt-ltb, le-ltb, eq-eqb, ne-eqb}
 use denote.Ref.{now}
 use lib.ListN.{length, drop, length-drop}
@@ -11,14 +12,8 @@ use Rattle.basis.specs.Laws.Refusals.{skip, stop, done}
 use Rattle.basis.specs.Refusals.{first}
 use Rattle.basis.specs.Sums.{sumOf}
 use Rattle.packet.specs.Packet.{rows, tabledOf, readOf}
-use borrow.Author.Needs.{needs}
 use Rattle.packet.proofs.read.read.Statement.{statement}
 use Rattle.packet.proofs.read.read.Tie as tie
-use Rattle.packet.proofs.read.read.Reads as reads
-use Rattle.packet.proofs.read.read.Lts as lts
-use Rattle.basis.proofs.sums.sum.Reads as sum-reads
-use Rattle.packet.proofs.read.starts_right.Reads as starts-right-reads
-use Rattle.packet.proofs.read.tabled.Reads as tabled-reads
 
 -- what `sum` was handed is the input from the count on
 summed : (c : tie.After-sum) → c .sum .result ≡ sumOf (drop 2 (now (c .before .before .before .before .before .before .before .before .before .args .input)))
@@ -47,68 +42,53 @@ left4 : (c : tie.Else4) → Left 4 (now (c .before .before .before .before .befo
 unfolding rows
 left4 c = left3 (c .before) ∙ skip _ _ _ _ (ap not (eq-eqb _ _ (c .if4 .left)))
 
--- src/read.rt:30:9
 starts-right-requires : tie.Need-starts-right-requires
 starts-right-requires c κs = search needs
 
--- src/read.rt:31:9
 returns : tie.Need-returns
 unfolding readOf rows
 returns c = sym (stop _ _ _ _ (ap not (sym (c .before .starts-right .ensures)) ∙ c .if1 .taken))
 
--- src/read.rt:34:9
 returns-2 : tie.Need-returns-2
 unfolding rows
 returns-2 c = sym (left1 (c .before) ∙ stop _ _ _ _ (le-leb _ _ (c .if2 .taken)))
 
--- src/read.rt:36:13
 shared-slice-read-n : tie.Need-shared-slice-read-n
 shared-slice-read-n c = search needs
 
--- src/read.rt:36:13
 cast-n : tie.Need-cast-n
 cast-n c = omega (arith, c .shared-slice-known2 .given 2)
 
--- src/read.rt:38:9
 returns-3 : tie.Need-returns-3
 unfolding rows
 returns-3 c = sym (left2 (c .before .before) ∙ stop _ _ _ _ (lt-ltb _ _ (c .if3 .taken)))
 
--- src/read.rt:40:23
 add-if4 : tie.Need-add-if4
 add-if4 c = omega (arith, c .before .shared-slice-known2 .given 2)
 
--- src/read.rt:41:9
 returns-4 : tie.Need-returns-4
 unfolding rows
 returns-4 c = sym (left3 (c .before) ∙ stop _ _ _ _ (ap not (ne-eqb _ _ (c .if4 .taken))))
 
--- src/read.rt:43:12
 sub-sum : tie.Need-sub-sum
 sub-sum c = search needs
 
--- src/read.rt:43:12
 part-sum-start : tie.Need-part-sum-start
 part-sum-start c = search needs
 
--- src/read.rt:43:12
 part-sum-end : tie.Need-part-sum-end
 part-sum-end c = search needs
 
--- src/read.rt:43:8
 sum-requires : tie.Need-sum-requires
 sum-requires c κs = search needs
 
--- src/read.rt:44:9
 returns-5 : tie.Need-returns-5
 unfolding rows
 returns-5 c = sym (left4 (c .before .before .before) ∙ stop _ _ _ _ (ap not (ne-eqb _ _ (λ z. c .if5 .taken (summed (c .before) ∙ z)))))
 
--- src/read.rt:46:5
 tabled-requires : tie.Need-tabled-requires
 tabled-requires c κs = search needs
 
--- src/read.rt:27:1
 returns-6 : tie.Need-returns-6
 unfolding rows
 returns-6 c = let f = c .before in

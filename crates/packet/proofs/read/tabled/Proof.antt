@@ -1,19 +1,15 @@
 use Prim.Native.Nat.{ℕ, _-_}
-use mathlib.Core.Path.{_≡_, ap, sym, _∙_}
 use mathlib.Core.List.{List}
+use mathlib.Core.Path.{_≡_, ap, sym, _∙_}
+use borrow.Author.Needs.{needs}
 use Rattle.basis.specs.Laws.Refusals.{alike}
 use Rattle.basis.specs.Refusals.{refused, given, first}
 use Rattle.packet.specs.Laws.Table.{table-passes, table-holds}
 use Rattle.packet.specs.Packet.{count, command, kind, address, parts, tabledOf}
 use Rattle.packet.specs.Paper.{paperRow}
 use Rattle.packet.specs.Table.{table}
-use borrow.Author.Needs.{needs}
 use Rattle.packet.proofs.read.tabled.Statement.{statement}
 use Rattle.packet.proofs.read.tabled.Tie as tie
-use Rattle.packet.proofs.read.tabled.Reads as reads
-use Rattle.packet.proofs.read.tabled.Lts as lts
-use Rattle.packet.proofs.read.address_in.Reads as address-in-reads
-use Rattle.packet.proofs.table.look_up.Reads as look-up-reads
 
 module _ (s : List ℕ) (n k : ℕ) (e : n ≡ count s) where
   tabled-refused : first (table (command s) n (kind s)) (given (command s)) ≡ refused k → tabledOf s ≡ refused k
@@ -27,39 +23,30 @@ module _ (s : List ℕ) (n k : ℕ) (e : n ≡ count s) where
       let h = table-holds (command s) (count s) (kind s) (given (command s)) (rw e at f) in
       table-passes (command s) (count s) (kind s) (given (parts s)) (h .0) (h .1) ∙ cc (h .2)
 
--- src/read.rt:66:19
 shared-slice-read-look-up : tie.Need-shared-slice-read-look-up
 shared-slice-read-look-up c = search needs
 
--- src/read.rt:66:32
 shared-slice-read-look-up-2 : tie.Need-shared-slice-read-look-up-2
 shared-slice-read-look-up-2 c = search needs
 
--- src/read.rt:66:11
 look-up-requires : tie.Need-look-up-requires
 look-up-requires c κs = search needs
 
--- src/read.rt:67:22
 enum-known-why : tie.Need-enum-known-why
 enum-known-why c = search needs
 
--- src/read.rt:68:21
 enum-known-command : tie.Need-enum-known-command
 enum-known-command c = search needs
 
--- src/read.rt:70:22
 address-in-requires : tie.Need-address-in-requires
 address-in-requires c κs = search needs
 
--- src/read.rt:72:18
 sub-t12 : tie.Need-sub-t12
 sub-t12 c = search needs
 
--- src/read.rt:62:1
 returns : tie.Need-returns
 returns c = sym (tabled-refused _ _ _ (c .before .before .before .before .before .before .before .pre .0) (sym (c .before .before .before .look-up .ensures) ∙ ap paperRow (c .before .why .given .1)))
 
--- src/read.rt:62:1
 returns-2 : tie.Need-returns-2
 returns-2 c = sym (tabled-listed _ _ _ (c .before .before .before .before .before .before .before .before .pre .0) _ (sym (c .before .before .before .before .look-up .ensures) ∙ ap paperRow (c .before .before .command .given .1)) (c .address-in .ensures))
 

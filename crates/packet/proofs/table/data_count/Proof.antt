@@ -1,14 +1,10 @@
 use borrow.Author.Tests.{le-leb, lt-leb}
 use Rattle.packet.proofs.table.data_count.Statement.{statement}
 use Rattle.packet.proofs.table.data_count.Tie as tie
-use Rattle.packet.proofs.table.data_count.Reads as reads
-use Rattle.packet.proofs.table.data_count.Lts as lts
 
--- src/table.rt:62:1
 returns : tie.Need-returns
 returns c = simp (le-leb 6 _ (c .if1 .taken))
 
--- src/table.rt:62:1
 returns-2 : tie.Need-returns-2
 returns-2 c = simp (lt-leb 6 _ (c .if1 .left))
 

@@ -1,18 +1,13 @@
 use borrow.Author.Tests.{eq-eqb, ne-eqb}
 use Rattle.packet.proofs.table.protect_type.Statement.{statement}
 use Rattle.packet.proofs.table.protect_type.Tie as tie
-use Rattle.packet.proofs.table.protect_type.Reads as reads
-use Rattle.packet.proofs.table.protect_type.Lts as lts
 
--- src/table.rt:72:9
 returns : tie.Need-returns
 returns c = simp (eq-eqb _ 0x00 (c .if1 .taken))
 
--- src/table.rt:75:9
 returns-2 : tie.Need-returns-2
 returns-2 c = simp (ne-eqb _ 0x00 (c .before .if1 .left), eq-eqb _ 0x0F (c .if2 .taken))
 
--- src/table.rt:68:1
 returns-3 : tie.Need-returns-3
 returns-3 c = simp (ne-eqb _ 0x00 (c .before .if1 .left), ne-eqb _ 0x0F (c .if2 .left))
 

@@ -1,13 +1,9 @@
 use Rattle.packet.proofs.table.shaped.Statement.{statement}
 use Rattle.packet.proofs.table.shaped.Tie as tie
-use Rattle.packet.proofs.table.shaped.Reads as reads
-use Rattle.packet.proofs.table.shaped.Lts as lts
 
--- src/table.rt:51:1
 returns : tie.Need-returns
 returns c = simp (c .if1 .taken)
 
--- src/table.rt:51:1
 returns-2 : tie.Need-returns-2
 returns-2 c = simp (c .if1 .left)
 

@@ -10,8 +10,6 @@ use Rattle.basis.specs.Laws.Computed.{allBelow, one-of}
 use Rattle.packet.specs.Turn.{rotatedOf}
 use Rattle.packet.proofs.turn.rotated.Statement.{statement}
 use Rattle.packet.proofs.turn.rotated.Tie as tie
-use Rattle.packet.proofs.turn.rotated.Reads as reads
-use Rattle.packet.proofs.turn.rotated.Lts as lts
 
 -- the bits of b at top, top - 1, .., counted around 8: the first i of them put together
 gathered : ℕ → ℕ → ℕ → ℕ
@@ -41,49 +39,38 @@ Inv-loop b left out₀ i₀ out i = (i ≤ 8) × (out ≡ gathered (15 - left) b
 abbrev μ-loop : tie.MeasureT-loop
 μ-loop b left out₀ i₀ out i = 8 - i
 
--- src/turn.rt:26:5
 loop-holds : tie.Need-loop-holds Inv-loop μ-loop
 unfolding gathered
 loop-holds c = search needs
 
--- src/turn.rt:27:21
 sub-from : tie.Need-sub-from Inv-loop μ-loop
 sub-from c = search needs
 
--- src/turn.rt:27:21
 sub-from-2 : tie.Need-sub-from-2 Inv-loop μ-loop
 sub-from-2 c = search needs
 
--- src/turn.rt:28:15
 mul-out : tie.Need-mul-out Inv-loop μ-loop
 mul-out c = omega (arith, gathered-fits (15 - c .before .before .args .left) (c .before .before .args .b) (c .before .loop .i) (c .loop-test .taken))
 
--- src/turn.rt:28:31
 cast-out : tie.Need-cast-out Inv-loop μ-loop
 cast-out c = search needs
 
--- src/turn.rt:28:26
 shr-out : tie.Need-shr-out Inv-loop μ-loop
 shr-out c = omega arith
 
--- src/turn.rt:28:15
 add-out : tie.Need-add-out Inv-loop μ-loop
 add-out c = omega (arith, gathered-fits (15 - c .before .before .args .left) (c .before .before .args .b) (c .before .loop .i) (c .loop-test .taken))
 
--- src/turn.rt:29:9
 add-i : tie.Need-add-i Inv-loop μ-loop
 add-i c = search needs
 
--- src/turn.rt:26:5
 loop-less : tie.Need-loop-less Inv-loop μ-loop
 loop-less c = search needs
 
--- src/turn.rt:26:5
 loop-again : tie.Need-loop-again Inv-loop μ-loop
 unfolding gathered
 loop-again c = (omega arith, rw (add-one, c .before .loop .inv .1))
 
--- src/turn.rt:20:1
 returns : tie.Need-returns Inv-loop μ-loop
 returns c = let e : c .before .loop .i ≡ 8 = omega arith in
     c .before .loop .inv .1 ∙ rw e (gathered-rotated (c .before .before .args .left) (c .before .before .args .b) (omega arith) (omega arith))
