@@ -1,3 +1,4 @@
+-- `build` meets its contract: the table decides, and what it passes is written.
 use Prim.Native.Nat.{ℕ, _+_, _≤_}
 use mathlib.Core.List.{List}
 use mathlib.Core.Path.{_≡_, ap, sym, _∙_}

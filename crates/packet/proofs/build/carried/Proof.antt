@@ -1,3 +1,4 @@
+-- `carried` meets its contract: a byte is turned for V alone.
 use borrow.Author.Needs.{needs}
 use borrow.Author.Tests.{eq-eqb, ne-eqb}
 use Rattle.packet.proofs.build.carried.Statement.{statement}

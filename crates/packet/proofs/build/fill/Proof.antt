@@ -1,3 +1,4 @@
+-- `fill` meets its contract: the bytes written so far are the first of those to be carried.
 use Prim.Native.Nat.{_≤_, _<_, _-_}
 use mathlib.Core.List.{map}
 use mathlib.Core.Path.{_≡_, refl, _∙_}

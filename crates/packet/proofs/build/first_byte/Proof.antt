@@ -1,3 +1,4 @@
+-- `first_byte` meets its contract: past the end of a list stands 0.
 use mathlib.Core.Path.{sym}
 use native.Mathlib.Omega.{arith}
 use borrow.Author.Needs.{needs}

@@ -1,3 +1,4 @@
+-- `front` meets its contract: eight stores are the eight bytes in order.
 use native.Mathlib.Omega.{arith}
 use borrow.Author.Needs.{needs}
 use lib.ListN.{length-set}

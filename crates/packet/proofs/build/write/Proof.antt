@@ -1,3 +1,4 @@
+-- `write` meets its contract: front, data and checksum follow one another.
 use Prim.Native.Nat.{ℕ, _+_, _-_, _<_}
 use mathlib.Core.List.{List, _++_, map}
 use mathlib.Core.Path.{_≡_, refl, ap, _∙_}

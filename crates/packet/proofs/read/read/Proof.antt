@@ -1,3 +1,4 @@
+-- `read` meets its contract: each test is a row of the table, in its order.
 use Prim.Native.Nat.{ℕ, _-_, _≤_}
 use mathlib.Core.Bool.{not}
 use mathlib.Core.List.{List}

@@ -1,3 +1,4 @@
+-- `starts_right` meets its contract: the two tests are those of the first two bytes.
 use mathlib.Core.Path.{sym, _∙_}
 use borrow.Author.Needs.{needs}
 use borrow.Author.Tests.{le-leb, lt-leb, eq-eqb, ne-eqb}

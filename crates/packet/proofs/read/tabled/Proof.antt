@@ -1,3 +1,4 @@
+-- `tabled` meets its contract: the table's word on the command is its word on the packet.
 use Prim.Native.Nat.{ℕ, _-_}
 use mathlib.Core.List.{List}
 use mathlib.Core.Path.{_≡_, ap, sym, _∙_}

@@ -1,3 +1,4 @@
+-- `data_count` meets its contract: the two bounds are the two tests.
 use borrow.Author.Tests.{le-leb, lt-leb}
 use Rattle.packet.proofs.table.data_count.Statement.{statement}
 use Rattle.packet.proofs.table.data_count.Tie as tie

@@ -1,3 +1,4 @@
+-- `look_up` meets its contract: each arm is a row of the table.
 use Prim.Native.Nat.{ℕ}
 use mathlib.Core.Bool.{Bool, true, false, not}
 use mathlib.Core.Path.{_≡_, refl, ap, sym, _∙_}

@@ -1,3 +1,4 @@
+-- `protect_type` meets its contract: the three types are the three tests.
 use borrow.Author.Tests.{eq-eqb, ne-eqb}
 use Rattle.packet.proofs.table.protect_type.Statement.{statement}
 use Rattle.packet.proofs.table.protect_type.Tie as tie

@@ -1,3 +1,4 @@
+-- `shaped` meets its contract: the test decides between the command and 6.
 use Rattle.packet.proofs.table.shaped.Statement.{statement}
 use Rattle.packet.proofs.table.shaped.Tie as tie
 

@@ -1,3 +1,4 @@
+-- `rotated` meets its contract: the bits gathered so far, from the top; all eight are computed for each byte.
 use Prim.Native.Nat.{ℕ, zero, suc, _+_, _-_, _*_, _/_, _%_, _^_, _≤_, _<_}
 use mathlib.Core.Path.{_≡_, _∙_}
 use native.Mathlib.Nat.{pow-suc}
