@@ -1,4 +1,4 @@
--- One turn of each loop over flash, and its end, in the loop's own terms.
+-- One turn of a loop that writes, and its end, in the loop's own terms.
 use Prim.Native.Nat.{ℕ, suc, _+_, _-_, _<_, _≤_}
 use mathlib.Core.Path.{_≡_}
 use mathlib.Core.List.{List}
@@ -7,22 +7,22 @@ use native.Mathlib.Numerals.{add-one}
 use native.Mathlib.Omega.{arith}
 use lib.ListN.{length, drop, set, getD, drop-of-length-le}
 use lib.Seq.{drop-cons}
-use lib.Bits.{bitAnd}
-use Rattle.image.specs.Flash.{eraseOf, storeOf}
+use Rattle.image.specs.Flash.{written, eraseOf}
 
-module _ (flash : List ℕ) (a i : ℕ) where
-  pub erase-turn : (n : ℕ) → i < n → eraseOf (set flash (a + i) 0xFF) (a + (i + 1)) (n - (i + 1)) ≡ eraseOf flash (a + i) (n - i)
-  unfolding eraseOf
-  erase-turn n h = let e : n - i ≡ suc (n - (i + 1)) = omega arith in rw (← add-assoc a i 1, e)
+module _ (op : ℕ → ℕ → ℕ) (flash : List ℕ) (a i : ℕ) (s : List ℕ) where
+  pub turn : i < length s → written op (set flash (a + i) (op (getD flash (a + i) 0) (getD s i 0))) (a + (i + 1)) (drop (i + 1) s) ≡ written op flash (a + i) (drop i s)
+  unfolding written
+  turn h = rw (← add-assoc a i 1, add-one i, drop-cons s i 0)
 
-  pub erase-done : (n : ℕ) → n ≤ i → eraseOf flash a (n - i) ≡ flash
-  unfolding eraseOf
-  erase-done n h = let e : n - i ≡ 0 = omega arith in rw e
+  pub ended : length s ≤ i → written op flash a (drop i s) ≡ flash
+  unfolding written
+  ended h = rw (drop-of-length-le s h)
 
-  pub store-turn : (s : List ℕ) → i < length s → storeOf (set flash (a + i) (bitAnd (getD flash (a + i) 0) (getD s i 0))) (a + (i + 1)) (drop (i + 1) s) ≡ storeOf flash (a + i) (drop i s)
-  unfolding storeOf
-  store-turn s h = rw (← add-assoc a i 1, add-one i, drop-cons s i 0)
+module _ (flash : List ℕ) (a i n : ℕ) where
+  pub erase-turn : i < n → eraseOf (set flash (a + i) 0xFF) (a + (i + 1)) (n - (i + 1)) ≡ eraseOf flash (a + i) (n - i)
+  unfolding written
+  erase-turn h = let e : n - i ≡ suc (n - (i + 1)) = omega arith in rw (← add-assoc a i 1, e)
 
-  pub store-done : (s : List ℕ) → length s ≤ i → storeOf flash a (drop i s) ≡ flash
-  unfolding storeOf
-  store-done s h = rw (drop-of-length-le s h)
+  pub erase-ended : n ≤ i → eraseOf flash a (n - i) ≡ flash
+  unfolding written
+  erase-ended h = let e : n - i ≡ 0 = omega arith in rw e

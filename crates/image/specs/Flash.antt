@@ -1,15 +1,25 @@
--- Flash: single stores, one after another, from an address upward.
-use Prim.Native.Nat.{ℕ, zero, suc, _+_}
+-- Flash and images: single bytes written one after another, from an address upward.
+use Prim.Native.Nat.{ℕ, _+_}
 use mathlib.Core.List.{List, [], _∷_}
-use lib.ListN.{set, getD}
+use lib.ListN.{set, getD, replicate}
 use lib.Bits.{bitAnd}
 
--- n bytes become 0xFF
-unfoldable pub eraseOf : List ℕ → ℕ → ℕ → List ℕ
-eraseOf flash a zero = flash
-eraseOf flash a (suc n) = eraseOf (set flash a 0xFF) (a + 1) n
+-- from address a on, each byte becomes what `op` makes of the old one and the new
+unfoldable pub written : (ℕ → ℕ → ℕ) → List ℕ → ℕ → List ℕ → List ℕ
+written op flash a [] = flash
+written op flash a (x ∷ s) = written op (set flash a (op (getD flash a 0) x)) (a + 1) s
 
 -- each byte becomes old AND new
-unfoldable pub storeOf : List ℕ → ℕ → List ℕ → List ℕ
-storeOf flash a [] = flash
-storeOf flash a (x ∷ s) = storeOf (set flash a (bitAnd (getD flash a 0) x)) (a + 1) s
+abbrev pub storeOf : List ℕ → ℕ → List ℕ → List ℕ
+storeOf flash a s = written bitAnd flash a s
+
+abbrev pub new : ℕ → ℕ → ℕ
+new old x = x
+
+-- each byte becomes the new one
+abbrev pub copyOf : List ℕ → ℕ → List ℕ → List ℕ
+copyOf image a s = written new image a s
+
+-- n bytes become 0xFF
+abbrev pub eraseOf : List ℕ → ℕ → ℕ → List ℕ
+eraseOf flash a n = copyOf flash a (replicate n 0xFF)

@@ -1,114 +1,111 @@
--- Laws of flash. `eraseOf` at a count and `storeOf` at a list say what stands after that many single stores:
--- the first k of them are `eraseOf flash a k` and `storeOf flash a (take k s)`.
-use Prim.Native.Nat.{ℕ, zero, suc, _+_, _-_, _<_, _≤_}
+-- Laws of flash and images. What is proved of `written` holds of stores, copies and erasure alike.
+use Prim.Native.Nat.{ℕ, zero, suc, _+_, _<_, _≤_}
 use mathlib.Core.Path.{_≡_, refl, ap, sym, _∙_}
 use mathlib.Core.List.{List, [], _∷_, _++_}
 use native.Mathlib.Nat.{add-zero, add-suc, suc-add, mod-eq-of-lt, not-suc-le-zero}
 use native.Mathlib.Numerals.{add-one}
 use native.Mathlib.Omega.{arith}
-use lib.ListN.{length, take, drop, set, getD, length-set, length-take, length-drop, take-append-drop}
+use lib.ListN.{length, take, drop, set, getD, replicate, length-set, length-take, length-drop, length-replicate, getD-replicate, replicate-append-replicate, take-append-drop}
 use lib.Seq.{getD-set-same, getD-set-other, getD-take, getD-drop, ext-getD, length-take-le}
 use lib.Bits.{bitAnd, and-comm, and-mask}
 use Rattle.basis.specs.Lists.{Bytes}
-use Rattle.image.specs.Flash.{eraseOf, storeOf}
+use Rattle.image.specs.Flash.{written, storeOf, copyOf, eraseOf, new}
 
-module _ (flash : List ℕ) (a : ℕ) (x : ℕ) where
-  -- what one byte set at a leaves elsewhere
-  set-below : (j : ℕ) → j < a → getD (set flash a x) j 0 ≡ getD flash j 0
-  set-below j h = getD-set-other flash a j x 0 (λ e. omega arith)
+module _ (op : ℕ → ℕ → ℕ) where
+  -- flash after the first byte
+  abbrev one : List ℕ → ℕ → ℕ → List ℕ
+  one flash a x = set flash a (op (getD flash a 0) x)
 
-  set-above : (j : ℕ) → a < j → getD (set flash a x) j 0 ≡ getD flash j 0
-  set-above j h = getD-set-other flash a j x 0 (λ e. omega arith)
+  pub length-written : (flash : List ℕ) (a : ℕ) (s : List ℕ) → length (written op flash a s) ≡ length flash
+  unfolding written
+  length-written flash a [] = refl
+  length-written flash a (x ∷ s) = length-written (one flash a x) (a + 1) s ∙ simp length-set
+
+  -- some bytes, then others
+  pub written-append : (flash : List ℕ) (a : ℕ) (s t : List ℕ) → written op flash a (s ++ t) ≡ written op (written op flash a s) (a + length s) t
+  unfolding written
+  written-append flash a [] t = rw add-zero
+  written-append flash a (x ∷ s) t = written-append (one flash a x) (a + 1) s t ∙ rw (add-one, add-suc, suc-add)
+
+  -- the first k bytes, then the rest: so the first k single stores are `written` of `take k s`
+  pub written-prefix : (flash : List ℕ) (a k : ℕ) (s : List ℕ) → k ≤ length s → written op flash a s ≡ written op (written op flash a (take k s)) (a + k) (drop k s)
+  written-prefix flash a k s h =
+      ap (written op flash a) (sym (take-append-drop k s)) ∙ written-append flash a (take k s) (drop k s) ∙ rw (length-take-le k s h)
+
+  pub written-below : (flash : List ℕ) (a : ℕ) (s : List ℕ) (j : ℕ) → j < a → getD (written op flash a s) j 0 ≡ getD flash j 0
+  unfolding written
+  written-below flash a [] j h = refl
+  written-below flash a (x ∷ s) j h =
+      written-below (one flash a x) (a + 1) s j (omega arith) ∙ getD-set-other flash a j _ 0 (λ e. omega arith)
+
+  pub written-above : (flash : List ℕ) (a : ℕ) (s : List ℕ) (j : ℕ) → a + length s ≤ j → getD (written op flash a s) j 0 ≡ getD flash j 0
+  unfolding written
+  written-above flash a [] j h = refl
+  written-above flash a (x ∷ s) j h =
+      written-above (one flash a x) (a + 1) s j (omega arith) ∙ getD-set-other flash a j _ 0 (λ e. omega arith)
+
+  pub written-at : (flash : List ℕ) (a : ℕ) (s : List ℕ) (k : ℕ) → k < length s → a + length s ≤ length flash → getD (written op flash a s) (a + k) 0 ≡ op (getD flash (a + k) 0) (getD s k 0)
+  unfolding written
+  written-at flash a [] k h l = absurd (not-suc-le-zero h)
+  written-at flash a (x ∷ s) zero h l =
+      rw add-zero (written-below (one flash a x) (a + 1) s a (omega arith) ∙ getD-set-same flash a _ 0 (omega arith))
+  written-at flash a (x ∷ s) (suc k) h l =
+      let e : a + suc k ≡ a + 1 + k = omega arith in
+      rw e
+      (written-at (one flash a x) (a + 1) s k (omega arith) (simp length-set (omega arith))
+      ∙ rw (getD-set-other flash a (a + 1 + k) (op (getD flash a 0) x) 0 (λ q. omega arith)))
 
 -- ---- erasure
 
 pub length-erase : (flash : List ℕ) (a n : ℕ) → length (eraseOf flash a n) ≡ length flash
-unfolding eraseOf
-length-erase flash a zero = refl
-length-erase flash a (suc n) = length-erase (set flash a 0xFF) (a + 1) n ∙ simp length-set
+length-erase flash a n = length-written new flash a (replicate n 0xFF)
 
 -- m bytes, then n more
 pub erase-append : (flash : List ℕ) (a m n : ℕ) → eraseOf flash a (m + n) ≡ eraseOf (eraseOf flash a m) (a + m) n
-unfolding eraseOf
-erase-append flash a zero n = let e : 0 + n ≡ n = omega arith in rw (e, add-zero)
-erase-append flash a (suc m) n =
-    let e : suc m + n ≡ suc (m + n) = omega arith in
-    let g : a + suc m ≡ a + 1 + m = omega arith in rw (e, g) (erase-append (set flash a 0xFF) (a + 1) m n)
+erase-append flash a m n =
+    ap (copyOf flash a) (sym (replicate-append-replicate m n 0xFF))
+    ∙ written-append new flash a (replicate m 0xFF) (replicate n 0xFF)
+    ∙ rw (length-replicate {A = ℕ} m 0xFF)
 
 pub erase-below : (flash : List ℕ) (a n j : ℕ) → j < a → getD (eraseOf flash a n) j 0 ≡ getD flash j 0
-unfolding eraseOf
-erase-below flash a zero j h = refl
-erase-below flash a (suc n) j h = erase-below (set flash a 0xFF) (a + 1) n j (omega arith) ∙ set-below flash a 0xFF j h
+erase-below flash a n = written-below new flash a (replicate n 0xFF)
 
 pub erase-above : (flash : List ℕ) (a n j : ℕ) → a + n ≤ j → getD (eraseOf flash a n) j 0 ≡ getD flash j 0
-unfolding eraseOf
-erase-above flash a zero j h = refl
-erase-above flash a (suc n) j h =
-    erase-above (set flash a 0xFF) (a + 1) n j (omega arith) ∙ set-above flash a 0xFF j (omega arith)
+erase-above flash a n j h = written-above new flash a (replicate n 0xFF) j (simp length-replicate h)
 
 pub erase-at : (flash : List ℕ) (a n k : ℕ) → k < n → a + n ≤ length flash → getD (eraseOf flash a n) (a + k) 0 ≡ 0xFF
-unfolding eraseOf
-erase-at flash a zero k h l = absurd (not-suc-le-zero h)
-erase-at flash a (suc n) zero h l =
-    rw add-zero (erase-below (set flash a 0xFF) (a + 1) n a (omega arith) ∙ getD-set-same flash a 0xFF 0 (omega arith))
-erase-at flash a (suc n) (suc k) h l =
-    let e : a + suc k ≡ a + 1 + k = omega arith in
-    rw e (erase-at (set flash a 0xFF) (a + 1) n k (omega arith) (simp length-set (omega arith)))
+erase-at flash a n k h l =
+    written-at new flash a (replicate n 0xFF) k (simp length-replicate h) (simp length-replicate l) ∙ getD-replicate n k 0xFF 0 h
 
 -- ---- stores
 
 pub length-store : (flash : List ℕ) (a : ℕ) (s : List ℕ) → length (storeOf flash a s) ≡ length flash
-unfolding storeOf
-length-store flash a [] = refl
-length-store flash a (x ∷ s) = length-store (set flash a (bitAnd (getD flash a 0) x)) (a + 1) s ∙ simp length-set
+length-store = length-written bitAnd
 
--- some bytes, then others
 pub store-append : (flash : List ℕ) (a : ℕ) (s t : List ℕ) → storeOf flash a (s ++ t) ≡ storeOf (storeOf flash a s) (a + length s) t
-unfolding storeOf
-store-append flash a [] t = rw add-zero
-store-append flash a (x ∷ s) t =
-    store-append (set flash a (bitAnd (getD flash a 0) x)) (a + 1) s t ∙ rw (add-one, add-suc, suc-add)
+store-append = written-append bitAnd
 
--- the first k stores, then the rest
 pub store-prefix : (flash : List ℕ) (a k : ℕ) (s : List ℕ) → k ≤ length s → storeOf flash a s ≡ storeOf (storeOf flash a (take k s)) (a + k) (drop k s)
-store-prefix flash a k s h =
-    ap (storeOf flash a) (sym (take-append-drop k s)) ∙ store-append flash a (take k s) (drop k s) ∙ rw (length-take-le k s h)
+store-prefix = written-prefix bitAnd
 
 pub store-below : (flash : List ℕ) (a : ℕ) (s : List ℕ) (j : ℕ) → j < a → getD (storeOf flash a s) j 0 ≡ getD flash j 0
-unfolding storeOf
-store-below flash a [] j h = refl
-store-below flash a (x ∷ s) j h =
-    store-below (set flash a (bitAnd (getD flash a 0) x)) (a + 1) s j (omega arith) ∙ set-below flash a _ j h
+store-below = written-below bitAnd
 
 pub store-above : (flash : List ℕ) (a : ℕ) (s : List ℕ) (j : ℕ) → a + length s ≤ j → getD (storeOf flash a s) j 0 ≡ getD flash j 0
-unfolding storeOf
-store-above flash a [] j h = refl
-store-above flash a (x ∷ s) j h =
-    store-above (set flash a (bitAnd (getD flash a 0) x)) (a + 1) s j (omega arith) ∙ set-above flash a _ j (omega arith)
+store-above = written-above bitAnd
 
 pub store-at : (flash : List ℕ) (a : ℕ) (s : List ℕ) (k : ℕ) → k < length s → a + length s ≤ length flash → getD (storeOf flash a s) (a + k) 0 ≡ bitAnd (getD flash (a + k) 0) (getD s k 0)
-unfolding storeOf
-store-at flash a [] k h l = absurd (not-suc-le-zero h)
-store-at flash a (x ∷ s) zero h l =
-    rw add-zero
-    (store-below (set flash a (bitAnd (getD flash a 0) x)) (a + 1) s a (omega arith) ∙ getD-set-same flash a _ 0 (omega arith))
-store-at flash a (x ∷ s) (suc k) h l =
-    let e : a + suc k ≡ a + 1 + k = omega arith in
-    rw e
-    (store-at (set flash a (bitAnd (getD flash a 0) x)) (a + 1) s k (omega arith) (simp length-set (omega arith))
-    ∙ rw (set-above flash a (bitAnd (getD flash a 0) x) (a + 1 + k) (omega arith)))
-
--- ---- blank flash
+store-at = written-at bitAnd
 
 -- the n bytes from a on are 0xFF
 abbrev pub Blank : List ℕ → ℕ → ℕ → Type 0
 Blank flash a n = (k : ℕ) → k < n → getD flash (a + k) 0 ≡ 0xFF
 
-and-blank : (x : ℕ) → x < 256 → bitAnd 0xFF x ≡ x
-and-blank x h = and-comm 0xFF x ∙ and-mask x 8 ∙ mod-eq-of-lt h
-
 pub erase-blank : (flash : List ℕ) (a n : ℕ) → a + n ≤ length flash → Blank (eraseOf flash a n) a n
 erase-blank flash a n l k h = erase-at flash a n k h l
+
+and-blank : (x : ℕ) → x < 256 → bitAnd 0xFF x ≡ x
+and-blank x h = and-comm 0xFF x ∙ and-mask x 8 ∙ mod-eq-of-lt h
 
 module _ (flash : List ℕ) (a : ℕ) (s : List ℕ) (l : a + length s ≤ length flash) (blank : Blank flash a (length s)) (bytes : Bytes s) where
   -- a byte stored over blank flash reads back, and so do all of them

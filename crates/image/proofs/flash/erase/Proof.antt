@@ -6,7 +6,7 @@ use native.Mathlib.Omega.{arith}
 use borrow.Author.Needs.{needs}
 use lib.ListN.{length, length-set}
 use Rattle.image.specs.Flash.{eraseOf}
-use Rattle.image.proofs.FlashTurns.{erase-turn, erase-done}
+use Rattle.image.proofs.FlashTurns.{erase-turn, erase-ended}
 use Rattle.image.proofs.flash.erase.Statement.{statement}
 use Rattle.image.proofs.flash.erase.Tie as tie
 
@@ -39,7 +39,7 @@ same-length : tie.Need-same-length Inv-loop μ-loop
 same-length c = search needs
 
 returns : tie.Need-returns Inv-loop μ-loop
-returns c = sym (erase-done _ _ _ _ (c .loop-test .left)) ∙ c .before .loop .inv .2
+returns c = sym (erase-ended _ _ _ _ (c .loop-test .left)) ∙ c .before .loop .inv .2
 
 pub erase-spec : {M : Type 1} → statement M
 erase-spec =
