@@ -11,8 +11,7 @@ pub fn named(map: &[u8], address: Address) -> bool
     ensures { λ r. ⌜ r ≡ named (now (map .entry)) (address .0) ⌝ }
 {
     let at = address.0 as usize;
-    let bit = at % 8;
-    (map[at / 8] >> bit) % 2 == 1
+    (map[at / 8] >> (at % 8)) % 2 == 1
 }
 
 // Names the address; all other bits stay.
