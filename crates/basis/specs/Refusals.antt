@@ -1,7 +1,8 @@
--- An answer in the paper's terms, and the ordered list of refusals: the first whose test holds decides.
+-- An answer in the paper's terms, and a table of refusals: the first whose test holds decides.
 use Prim.Native.Nat.{ℕ}
 use mathlib.Core.Bool.{Bool}
 use mathlib.Core.List.{List, [], _∷_}
+use lib.ListN.{length}
 use Rattle.basis.specs.Choice.{pick}
 
 -- refused with the paper's number, or given
@@ -9,16 +10,25 @@ pub data Answer (A : Type 0) : Type 0 where
   refused : ℕ → Answer A
   given : A → Answer A
 
--- answer so when the test holds
-pub record Rule (A : Type 0) : Type 0 where
-  pub answer : A
+-- a row of a table: the number, and when it is given
+pub record Rule : Type 0 where
+  pub number : ℕ
   pub holds : Bool
 
 infix 70 _when_
-abbrev pub _when_ : {A : Type 0} → A → Bool → Rule A
-a when t = record { answer = a; holds = t }
+abbrev pub _when_ : ℕ → Bool → Rule
+n when t = record { number = n; holds = t }
 
--- the answer of the first rule whose test holds, else `r`
-unfoldable pub first : {A : Type 0} → List (Rule A) → A → A
+-- refused by the first row whose test holds, else as told
+unfoldable pub first : {A : Type 0} → List Rule → Answer A → Answer A
 first [] r = r
-first (x ∷ l) r = pick (x .holds) (x .answer) (first l r)
+first (x ∷ l) r = pick (x .holds) (refused (x .number)) (first l r)
+
+-- of an answer that is bytes: how many, and which are written
+abbrev pub counted : Answer (List ℕ) → Answer ℕ
+counted (refused n) = refused n
+counted (given s) = given (length s)
+
+abbrev pub written : Answer (List ℕ) → List ℕ
+written (refused n) = []
+written (given s) = s

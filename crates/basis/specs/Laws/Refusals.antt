@@ -1,35 +1,46 @@
--- Laws of ordered refusals.
+-- Laws of tables of refusals.
 use Prim.Native.Nat.{ℕ}
 use mathlib.Core.Path.{_≡_, refl, sym, ap, _∙_}
 use mathlib.Core.Bool.{Bool, true, false}
 use mathlib.Core.List.{List, [], _∷_}
 use native.Mathlib.Omega.{arith}
+use Rattle.basis.specs.Choice.{pick}
 use Rattle.basis.specs.Refusals.{Answer, refused, given, Rule, _when_, first}
 
+-- what is refused is not given
+pub apart : {A : Type 0} {n : ℕ} {x : A} → refused n ≡ given x → ⊥
+apart e = let z : _≡_ {A = ℕ} 0 1 = cc in omega arith
+
 module _ {A : Type 0} where
-  -- a rule whose test fails is passed over
-  pub skip : (a : A) (t : Bool) (l : List (Rule A)) (r : A) → t ≡ false → first (a when t ∷ l) r ≡ first l r
+  -- a row whose test fails is passed over
+  pub skip : (n : ℕ) (t : Bool) (l : List Rule) (r : Answer A) → t ≡ false → first (n when t ∷ l) r ≡ first l r
   unfolding first
-  skip a t l r e = simp e
+  skip n t l r e = simp e
 
   -- one whose test holds decides
-  pub stop : (a : A) (t : Bool) (l : List (Rule A)) (r : A) → t ≡ true → first (a when t ∷ l) r ≡ a
+  pub stop : (n : ℕ) (t : Bool) (l : List Rule) (r : Answer A) → t ≡ true → first (n when t ∷ l) r ≡ refused n
   unfolding first
-  stop a t l r e = simp e
+  stop n t l r e = simp e
 
-  pub done : (r : A) → first [] r ≡ r
+  pub done : (r : Answer A) → first [] r ≡ r
   unfolding first
   done r = refl
 
-  -- another answer came out, so the test was false
-  pub passed : (y a : A) (t : Bool) (l : List (Rule A)) (r : A) → (a ≡ y → ⊥) → first (a when t ∷ l) r ≡ y → (t ≡ false) × (first l r ≡ y)
+  -- it was given, so the test was false
+  pub passed : {x : A} (n : ℕ) (t : Bool) (l : List Rule) (r : Answer A) → first (n when t ∷ l) r ≡ given x → (t ≡ false) × (first l r ≡ given x)
   unfolding first
-  passed y a true l r n e = absurd (n e)
-  passed y a false l r n e = (refl, e)
+  passed n true l r e = absurd (apart e)
+  passed n false l r e = (refl, e)
 
-  -- what is refused is not given
-  pub apart : (n : ℕ) (x : A) → refused n ≡ given x → ⊥
-  apart n x e = let z : _≡_ {A = ℕ} 0 1 = cc in omega arith
+-- a table refuses alike whatever it guards
+pub alike : {A B : Type 0} {n : ℕ} (l : List Rule) (x : A) (y : B) → first l (given x) ≡ refused n → first l (given y) ≡ refused n
+unfolding first
+alike [] x y e = absurd (apart (sym e))
+alike {A} {B} {n} (r ∷ l) x y e = go (r .holds) (alike l x y) e
+  where
+    go : (t : Bool) → (first l (given x) ≡ refused n → first l (given y) ≡ refused n) → pick t (refused (r .number)) (first l (given x)) ≡ refused n → pick t (refused (r .number)) (first l (given y)) ≡ refused n
+    go true f e = cc
+    go false f e = f e
 
 -- two outcomes that one equation permits are equal, where the paper tells all cases apart
 pub determined : {A B : Type 0} (paper : A → B) → ((r s : A) → paper r ≡ paper s → r ≡ s) → {x : B} (r s : A) → paper r ≡ x → paper s ≡ x → r ≡ s
