@@ -1,24 +1,24 @@
--- Flash and images: single bytes written one after another, from an address upward.
+-- Flash and images: single bytes stored one after another, from an address upward.
 use Prim.Native.Nat.{ℕ, _+_}
 use mathlib.Core.List.{List, [], _∷_}
 use lib.ListN.{set, getD, replicate}
 use lib.Bits.{bitAnd}
 
 -- from address a on, each byte becomes what `op` makes of the old one and the new
-unfoldable pub written : (ℕ → ℕ → ℕ) → List ℕ → ℕ → List ℕ → List ℕ
-written op flash a [] = flash
-written op flash a (x ∷ s) = written op (set flash a (op (getD flash a 0) x)) (a + 1) s
+unfoldable pub stored : (ℕ → ℕ → ℕ) → List ℕ → ℕ → List ℕ → List ℕ
+stored op flash a [] = flash
+stored op flash a (x ∷ s) = stored op (set flash a (op (getD flash a 0) x)) (a + 1) s
 
 -- each byte becomes old AND new
 abbrev pub storeOf : List ℕ → ℕ → List ℕ → List ℕ
-storeOf flash a s = written bitAnd flash a s
+storeOf flash a s = stored bitAnd flash a s
 
 abbrev pub new : ℕ → ℕ → ℕ
 new old x = x
 
 -- each byte becomes the new one
 abbrev pub copyOf : List ℕ → ℕ → List ℕ → List ℕ
-copyOf image a s = written new image a s
+copyOf image a s = stored new image a s
 
 -- n bytes become 0xFF
 abbrev pub eraseOf : List ℕ → ℕ → ℕ → List ℕ
