@@ -1,0 +1,57 @@
+-- `erase` meets its contract: erasing what is left, from here, gives what was to be given.
+use Prim.Native.Nat.{_≤_, _-_, _+_}
+use mathlib.Core.Path.{_≡_, refl, sym, _∙_}
+use native.Mathlib.Nat.{add-zero, sub-zero}
+use native.Mathlib.Omega.{arith}
+use borrow.Author.Needs.{needs}
+use lib.ListN.{length, length-set}
+use Rattle.image.specs.Flash.{eraseOf}
+use Rattle.image.proofs.FlashTurns.{erase-turn, erase-ended}
+use Rattle.image.proofs.flash.erase.Statement.{statement}
+use Rattle.image.proofs.flash.erase.Tie as tie
+
+abbrev Inv-loop : tie.InvT-loop
+Inv-loop flash₀ at count i₀ flash i =
+    (i ≤ count) × (length flash ≡ length flash₀) × (eraseOf flash (at + i) (count - i) ≡ eraseOf flash₀ at count)
+
+abbrev μ-loop : tie.MeasureT-loop
+μ-loop flash₀ at count i₀ flash i = count - i
+
+loop-holds : tie.Need-loop-holds Inv-loop μ-loop
+loop-holds c = (search needs, refl, rw (add-zero, sub-zero))
+
+add-flash : tie.Need-add-flash Inv-loop μ-loop
+add-flash c = search needs
+
+slice-write-flash : tie.Need-slice-write-flash Inv-loop μ-loop
+slice-write-flash c = search needs
+
+add-i : tie.Need-add-i Inv-loop μ-loop
+add-i c = search needs
+
+loop-less : tie.Need-loop-less Inv-loop μ-loop
+loop-less c = search needs
+
+loop-again : tie.Need-loop-again Inv-loop μ-loop
+loop-again c = (omega arith, simp length-set (omega arith), erase-turn _ _ _ _ (omega arith) ∙ c .before .loop .inv .2)
+
+same-length : tie.Need-same-length Inv-loop μ-loop
+same-length c = search needs
+
+returns : tie.Need-returns Inv-loop μ-loop
+returns c = sym (erase-ended _ _ _ _ (c .loop-test .left)) ∙ c .before .loop .inv .2
+
+pub erase-spec : {M : Type 1} → statement M
+erase-spec =
+    tie.close
+    (tie.spec
+    Inv-loop
+    μ-loop
+    loop-holds
+    add-flash
+    slice-write-flash
+    add-i
+    loop-less
+    loop-again
+    same-length
+    returns)

@@ -1,0 +1,70 @@
+-- `store` meets its contract: storing what is left, from here, gives what was to be given.
+use Prim.Native.Nat.{_≤_, _-_, _+_}
+use mathlib.Core.Path.{_≡_, refl, sym, _∙_}
+use native.Mathlib.Nat.{add-zero}
+use native.Mathlib.Omega.{arith}
+use borrow.Author.Needs.{needs}
+use lib.ListN.{length, drop, length-set}
+use Rattle.image.specs.Flash.{storeOf}
+use Rattle.image.proofs.FlashTurns.{turn, ended}
+use Rattle.image.proofs.flash.store.Statement.{statement}
+use Rattle.image.proofs.flash.store.Tie as tie
+
+abbrev Inv-loop : tie.InvT-loop
+Inv-loop flash₀ at bytes i₀ flash i =
+    (i ≤ length bytes) × (length flash ≡ length flash₀) × (storeOf flash (at + i) (drop i bytes) ≡ storeOf flash₀ at bytes)
+
+abbrev μ-loop : tie.MeasureT-loop
+μ-loop flash₀ at bytes i₀ flash i = length bytes - i
+
+loop-holds : tie.Need-loop-holds Inv-loop μ-loop
+loop-holds c = (search needs, refl, rw add-zero)
+
+add-flash : tie.Need-add-flash Inv-loop μ-loop
+add-flash c = search needs
+
+slice-read-flash : tie.Need-slice-read-flash Inv-loop μ-loop
+slice-read-flash c = search needs
+
+shared-slice-read-flash : tie.Need-shared-slice-read-flash Inv-loop μ-loop
+shared-slice-read-flash c = search needs
+
+add-flash-2 : tie.Need-add-flash-2 Inv-loop μ-loop
+add-flash-2 c = search needs
+
+slice-write-flash : tie.Need-slice-write-flash Inv-loop μ-loop
+slice-write-flash c = search needs
+
+add-i : tie.Need-add-i Inv-loop μ-loop
+add-i c = search needs
+
+loop-less : tie.Need-loop-less Inv-loop μ-loop
+loop-less c = search needs
+
+loop-again : tie.Need-loop-again Inv-loop μ-loop
+loop-again c =
+    (omega arith, simp length-set (omega arith), turn _ _ _ _ _ (omega arith) ∙ c .before .before .before .loop .inv .2)
+
+same-length : tie.Need-same-length Inv-loop μ-loop
+same-length c = search needs
+
+returns : tie.Need-returns Inv-loop μ-loop
+returns c = sym (ended _ _ _ _ _ (c .loop-test .left)) ∙ c .before .loop .inv .2
+
+pub store-spec : {M : Type 1} → statement M
+store-spec =
+    tie.close
+    (tie.spec
+    Inv-loop
+    μ-loop
+    loop-holds
+    add-flash
+    slice-read-flash
+    shared-slice-read-flash
+    add-flash-2
+    slice-write-flash
+    add-i
+    loop-less
+    loop-again
+    same-length
+    returns)

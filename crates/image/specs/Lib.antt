@@ -1,0 +1,3 @@
+-- Flash and the hex file. Definitions stand here, what is proved of them under Laws.
+pub mod Flash
+pub mod Laws

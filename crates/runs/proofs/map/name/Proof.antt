@@ -1,0 +1,35 @@
+-- `name` meets its contract: a one shifted to the address's bit is joined to its byte.
+use Prim.Native.Nat.{_%_}
+use native.Mathlib.Omega.{arith}
+use borrow.Author.Needs.{needs}
+use Rattle.runs.specs.Map.{nameOf}
+use Rattle.runs.proofs.Bits.{one-shifted}
+use Rattle.runs.proofs.map.name.Statement.{statement}
+use Rattle.runs.proofs.map.name.Tie as tie
+
+cast-at : tie.Need-cast-at
+cast-at c = search needs
+
+slice-read-map : tie.Need-slice-read-map
+slice-read-map c = search needs
+
+cast-map : tie.Need-cast-map
+cast-map c = search needs
+
+shl-map : tie.Need-shl-map
+shl-map c = search needs
+
+slice-write-map : tie.Need-slice-write-map
+slice-write-map c = search needs
+
+same-length : tie.Need-same-length
+same-length c = search needs
+
+returns : tie.Need-returns
+unfolding nameOf
+returns c = rw (one-shifted (c .before .before .args .address .0 % 8) (omega arith))
+
+pub name-spec : {M : Type 1} → statement M
+name-spec =
+    tie.close
+    (tie.spec cast-at slice-read-map cast-map shl-map slice-write-map same-length returns)

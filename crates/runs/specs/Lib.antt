@@ -1,0 +1,3 @@
+-- Definitions stand here, what is proved of them under Laws.
+pub mod Map
+pub mod Laws

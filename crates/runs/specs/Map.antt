@@ -1,0 +1,19 @@
+-- The map of named addresses: one bit an address, lowest bit first.
+use Prim.Native.Nat.{ℕ, _/_, _%_, _^_}
+use mathlib.Core.List.{List}
+use mathlib.Core.Bool.{Bool}
+use lib.ListN.{getD, set}
+use lib.Bits.{bitOr}
+use lib.Dec.{eqb}
+
+-- bit k of a byte, counted from the lowest
+abbrev pub bit : ℕ → ℕ → Bool
+bit b k = eqb (b / 2 ^ k % 2) 1
+
+-- the address is named
+unfoldable pub named : List ℕ → ℕ → Bool
+named m a = bit (getD m (a / 8) 0) (a % 8)
+
+-- the map with the address named, all other bits as they were
+unfoldable pub nameOf : List ℕ → ℕ → List ℕ
+nameOf m a = set m (a / 8) (bitOr (getD m (a / 8) 0) (2 ^ (a % 8)))

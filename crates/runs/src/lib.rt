@@ -1,0 +1,2 @@
+// The map of named addresses, and the runs and pieces that it has.
+pub mod map;
