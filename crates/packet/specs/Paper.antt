@@ -11,7 +11,7 @@ use Rattle.packet.specs.declared.read.Reading.the-variants as reading
 use Rattle.packet.specs.declared.table.Command.{Command}
 use Rattle.packet.specs.declared.table.Command.the-variants.{Erase, Write, Verify, Protect, Run}
 use Rattle.packet.specs.declared.table.Refusal.{Refusal}
-use Rattle.packet.specs.declared.table.Refusal.the-variants.{Start, Length, Count, Checksum, Unlisted, Shape, Room}
+use Rattle.packet.specs.declared.table.Refusal.the-variants.{Start, Length, Count, Checksum, Unlisted, Shape}
 use Rattle.packet.specs.declared.table.Row as Row
 use Rattle.packet.specs.declared.table.Row.the-variants as row
 
@@ -31,7 +31,6 @@ paperRefusal Count = 3
 paperRefusal Checksum = 4
 paperRefusal Unlisted = 5
 paperRefusal Shape = 6
-paperRefusal Room = 20
 
 -- the table's word on a packet: the command's byte, or the refusal
 abbrev pub paperRow : Row.Row → Answer ℕ
@@ -44,6 +43,7 @@ paperShaped c fits = pick fits (given (paperCommand c)) (refused 6)
 -- the packet's length, or the refusal
 abbrev pub paperBuilt : Built.Built → Answer ℕ
 paperBuilt (built.Packet n) = given n
+paperBuilt built.NoRoom = refused 20
 paperBuilt (built.Refused x) = refused (paperRefusal x)
 
 -- what the packet says, or the refusal

@@ -17,6 +17,8 @@ use basis::units::Address;
 pub enum Built {
     // The packet's length.
     Packet(usize),
+    // The buffer is under 259 bytes.
+    NoRoom,
     Refused(Refusal),
 }
 
@@ -28,7 +30,7 @@ pub fn build(buffer: &mut [u8], command: u8, address: Address, plain: &[u8]) -> 
         ⌝ }
 {
     if buffer.len() < 259 {
-        return Built::Refused(Refusal::Room);
+        return Built::NoRoom;
     }
     match look_up(command, plain.len() + 5, first_byte(plain)) {
         Row::Refused(why) => Built::Refused(why),

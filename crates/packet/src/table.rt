@@ -12,7 +12,7 @@ pub enum Command {
     Run,
 }
 
-// Why a packet is not built or not read.
+// Why an input is no packet, or a packet is not built.
 pub enum Refusal {
     Start,
     Length,
@@ -20,7 +20,6 @@ pub enum Refusal {
     Checksum,
     Unlisted,
     Shape,
-    Room,
 }
 
 // What the table says of a packet.

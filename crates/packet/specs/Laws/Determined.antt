@@ -1,7 +1,8 @@
 -- Two outcomes that a contract permits are equal: the paper's numbers and values tell all cases apart.
-use Prim.Native.Nat.{ℕ}
+use Prim.Native.Nat.{ℕ, _≤_}
 use mathlib.Core.List.{List}
 use mathlib.Core.Path.{_≡_, refl, ap, sym, _∙_}
+use native.Mathlib.Omega.{arith}
 use lib.Dec.{eqb}
 use Rattle.basis.specs.Choice.{pick}
 use Rattle.basis.specs.Laws.Refusals.{apart, given-one, refused-one, determined}
@@ -17,7 +18,7 @@ use Rattle.packet.specs.declared.read.Reading.the-variants as reading
 use Rattle.packet.specs.declared.table.Command.{Command}
 use Rattle.packet.specs.declared.table.Command.the-variants.{Erase, Write, Verify, Protect, Run}
 use Rattle.packet.specs.declared.table.Refusal.{Refusal}
-use Rattle.packet.specs.declared.table.Refusal.the-variants.{Start, Length, Count, Checksum, Unlisted, Shape, Room}
+use Rattle.packet.specs.declared.table.Refusal.the-variants.{Start, Length, Count, Checksum, Unlisted, Shape}
 use Rattle.packet.specs.declared.table.Row as Row
 use Rattle.packet.specs.declared.table.Row.the-variants as row
 
@@ -38,7 +39,7 @@ command-one c d e = sym (command-back c) ∙ ap commandBy e ∙ command-back d
 
 refusalBy : ℕ → Refusal
 refusalBy n =
-    pick (eqb n 1) Start (pick (eqb n 2) Length (pick (eqb n 3) Count (pick (eqb n 4) Checksum (pick (eqb n 5) Unlisted (pick (eqb n 6) Shape Room)))))
+    pick (eqb n 1) Start (pick (eqb n 2) Length (pick (eqb n 3) Count (pick (eqb n 4) Checksum (pick (eqb n 5) Unlisted Shape))))
 
 refusal-back : (x : Refusal) → refusalBy (paperRefusal x) ≡ x
 unfolding refusalBy
@@ -48,7 +49,14 @@ refusal-back Count = refl
 refusal-back Checksum = refl
 refusal-back Unlisted = refl
 refusal-back Shape = refl
-refusal-back Room = refl
+
+pub refusal-small : (x : Refusal) → paperRefusal x ≤ 6
+refusal-small Start = omega arith
+refusal-small Length = omega arith
+refusal-small Count = omega arith
+refusal-small Checksum = omega arith
+refusal-small Unlisted = omega arith
+refusal-small Shape = omega arith
 
 pub refusal-one : (x y : Refusal) → paperRefusal x ≡ paperRefusal y → x ≡ y
 refusal-one x y e = sym (refusal-back x) ∙ ap refusalBy e ∙ refusal-back y
@@ -64,10 +72,18 @@ pub look-up-determined : {a : Answer ℕ} (r s : Row.Row) → paperRow r ≡ a �
 look-up-determined = determined paperRow row-one
 
 -- building
+room-apart : (x : Refusal) → 20 ≡ paperRefusal x → ⊥
+room-apart x e = omega (arith, refusal-small x)
+
 built-one : (r s : Built.Built) → paperBuilt r ≡ paperBuilt s → r ≡ s
 built-one (built.Packet n) (built.Packet m) e = ap built.Packet (given-one e)
+built-one (built.Packet n) built.NoRoom e = absurd (apart (sym e))
 built-one (built.Packet n) (built.Refused y) e = absurd (apart (sym e))
+built-one built.NoRoom (built.Packet m) e = absurd (apart e)
+built-one built.NoRoom built.NoRoom e = refl
+built-one built.NoRoom (built.Refused y) e = absurd (room-apart y (refused-one e))
 built-one (built.Refused x) (built.Packet m) e = absurd (apart e)
+built-one (built.Refused x) built.NoRoom e = absurd (room-apart x (sym (refused-one e)))
 built-one (built.Refused x) (built.Refused y) e = ap built.Refused (refusal-one x y (refused-one e))
 
 pub build-determined : (b : Answer (List ℕ)) (r s : Built.Built) (x y old : List ℕ) → (paperBuilt r ≡ counted b) × (x ≡ overlay (written b) old) → (paperBuilt s ≡ counted b) × (y ≡ overlay (written b) old) → (r ≡ s) × (x ≡ y)
