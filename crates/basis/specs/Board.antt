@@ -9,6 +9,10 @@ pages = 124
 abbrev pub flashSize : ℕ
 flashSize = 0xF800
 
--- the map has one bit for each
+-- in groups of four
+abbrev pub groups : ℕ
+groups = 31
+
+-- the map has one bit for each byte
 abbrev pub mapSize : ℕ
 mapSize = 7936

@@ -2,7 +2,7 @@
 ghost use mathlib.Core.Path.{_≡_};
 ghost use Prim.Native.Nat.{_+_, _≤_};
 ghost use mathlib.Core.List.{map};
-ghost use lib.ListN.{length, getD};
+ghost use lib.ListN.{length};
 ghost use Rattle.basis.specs.Lists.{overlay};
 ghost use Rattle.basis.specs.Refusals.{counted, written};
 ghost use Rattle.packet.specs.Packet.{frontOf, carriedOf, packet, buildOf};
@@ -11,6 +11,7 @@ use crate::table::Refusal;
 use crate::table::Row;
 use crate::table::look_up;
 use crate::turn::turned;
+use basis::buffers::first;
 use basis::sums::checksum;
 use basis::units::Address;
 
@@ -32,19 +33,10 @@ pub fn build(buffer: &mut [u8], command: u8, address: Address, plain: &[u8]) -> 
     if buffer.len() < 259 {
         return Built::NoRoom;
     }
-    match look_up(command, plain.len() + 5, first_byte(plain)) {
+    match look_up(command, plain.len() + 5, first(plain)) {
         Row::Refused(why) => Built::Refused(why),
         Row::Listed(_) => Built::Packet(write(buffer, command, address, plain)),
     }
-}
-
-fn first_byte(plain: &[u8]) -> u8
-    ensures { λ r. ⌜ r ≡ getD (now (plain .entry)) 0 0 ⌝ }
-{
-    if plain.len() == 0 {
-        return 0;
-    }
-    plain[0]
 }
 
 // A packet whose data fit, into a buffer that has room for any.

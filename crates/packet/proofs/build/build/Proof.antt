@@ -33,8 +33,8 @@ returns c = leaves _ (build-small _ _ _ _ (c .if1 .taken))
 add-look-up : tie.Need-add-look-up
 add-look-up c = search needs
 
-first-byte-requires : tie.Need-first-byte-requires
-first-byte-requires c κs = search needs
+first-requires : tie.Need-first-requires
+first-requires c κs = search needs
 
 look-up-requires : tie.Need-look-up-requires
 look-up-requires c κs = search needs
@@ -47,17 +47,17 @@ enum-told c = search needs
 
 write-requires : tie.Need-write-requires
 write-requires c κs = let a = c .before .before .before .before .before .before .before .before .args in
-    (c .before .before .before .before .before .if1 .left, build-given _ (a .command) (a .address .0) (a .plain .now) _ _ (c .before .before .before .before .before .if1 .left) (c .before .before .before .before .first-byte .ensures) (sym (c .before .before .before .look-up .ensures) ∙ ap paperRow (c .before .enum-told .given .1)) .0)
+    (c .before .before .before .before .before .if1 .left, build-given _ (a .command) (a .address .0) (a .plain .now) _ _ (c .before .before .before .before .before .if1 .left) (c .before .before .before .before .first .ensures) (sym (c .before .before .before .look-up .ensures) ∙ ap paperRow (c .before .enum-told .given .1)) .0)
 
 returns-2 : tie.Need-returns-2
-returns-2 c = leaves _ (build-refused _ _ _ _ _ _ (c .before .before .before .before .before .if1 .left) (c .before .before .before .before .first-byte .ensures) (sym (c .before .before .before .look-up .ensures) ∙ ap paperRow (c .before .why .given .1)))
+returns-2 c = leaves _ (build-refused _ _ _ _ _ _ (c .before .before .before .before .before .if1 .left) (c .before .before .before .before .first .ensures) (sym (c .before .before .before .look-up .ensures) ∙ ap paperRow (c .before .why .given .1)))
 
 same-length : tie.Need-same-length
 same-length c = search needs
 
 returns-3 : tie.Need-returns-3
 returns-3 c = let a = c .before .before .before .before .before .before .before .before .before .before .before .args in
-    let b = build-given _ _ (a .address .0) _ _ _ (c .before .before .before .before .before .before .before .before .if1 .left) (c .before .before .before .before .before .before .before .first-byte .ensures) (sym (c .before .before .before .before .before .before .look-up .ensures) ∙ ap paperRow (c .before .before .before .before .enum-told .given .1)) in
+    let b = build-given _ _ (a .address .0) _ _ _ (c .before .before .before .before .before .before .before .before .if1 .left) (c .before .before .before .before .before .before .before .first .ensures) (sym (c .before .before .before .before .before .before .look-up .ensures) ∙ ap paperRow (c .before .before .before .before .enum-told .given .1)) in
     writes _ _ (b .1) (c .before .before .write .ensures .0 ∙ sym (packet-length (a .command) (a .address .0) (a .plain .now))) (c .before .before .write .ensures .1)
 
 pub build-spec : {M : Type 1} → statement M
@@ -66,7 +66,7 @@ build-spec =
     (tie.spec
     returns
     add-look-up
-    first-byte-requires
+    first-requires
     look-up-requires
     enum-known-why
     enum-told
