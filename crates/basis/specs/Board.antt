@@ -9,10 +9,6 @@ pages = 124
 abbrev pub flashSize : ℕ
 flashSize = 0xF800
 
--- in groups of four
-abbrev pub groups : ℕ
-groups = 31
-
 -- the map has one bit for each byte
 abbrev pub mapSize : ℕ
 mapSize = 7936

@@ -3,3 +3,4 @@ pub mod Refusals
 pub mod Computed
 pub mod Lists
 pub mod Sums
+pub mod Bits

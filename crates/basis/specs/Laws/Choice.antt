@@ -1,7 +1,7 @@
 -- Laws of choice.
-use mathlib.Core.Bool.{Bool, true, false}
+use mathlib.Core.Bool.{Bool, true, false, _||_}
 use mathlib.Core.Path.{_≡_, refl}
-use Rattle.basis.specs.Choice.{both}
+use Rattle.basis.specs.Choice.{both, either}
 
 -- a case split that keeps its equation
 pub decide : {R : Type 0} (t : Bool) → (t ≡ true → R) → (t ≡ false → R) → R
@@ -17,3 +17,7 @@ both-second a b e = simp e
 
 pub both-false : (a b : Bool) → a ≡ false → both a b ≡ false
 both-false a b e = simp e
+
+pub or-either : (a b : Bool) → a || b ≡ either a b
+or-either true b = refl
+or-either false b = refl
