@@ -1,1 +1,4 @@
 pub mod Map
+pub mod Runs
+pub mod Pieces
+pub mod Pages

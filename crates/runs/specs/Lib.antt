@@ -1,3 +1,6 @@
 -- Definitions stand here, what is proved of them under Laws.
 pub mod Map
+pub mod Runs
+pub mod Pages
+pub mod Pieces
 pub mod Laws

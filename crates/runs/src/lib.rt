@@ -1,2 +1,4 @@
 // The map of named addresses, and the runs and pieces that it has.
 pub mod map;
+pub mod pages;
+pub mod places;
