@@ -3,4 +3,5 @@ pub mod Map
 pub mod Runs
 pub mod Pages
 pub mod Pieces
+pub mod Tally
 pub mod Laws

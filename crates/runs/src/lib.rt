@@ -2,3 +2,4 @@
 pub mod map;
 pub mod pages;
 pub mod places;
+pub mod tally;
