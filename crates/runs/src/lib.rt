@@ -3,3 +3,4 @@ pub mod map;
 pub mod pages;
 pub mod places;
 pub mod tally;
+pub mod words;

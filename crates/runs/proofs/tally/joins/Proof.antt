@@ -1,7 +1,7 @@
 -- `joins` meets its contract: its tests are the definition's.
 use mathlib.Core.Path.{sym}
 use borrow.Author.Needs.{needs}
-use Rattle.runs.proofs.Words.{joins-closed, joins-none, joins-cut, joins-yes}
+use Rattle.runs.proofs.WordSteps.{joins-closed, joins-none, joins-cut, joins-yes}
 use Rattle.runs.proofs.tally.joins.Statement.{statement}
 use Rattle.runs.proofs.tally.joins.Tie as tie
 

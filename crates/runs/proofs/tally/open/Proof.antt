@@ -1,7 +1,7 @@
 -- `open` meets its contract: its tests are the definition's.
 use mathlib.Core.Path.{sym}
 use borrow.Author.Needs.{needs}
-use Rattle.runs.proofs.Words.{open-whole, open-wrap, open-gap}
+use Rattle.runs.proofs.WordSteps.{open-whole, open-wrap, open-gap}
 use Rattle.runs.proofs.tally.open.Statement.{statement}
 use Rattle.runs.proofs.tally.open.Tie as tie
 

@@ -3,7 +3,7 @@ use native.Mathlib.Omega.{arith}
 use borrow.Author.Needs.{needs}
 use Prim.Native.Nat.{_-_}
 use lib.Count.{ones-le, trailing-le}
-use Rattle.runs.proofs.Words.{word-runs, word-took}
+use Rattle.runs.proofs.WordSteps.{word-runs, word-took}
 use Rattle.runs.proofs.tally.Tally.took_word.Statement.{statement}
 use Rattle.runs.proofs.tally.Tally.took_word.Tie as tie
 
