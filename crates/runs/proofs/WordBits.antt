@@ -1,6 +1,5 @@
 -- Words of the map: a long one is two short ones joined, and the bits of one are taken as its places are.
 use Prim.Native.Nat.{ℕ, zero, suc, _+_, _-_, _*_, _/_, _%_, _^_, _≤_, _<_}
-use native.Mathlib.Numerals.{add-one}
 use native.Mathlib.Nat.{add-zero, add-suc, one-mul, pow-succ', zero-add, suc-add, mul-one, mul-assoc, pow-suc, div-one, div-div-eq-div-mul}
 use native.Mathlib.Omega.{arith}
 use mathlib.Core.Path.{_≡_, refl, sym, ap, ap₂, _∙_}
@@ -10,8 +9,8 @@ use lib.Dec.{eqb}
 use lib.ListN.{getD}
 use Rattle.basis.specs.Lists.{Bytes}
 use Rattle.runs.specs.declared.tally.Tally.{Tally}
-use Rattle.runs.specs.Runs.{count, off, starts}
 use Rattle.runs.specs.Tally.{tallyAt, tookOf, tookBits}
+use Rattle.runs.specs.Laws.Tally.{tally-next}
 use Rattle.runs.specs.Map.{bit, named, wordOf}
 
 pub word-join : (m : List ℕ) (j i k : ℕ) → wordOf m (i + j) k * 256 ^ j + wordOf m i j ≡ wordOf m i (j + k)
@@ -24,10 +23,6 @@ word-join m (suc j) i k =
     rw (e, suc-add) (omega arith)
 
 -- ---- places taken one by one
-
-pub tally-next : (p : ℕ → Bool) (cap n : ℕ) → tookOf cap (tallyAt p cap n) (p n) ≡ tallyAt p cap (suc n)
-unfolding tallyAt tookOf count off starts
-tally-next p cap n = simp add-one
 
 bits-tally : (p : ℕ → Bool) (cap k w a : ℕ) → ((j : ℕ) → j < k → bit w j ≡ p (a + j)) → tookBits cap (tallyAt p cap a) w k ≡ tallyAt p cap (a + k)
 unfolding tookBits
@@ -80,3 +75,12 @@ word-tally m cap (suc k) i h =
     ∙ ap (λ (t : Tally). tookBits cap t (wordOf m (i + 1) k) (8 * k)) (byte-tally m cap i)
     ∙ word-tally m cap k (i + 1) h
     ∙ ap (λ (x : ℕ). tallyAt (named m) cap (8 * x)) f
+
+-- one word more
+pub word-again : (m : List ℕ) (cap i : ℕ) → Bytes m → {t r : Tally} {w : ℕ} → t ≡ tallyAt (named m) cap (64 * i) → w ≡ wordOf m (8 * i) 8
+    → r ≡ tookBits cap t w 64 → r ≡ tallyAt (named m) cap (64 * (i + 1))
+word-again m cap i h e f g =
+    let a : 64 * i ≡ 8 * (8 * i) = omega arith in
+    let b : 8 * (8 * i + 8) ≡ 64 * (i + 1) = omega arith in
+    g ∙ ap₂ (λ (t : Tally) (w : ℕ). tookBits cap t w 64) (e ∙ ap (tallyAt (named m) cap) a) f
+    ∙ word-tally m cap 8 (8 * i) h ∙ ap (tallyAt (named m) cap) b

@@ -2,3 +2,5 @@ pub mod Map
 pub mod Runs
 pub mod Pieces
 pub mod Pages
+pub mod Tally
+pub mod Survey

@@ -4,4 +4,5 @@ pub mod Runs
 pub mod Pages
 pub mod Pieces
 pub mod Tally
+pub mod Survey
 pub mod Laws

@@ -1,6 +1,7 @@
 // The map of named addresses, and the runs and pieces that it has.
 pub mod map;
 pub mod pages;
+pub mod passes;
 pub mod places;
 pub mod tally;
 pub mod words;

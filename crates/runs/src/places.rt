@@ -7,6 +7,9 @@ ghost use Rattle.runs.specs.Runs.{next, len};
 use crate::map::named;
 use basis::units::Address;
 
+// A piece has at most this many bytes.
+pub const PIECE: u32 = 250;
+
 // The lowest named address from `from` on and below `limit`, or `limit`.
 pub fn next_named(map: &[u8], from: Address, limit: Address) -> Address
     requires { ⌜ limit .0 ≤ 8 * length (now map) ⌝ }

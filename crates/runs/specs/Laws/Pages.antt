@@ -14,6 +14,8 @@ use Rattle.basis.specs.Laws.Choice.{decide}
 use Rattle.runs.specs.Map.{named}
 use Rattle.runs.specs.Pages.{touched}
 use Rattle.runs.specs.Runs.{count, starts, len, next}
+use Rattle.runs.specs.Tally.{tallyAt}
+use Rattle.runs.specs.declared.tally.Tally.{Tally}
 use Rattle.runs.specs.Laws.Map.{named-past}
 use Rattle.runs.specs.Laws.Runs.{true-false, count-skip, count-mono, rank-below, next-ge, next-pass, next-skip}
 use Rattle.runs.specs.Laws.Pieces.{piece-passes}
@@ -70,3 +72,8 @@ module _ (m : List ℕ) (long : length m ≡ mapSize) where
 
   pub pages-past : (q : ℕ) → pages ≤ q → touched m q ≡ false
   pages-past q l = touched-past m q (omega arith)
+
+-- the tallies of the bytes below a page's start and below its end tell whether it is touched
+pub tallies-touched : (m : List ℕ) (cap q : ℕ) {t u : Tally} → t ≡ tallyAt (named m) cap (startOf q) → u ≡ tallyAt (named m) cap (startOf (q + 1)) → ltb (t .passed) (u .passed) ≡ touched m q
+unfolding tallyAt
+tallies-touched m cap q e f = rw (e, f) (sym (touched-counts m q))
