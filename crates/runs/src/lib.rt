@@ -3,5 +3,6 @@ pub mod map;
 pub mod pages;
 pub mod passes;
 pub mod places;
+pub mod survey;
 pub mod tally;
 pub mod words;

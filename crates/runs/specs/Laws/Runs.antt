@@ -7,7 +7,7 @@ use mathlib.Core.Path.{_≡_, refl, sym, ap, ap₂, subst, _∙_}
 use mathlib.Core.Logic.{⊎-elim}
 use mathlib.Core.Bool.{Bool, true, false}
 use lib.Dec.{eqb, ltb}
-use borrow.Author.Tests.{eq-eqb, ne-eqb, eqb-true, eqb-false, ltb-true, ltb-false}
+use borrow.Author.Tests.{eq-eqb, ne-eqb, eqb-true, eqb-false, lt-ltb, le-ltb, ltb-true, ltb-false}
 use Rattle.basis.specs.Choice.{pick, both}
 use Rattle.basis.specs.Laws.Choice.{decide}
 use Rattle.runs.specs.Runs.{count, len, next, select}
@@ -54,6 +54,14 @@ module _ (p : ℕ → Bool) where
   -- one that passes below n has its rank below the count
   pub rank-below : (n a : ℕ) → a < n → p a ≡ true → count p a < count p n
   rank-below n a l t = omega (arith, count-yes a t, count-mono n (suc a) l)
+
+  -- one passes where the count grows
+  pub count-tells : (n : ℕ) → ltb (count p n) (count p (n + 1)) ≡ p n
+  count-tells n =
+      rw add-one
+      (decide (p n)
+      (λ t. lt-ltb (count p n) (count p (suc n)) (omega (arith, count-yes n t)) ∙ sym t)
+      (λ t. le-ltb (count p n) (count p (suc n)) (omega (arith, count-no n t)) ∙ sym t))
 
   -- what passes is found by its rank
   pub select-at : (n a : ℕ) → a < n → p a ≡ true → select p (count p a) n ≡ a
