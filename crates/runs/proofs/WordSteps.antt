@@ -4,14 +4,14 @@ use native.Mathlib.Nat.{pow-suc, zero-min}
 use native.Mathlib.Omega.{arith}
 use mathlib.Core.Path.{_≡_, refl, sym, ap, ap₂, _∙_}
 use mathlib.Core.Bool.{Bool, true, false}
-use lib.Bits.{bitAnd, and-step}
-use lib.Count.{ones, onesIn, ones-step, leadingZeros, leading-of-zero, trailingZeros, trailing-le, under}
+use lib.Bits.{bitAnd, and-step, and-mask}
+use lib.Count.{ones, onesIn, ones-step, ones-ones, leadingZeros, leading-of-zero, leading-unique, trailingZeros, trailing-of-zero, trailing-le}
 use lib.Dec.{eqb, ltb}
 use borrow.Author.Tests.{eq-eqb, ne-eqb, eqb-true, eqb-false, lt-ltb, le-ltb, ltb-true, ltb-false}
 use Rattle.basis.specs.Choice.{pick, both}
 use Rattle.basis.specs.Laws.Choice.{decide}
 use Rattle.runs.specs.declared.tally.Tally.{Tally}
-use Rattle.runs.specs.Tally.{tookOf, tookBits, joinsOf, openOf}
+use Rattle.runs.specs.Tally.{tookOf, tookBits, joinsOf, cutOf}
 
 -- ---- one place
 
@@ -244,16 +244,24 @@ word-pieces cap (suc k) w t h l o =
 
 -- ---- what is open after it
 
+-- after k places, of which those fail whose bits are set in g
+unfoldable pub openOf : ℕ → ℕ → ℕ → ℕ → ℕ
+openOf k o g cap = pick (eqb g 0) (cutOf (o + k) cap) (leadingZeros k g)
+
 module _ (k o g cap : ℕ) where
-  pub open-whole : g ≡ 0 → o + k < cap → openOf k o g cap ≡ o + k
-  unfolding openOf
+  open-whole : g ≡ 0 → o + k < cap → openOf k o g cap ≡ o + k
+  unfolding openOf cutOf
   open-whole e l = rw (e, lt-ltb (o + k) cap l)
 
-  pub open-wrap : g ≡ 0 → cap ≤ o + k → openOf k o g cap ≡ o + k - cap
-  unfolding openOf
+  open-wrap : g ≡ 0 → cap ≤ o + k → openOf k o g cap ≡ o + k - cap
+  unfolding openOf cutOf
   open-wrap e l = rw (e, le-ltb (o + k) cap l)
 
-  pub open-gap : (g ≡ 0 → ⊥) → openOf k o g cap ≡ leadingZeros k g
+  open-cut : g ≡ 0 → openOf k o g cap ≡ cutOf (o + k) cap
+  unfolding openOf
+  open-cut e = rw e
+
+  open-gap : (g ≡ 0 → ⊥) → openOf k o g cap ≡ leadingZeros k g
   unfolding openOf
   open-gap n = rw (ne-eqb g 0 n)
 
@@ -307,15 +315,48 @@ word-open cap (suc k) w t h l o =
 same-tally : (t : Tally) {a b c : ℕ} → a ≡ t .passed → b ≡ t .pieces → c ≡ t .off → record { passed = a; pieces = b; off = c } ≡ t
 same-tally t x y z = rw (x, y, z)
 
-module _ (cap w : ℕ) (t : Tally) (fits : w < 2 ^ 64) (wide : 64 ≤ cap) (below : t .off < cap) (j : ℕ)
-    (joined : j ≡ joinsOf (t .off) (trailingZeros 64 (2 ^ 64 - 1 - w)) cap) where
+module _ (cap w : ℕ) (t : Tally) (fits : w < 2 ^ 64) (wide : 64 ≤ cap) (below : t .off < cap) where
   -- the runs of the word are its ones but for those that the next one goes on from
-  pub word-runs : tookBits cap t w 64 .pieces + ones (bitAnd w (w / 2)) + j ≡ t .pieces + ones w
+  pub word-runs : (j : ℕ) → j ≡ joinsOf (t .off) (trailingZeros 64 (2 ^ 64 - 1 - w)) cap
+      → tookBits cap t w 64 .pieces + ones (bitAnd w (w / 2)) + j ≡ t .pieces + ones w
   unfolding inner row gaps
-  word-runs = omega (arith, word-pieces cap 64 w t fits wide below)
+  word-runs j e = omega (arith, word-pieces cap 64 w t fits wide below)
 
-  pub word-took : (o : ℕ) → o ≡ openOf 64 (t .off) (2 ^ 64 - 1 - w) cap
-      → record { passed = t .passed + ones w; pieces = t .pieces + ones w - ones (bitAnd w (w / 2)) - j; off = o } ≡ tookBits cap t w 64
+  -- some pass and some fail
+  pub word-mixed : (j : ℕ) → j ≡ joinsOf (t .off) (trailingZeros 64 (2 ^ 64 - 1 - w)) cap → (2 ^ 64 - 1 - w ≡ 0 → ⊥)
+      → record { passed = t .passed + ones w; pieces = t .pieces + ones w - ones (bitAnd w (w / 2)) - j; off = leadingZeros 64 (2 ^ 64 - 1 - w) } ≡ tookBits cap t w 64
   unfolding gaps
-  word-took o e =
-      same-tally (tookBits cap t w 64) (sym (word-passed cap 64 w t fits)) (omega (arith, word-runs)) (e ∙ sym (word-open cap 64 w t fits wide below))
+  word-mixed j e n =
+      same-tally (tookBits cap t w 64)
+      (sym (word-passed cap 64 w t fits))
+      (omega (arith, word-runs j e))
+      (sym (word-open cap 64 w t fits wide below ∙ open-gap 64 (t .off) (2 ^ 64 - 1 - w) cap n))
+
+  -- none passes
+  pub word-none : w ≡ 0 → record { passed = t .passed; pieces = t .pieces; off = 0 } ≡ tookBits cap t w 64
+  unfolding gaps
+  word-none e =
+      let n : ones w ≡ 0 = ap ones e ∙ ones-zero in
+      let i : inner w ≡ 0 = ap inner e ∙ inner-zero in
+      same-tally (tookBits cap t w 64)
+      (omega (arith, word-passed cap 64 w t fits))
+      (omega (arith, word-pieces cap 64 w t fits wide below, joins-none (t .off) (row 64 w) cap (row-none 64 w fits (omega arith))))
+      (leading-unique 64 (2 ^ 64 - 1 - w) 0 64 refl (omega arith) (omega arith)
+      ∙ sym (word-open cap 64 w t fits wide below ∙ open-gap 64 (t .off) (2 ^ 64 - 1 - w) cap (λ q. omega arith)))
+
+  -- all pass
+  pub word-whole : w ≡ 2 ^ 64 - 1 → (j : ℕ) → j ≡ joinsOf (t .off) 64 cap
+      → (j ≤ t .pieces + 1) × ((o : ℕ) → o ≡ cutOf (t .off + 64) cap → record { passed = t .passed + 64; pieces = t .pieces + 1 - j; off = o } ≡ tookBits cap t w 64)
+  unfolding gaps row inner
+  word-whole e j f =
+      let g : 2 ^ 64 - 1 - w ≡ 0 = omega arith in
+      let n : ones w ≡ 64 = ap ones e ∙ ones-ones 64 in
+      let i : ones (bitAnd w (w / 2)) ≡ 63 = ap (λ (x : ℕ). ones (bitAnd x (x / 2))) e ∙ ap ones (and-mask (2 ^ 64 - 1) 63) ∙ ones-ones 63 in
+      let r : joinsOf (t .off) (trailingZeros 64 (2 ^ 64 - 1 - w)) cap ≡ j = ap (λ (x : ℕ). joinsOf (t .off) (trailingZeros 64 x) cap) g ∙ ap (λ (x : ℕ). joinsOf (t .off) x cap) (trailing-of-zero 64) ∙ sym f in
+      let p = word-pieces cap 64 w t fits wide below in (
+        omega arith,
+        λ o h. same-tally (tookBits cap t w 64)
+            (omega (arith, word-passed cap 64 w t fits))
+            (omega arith)
+            (h ∙ sym (word-open cap 64 w t fits wide below ∙ open-cut 64 (t .off) (2 ^ 64 - 1 - w) cap g)),
+      )

@@ -1,7 +1,6 @@
 -- What a pass over places has met so far, and how it goes on.
 use Prim.Native.Nat.{ℕ, zero, suc, _+_, _-_, _/_, _%_}
 use mathlib.Core.Bool.{Bool}
-use lib.Count.{leadingZeros}
 use lib.Dec.{eqb, ltb}
 use Rattle.basis.specs.Choice.{pick, both}
 use Rattle.runs.specs.Runs.{count, off, starts}
@@ -29,6 +28,6 @@ tookBits cap t w (suc k) = tookBits cap (tookOf cap t (eqb (w % 2) 1)) (w / 2) k
 unfoldable pub joinsOf : ℕ → ℕ → ℕ → ℕ
 joinsOf off row cap = pick (eqb off 0) 0 (pick (eqb row 0) 0 (pick (ltb cap (off + row)) 0 1))
 
--- how much of a piece is open after k places, of which those fail whose bits are set in `gaps`
-unfoldable pub openOf : ℕ → ℕ → ℕ → ℕ → ℕ
-openOf k off gaps cap = pick (eqb gaps 0) (pick (ltb (off + k) cap) (off + k) (off + k - cap)) (leadingZeros k gaps)
+-- what is open of x that pass in a row, once a whole piece of cap is cut off
+unfoldable pub cutOf : ℕ → ℕ → ℕ
+cutOf x cap = pick (ltb x cap) x (x - cap)

@@ -1,33 +1,52 @@
--- `took_word` meets its contract: the runs of a word start a piece each, but for one that goes on from before.
+-- `took_word` meets its contract: each run of a word starts a piece, but for one that goes on from before.
+use Prim.Native.Nat.{ℕ, _-_}
+use mathlib.Core.Path.{_≡_, ap, _∙_}
 use native.Mathlib.Omega.{arith}
 use borrow.Author.Needs.{needs}
-use Prim.Native.Nat.{_-_}
 use lib.Count.{ones-le, trailing-le}
-use Rattle.runs.proofs.WordSteps.{word-runs, word-took}
+use Rattle.runs.specs.Tally.{tookBits}
+use Rattle.runs.proofs.WordSteps.{word-runs, word-none, word-mixed}
 use Rattle.runs.proofs.tally.Tally.took_word.Statement.{statement}
 use Rattle.runs.proofs.tally.Tally.took_word.Tie as tie
 
-joins-requires : tie.Need-joins-requires
-joins-requires c κs = omega (arith, trailing-le 64 (18446744073709551615 - c .args .word))
+returns : tie.Need-returns
+returns c = word-none (c .before .args .cap) (c .before .args .word) (c .before .args .self) (omega arith) (omega arith) (omega arith) (c .if1 .taken)
 
-add-t10 : tie.Need-add-t10
-add-t10 c = omega (arith, ones-le 64 (c .before .before .args .word) (omega arith))
+took-whole-requires : tie.Need-took-whole-requires
+took-whole-requires c κs = search needs
+
+returns-2 : tie.Need-returns-2
+returns-2 c = let e : 18446744073709551615 ≡ c .before .before .before .args .word = omega arith in
+    c .took-whole .ensures ∙ ap (λ (w : ℕ). tookBits (c .before .before .before .args .cap) (c .before .before .before .args .self) w 64) e
+
+joins-requires : tie.Need-joins-requires
+joins-requires c κs = omega (arith, trailing-le 64 (18446744073709551615 - c .before .before .args .word))
 
 add-t11 : tie.Need-add-t11
-add-t11 c = omega (arith, ones-le 64 (c .before .before .before .args .word) (omega arith))
+add-t11 c = omega (arith, ones-le 64 (c .before .before .before .before .args .word) (omega arith))
 
-sub-t12 : tie.Need-sub-t12
-sub-t12 c = omega (arith, word-runs (c .before .before .before .args .cap) (c .before .before .before .args .word) (c .before .before .before .args .self) (omega arith) (omega arith) (omega arith) (c .before .before .joins .result) (c .before .before .joins .ensures))
+add-t12 : tie.Need-add-t12
+add-t12 c = omega (arith, ones-le 64 (c .before .before .before .before .before .args .word) (omega arith))
 
 sub-t13 : tie.Need-sub-t13
-sub-t13 c = omega (arith, word-runs (c .before .before .before .args .cap) (c .before .before .before .args .word) (c .before .before .before .args .self) (omega arith) (omega arith) (omega arith) (c .before .before .joins .result) (c .before .before .joins .ensures))
+sub-t13 c = omega (arith, word-runs (c .before .before .before .before .before .args .cap) (c .before .before .before .before .before .args .word) (c .before .before .before .before .before .args .self) (omega arith) (omega arith) (omega arith) (c .before .before .joins .result) (c .before .before .joins .ensures))
 
-open-requires : tie.Need-open-requires
-open-requires c κs = search needs
+sub-t14 : tie.Need-sub-t14
+sub-t14 c = omega (arith, word-runs (c .before .before .before .before .before .args .cap) (c .before .before .before .before .before .args .word) (c .before .before .before .before .before .args .self) (omega arith) (omega arith) (omega arith) (c .before .before .joins .result) (c .before .before .joins .ensures))
 
-returns : tie.Need-returns
-returns c = word-took (c .before .before .before .before .args .cap) (c .before .before .before .before .args .word) (c .before .before .before .before .args .self) (omega arith) (omega arith) (omega arith) (c .before .before .before .joins .result) (c .before .before .before .joins .ensures) (c .«open» .result) (c .«open» .ensures)
+returns-3 : tie.Need-returns-3
+returns-3 c = word-mixed (c .before .before .before .before .before .args .cap) (c .before .before .before .before .before .args .word) (c .before .before .before .before .before .args .self) (omega arith) (omega arith) (omega arith) (c .before .before .joins .result) (c .before .before .joins .ensures) (c .before .before .before .if2 .left)
 
 pub took-word-spec : {M : Type 1} → statement M
 took-word-spec =
-    tie.close (tie.spec joins-requires add-t10 add-t11 sub-t12 sub-t13 open-requires returns)
+    tie.close
+    (tie.spec
+    returns
+    took-whole-requires
+    returns-2
+    joins-requires
+    add-t11
+    add-t12
+    sub-t13
+    sub-t14
+    returns-3)
