@@ -1,6 +1,6 @@
 // Touched pages in order: those that hold a named byte, the next one, and how many stand in a row.
 ghost use mathlib.Core.Path.{_≡_};
-ghost use Prim.Native.Nat.{_+_, _-_, _*_, _^_, _<_, _≤_};
+ghost use Prim.Native.Nat.{_+_, _-_, _*_, _%_, _^_, _<_, _≤_};
 ghost use lib.ListN.{length};
 ghost use Rattle.basis.specs.Units.{startOf};
 ghost use Rattle.runs.specs.Pages.{touched};
@@ -34,15 +34,19 @@ pub fn next_touched(map: &[u8], from: Page, limit: Page) -> Page
     Page(at)
 }
 
-// How many touched pages stand in a row from `from` on, at most `cap`, which the map has.
+// How many touched pages stand in a row from `from` on, at most `cap`.
 pub fn page_run_len(map: &[u8], from: Page, cap: u32) -> u32
-    requires { ⌜ (from .0 + cap < 2 ^ 23) × (startOf (from .0 + cap) ≤ 8 * length (now map)) ⌝ }
+    requires { ⌜ (from .0 + cap < 2 ^ 23) × (length (now map) % 64 ≡ 0) ⌝ }
     ensures { λ r. ⌜ r ≡ len (touched (now (map .entry))) (from .0) cap ⌝ }
 {
     let start = from.0;
     let mut n: u32 = 0;
     while n < cap {
-        if !touched(map, Page(start + n)) {
+        let page = start + n;
+        if map.len() / 64 <= page as usize {
+            return n;
+        }
+        if !touched(map, Page(page)) {
             return n;
         }
         n += 1;

@@ -143,7 +143,11 @@ module _ (p : ℕ → Bool) (cap : ℕ) where
       (λ d. absurd (omega (arith, starts-off u k .1, piece-place s u h (omega arith) (ltb-true _ _ d))))
       (λ d. ltb-false _ _ d)
 
-  -- a piece starts where its run does, or where a whole piece of cap ends
+  -- where a run starts, a piece does
+  pub run-starts : (b : ℕ) → p b ≡ false → p (suc b) ≡ true → starts p cap (suc b) ≡ true
+  run-starts b f t = starts-at (suc b) t (off-false b f)
+
+  -- and elsewhere only where a whole piece of cap ends
   pub piece-cut : 0 < cap → (b : ℕ) → starts p cap (suc b) ≡ true → p b ≡ true
       → (starts p cap (home p cap b) ≡ true) × (len p (home p cap b) cap ≡ cap) × (home p cap b + cap ≡ suc b)
   piece-cut z b h t =
