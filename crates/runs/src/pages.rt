@@ -6,7 +6,6 @@ ghost use Rattle.basis.specs.Units.{startOf};
 ghost use Rattle.runs.specs.Pages.{touched};
 ghost use Rattle.runs.specs.Runs.{next, len};
 use crate::places::next_named;
-use basis::units::Address;
 use basis::units::Page;
 
 // Whether the page holds a named byte.

@@ -1,4 +1,4 @@
-// Passes over the map: word by word, place by place, and page by page.
+// Passes over the map: word by word, place by place, and page by page. The bounds keep the counts in 32 bits.
 ghost use mathlib.Core.Path.{_≡_};
 ghost use Prim.Native.Nat.{_+_, _*_, _^_, _<_, _≤_};
 ghost use lib.ListN.{length};

@@ -32,7 +32,7 @@ pub struct Surveyed {
     pub piece: bool,
 }
 
-// Surveys the whole map, and ranks the address and its page.
+// Surveys the whole map in one pass, which halts before and behind the page of `at` to rank both.
 pub fn survey(map: &[u8], at: Address) -> Surveyed
     requires { ⌜ (length (now map) ≡ mapSize) × (at .0 < flashSize) ⌝ }
     ensures { λ r. ⌜ r ≡ surveyOf (now (map .entry)) (at .0) ⌝ }

@@ -8,7 +8,7 @@ use Rattle.basis.specs.Units.{pageOf, startOf}
 use Rattle.runs.specs.Map.{named}
 use Rattle.runs.specs.Pages.{touched}
 use Rattle.runs.specs.Pieces.{pieceMost, runStarts, pieceStarts}
-use Rattle.runs.specs.Survey.{passAt, countsAt, surveyOf}
+use Rattle.runs.specs.Survey.{passAt, surveyOf}
 use Rattle.runs.specs.Tally.{tallyAt}
 use Rattle.runs.specs.Laws.Runs.{count-tells}
 use Rattle.runs.specs.Laws.Tally.{tally-none}
@@ -42,6 +42,6 @@ pub surveyed : (m : List ℕ) (a q : ℕ) {below here all : Pass} {place next : 
       run = ltb (below .pages .pieces) (here .pages .pieces);
       piece = ltb (place .pieces) (next .pieces);
     } ≡ surveyOf m a
-unfolding surveyOf countsAt passAt tallyAt
+unfolding surveyOf passAt tallyAt
 surveyed m a q f e b h p n =
     rw (e, b, h, p, n, f, count-tells (runStarts m) (pageOf a), count-tells (pieceStarts m) a)

@@ -23,7 +23,9 @@ abbrev μ-loop : tie.MeasureT-loop
 μ-loop map bytes₀ pages₀ end page₀ bytes pages page = end - page
 
 loop-holds : tie.Need-loop-holds Inv-loop μ-loop
-loop-holds c = (search needs, pass-bytes _ _ (c .before .before .before .pre .3), pass-pages _ _ (c .before .before .before .pre .3))
+loop-holds c =
+    let pre = c .before .before .before .pre in
+    (search needs, pass-bytes _ _ (pre .3), pass-pages _ _ (pre .3))
 
 cast-first : tie.Need-cast-first Inv-loop μ-loop
 cast-first c = search needs
@@ -35,11 +37,15 @@ add-over-words : tie.Need-add-over-words Inv-loop μ-loop
 add-over-words c = search needs
 
 over-words-requires : tie.Need-over-words-requires Inv-loop μ-loop
-over-words-requires c κs = let e : startOf (c .before .loop .page) ≡ 64 * (8 * c .before .loop .page) = omega arith in
-    (omega arith, omega arith, omega arith, c .before .loop .inv .1 ∙ ap (tallyAt (named (c .before .before .before .before .before .args .map .now)) pieceMost) e)
+over-words-requires c κs =
+    let l = c .before .loop in
+    let e : startOf (l .page) ≡ 64 * (8 * l .page) = omega arith in
+    (omega arith, omega arith, omega arith, l .inv .1 ∙ ap (tallyAt (named (c .before .before .before .before .before .args .map .now)) pieceMost) e)
 
 took-requires : tie.Need-took-requires Inv-loop μ-loop
-took-requires c κs = let l = tally-le (touched (c .before .before .before .before .before .before .before .before .args .map .now)) Board.pages (omega arith) (c .before .before .before .before .loop .page) (c .before .before .before .before .loop .inv .2) in
+took-requires c κs =
+    let l = c .before .before .before .before .loop in
+    let t = tally-le (touched (c .before .before .before .before .before .before .before .before .args .map .now)) Board.pages (omega arith) (l .page) (l .inv .2) in
     omega arith
 
 add-page : tie.Need-add-page Inv-loop μ-loop
@@ -49,14 +55,20 @@ loop-less : tie.Need-loop-less Inv-loop μ-loop
 loop-less c = search needs
 
 loop-again : tie.Need-loop-again Inv-loop μ-loop
-loop-again c = let m = c .before .before .before .before .before .before .before .before .before .args .map .now in
-    let e : 64 * (8 * c .before .before .before .before .before .loop .page + 8) ≡ startOf (c .before .before .before .before .before .loop .page + 1) = omega arith in
+loop-again c =
+    let m = c .before .before .before .before .before .before .before .before .before .args .map .now in
+    let l = c .before .before .before .before .before .loop in
+    let e : 64 * (8 * l .page + 8) ≡ startOf (l .page + 1) = omega arith in
     let next = c .before .before .before .over-words .ensures ∙ ap (tallyAt (named m) pieceMost) e in
-    (search needs, next, tally-again (touched m) Board.pages (c .before .before .before .before .before .loop .page) (c .before .before .before .before .before .loop .inv .2) (tallies-touched m pieceMost (c .before .before .before .before .before .loop .page) (c .before .before .before .before .before .loop .inv .1) next) (c .took .ensures))
+    let grew = tallies-touched m pieceMost (l .page) (l .inv .1) next in
+    (search needs, next, tally-again (touched m) Board.pages (l .page) (l .inv .2) grew (c .took .ensures))
 
 returns : tie.Need-returns Inv-loop μ-loop
-returns c = let e : c .before .loop .page ≡ c .before .before .before .before .before .args .to .0 = omega arith in
-    pass-of _ _ (c .before .loop .inv .1) (c .before .loop .inv .2) ∙ ap (passAt (c .before .before .before .before .before .args .map .now)) e
+returns c =
+    let g = c .before .before .before .before .before .args in
+    let l = c .before .loop in
+    let e : l .page ≡ g .to .0 = omega arith in
+    pass-of _ _ (l .inv .1) (l .inv .2) ∙ ap (passAt (g .map .now)) e
 
 pub over-pages-spec : {M : Type 1} → statement M
 over-pages-spec =

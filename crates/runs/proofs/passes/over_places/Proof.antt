@@ -23,7 +23,9 @@ named-requires : tie.Need-named-requires Inv-loop μ-loop
 named-requires c κs = search needs
 
 took-requires : tie.Need-took-requires Inv-loop μ-loop
-took-requires c κs = let l = tally-le (named (c .before .before .before .before .args .map .now)) pieceMost (omega arith) (c .before .before .loop .at) (c .before .before .loop .inv .1) in
+took-requires c κs =
+    let l = c .before .before .loop in
+    let t = tally-le (named (c .before .before .before .before .args .map .now)) pieceMost (omega arith) (l .at) (l .inv .1) in
     omega arith
 
 add-at : tie.Need-add-at Inv-loop μ-loop
@@ -33,11 +35,15 @@ loop-less : tie.Need-loop-less Inv-loop μ-loop
 loop-less c = search needs
 
 loop-again : tie.Need-loop-again Inv-loop μ-loop
-loop-again c = (search needs, tally-again (named (c .before .before .before .before .before .args .map .now)) pieceMost (c .before .before .before .loop .at) (c .before .before .before .loop .inv .1) (c .before .named .ensures) (c .took .ensures))
+loop-again c =
+    let l = c .before .before .before .loop in
+    (search needs, tally-again (named (c .before .before .before .before .before .args .map .now)) pieceMost (l .at) (l .inv .1) (c .before .named .ensures) (c .took .ensures))
 
 returns : tie.Need-returns Inv-loop μ-loop
-returns c = let e : c .before .loop .at ≡ c .before .before .before .args .to .0 = omega arith in
-    c .before .loop .inv .1 ∙ ap (tallyAt (named (c .before .before .before .args .map .now)) pieceMost) e
+returns c =
+    let g = c .before .before .before .args in
+    let e : c .before .loop .at ≡ g .to .0 = omega arith in
+    c .before .loop .inv .1 ∙ ap (tallyAt (named (g .map .now)) pieceMost) e
 
 pub over-places-spec : {M : Type 1} → statement M
 over-places-spec =

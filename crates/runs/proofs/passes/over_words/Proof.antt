@@ -3,6 +3,7 @@ use Prim.Native.Nat.{ℕ, _+_, _*_, _-_, _≤_}
 use mathlib.Core.Path.{_≡_, ap, _∙_}
 use native.Mathlib.Omega.{arith}
 use borrow.Author.Needs.{needs}
+use Rattle.basis.specs.Lists.{Bytes}
 use Rattle.runs.specs.Map.{named}
 use Rattle.runs.specs.Pieces.{pieceMost}
 use Rattle.runs.specs.Tally.{tallyAt}
@@ -27,7 +28,9 @@ word-requires : tie.Need-word-requires Inv-loop μ-loop
 word-requires c κs = search needs
 
 took-word-requires : tie.Need-took-word-requires Inv-loop μ-loop
-took-word-requires c κs = let l = tally-le (named (c .before .before .before .before .args .map .now)) pieceMost (omega arith) (64 * c .before .before .loop .i) (c .before .before .loop .inv .1) in
+took-word-requires c κs =
+    let l = c .before .before .loop in
+    let t = tally-le (named (c .before .before .before .before .args .map .now)) pieceMost (omega arith) (64 * l .i) (l .inv .1) in
     omega arith
 
 add-i : tie.Need-add-i Inv-loop μ-loop
@@ -37,11 +40,17 @@ loop-less : tie.Need-loop-less Inv-loop μ-loop
 loop-less c = search needs
 
 loop-again : tie.Need-loop-again Inv-loop μ-loop
-loop-again c = (search needs, word-again (c .before .before .before .before .before .args .map .now) pieceMost (c .before .before .before .loop .i) (λ k. omega (arith, c .before .before .before .before .shared-slice-known .given k)) (c .before .before .before .loop .inv .1) (c .before .word .ensures) (c .took-word .ensures))
+loop-again c =
+    let g = c .before .before .before .before .before .args in
+    let l = c .before .before .before .loop in
+    let bytes : Bytes (g .map .now) = λ k. omega (arith, c .before .before .before .before .shared-slice-known .given k) in
+    (search needs, word-again (g .map .now) pieceMost (l .i) bytes (l .inv .1) (c .before .word .ensures) (c .took-word .ensures))
 
 returns : tie.Need-returns Inv-loop μ-loop
-returns c = let e : c .before .loop .i ≡ c .before .before .before .args .to = omega arith in
-    c .before .loop .inv .1 ∙ ap (λ (n : ℕ). tallyAt (named (c .before .before .before .args .map .now)) pieceMost (64 * n)) e
+returns c =
+    let g = c .before .before .before .args in
+    let e : c .before .loop .i ≡ g .to = omega arith in
+    c .before .loop .inv .1 ∙ ap (λ (n : ℕ). tallyAt (named (g .map .now)) pieceMost (64 * n)) e
 
 pub over-words-spec : {M : Type 1} → statement M
 over-words-spec =

@@ -1,4 +1,4 @@
--- `survey` meets its contract: the passes meet at the place's page, and the counts grow where a run or a piece starts.
+-- `survey` meets its contract: the pass halts at the place's page, and the counts grow where a run or a piece starts.
 use native.Mathlib.Omega.{arith}
 use borrow.Author.Needs.{needs}
 use Rattle.runs.specs.Laws.Survey.{pass-none, pass-bytes, surveyed}
@@ -30,7 +30,11 @@ over-places-requires : tie.Need-over-places-requires
 over-places-requires c κs = search needs
 
 returns : tie.Need-returns
-returns c = surveyed _ _ _ (c .before .before .before .before .before .before .before .before .before .before .before .page .ensures) (c .before .before .before .before .before .before .before .before .before .over-pages .ensures) (c .before .before .before .before .before .before .before .before .over-pages2 .ensures) (c .before .before .before .before .before .before .before .over-pages3 .ensures) (c .before .before .before .before .before .before .up-to .ensures) (c .before .before .before .before .over-places .ensures)
+returns c =
+    let p = c .before .before .before .before .before .before .before .over-pages3 in
+    let q = c .before .before .before .before .before .before .before .before .over-pages2 in
+    let r = c .before .before .before .before .before .before .before .before .before .over-pages in
+    surveyed _ _ _ (c .before .before .before .before .before .before .before .before .before .before .before .page .ensures) (r .ensures) (q .ensures) (p .ensures) (c .before .before .before .before .before .before .up-to .ensures) (c .before .before .before .before .over-places .ensures)
 
 pub survey-spec : {M : Type 1} → statement M
 survey-spec =

@@ -28,7 +28,9 @@ add-result : tie.Need-add-result
 add-result c = search needs
 
 returns : tie.Need-returns
-returns c = ap₂ (λ (a b : ℕ). a * 0x1_0000_0000 + b) (c .quad2 .ensures) (c .before .quad .ensures) ∙ word-join (c .before .before .before .args .map .now) 4 (c .before .before .before .args .at) 4
+returns c =
+    let g = c .before .before .before .args in
+    ap₂ (λ (a b : ℕ). a * 0x1_0000_0000 + b) (c .quad2 .ensures) (c .before .quad .ensures) ∙ word-join (g .map .now) 4 (g .at) 4
 
 pub word-spec : {M : Type 1} → statement M
 word-spec =

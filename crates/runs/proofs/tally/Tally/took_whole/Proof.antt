@@ -1,4 +1,5 @@
 -- `took_whole` meets its contract: a word that is all one run.
+use Prim.Native.Nat.{_-_, _^_}
 use mathlib.Core.Path.{refl}
 use native.Mathlib.Omega.{arith}
 use borrow.Author.Needs.{needs}
@@ -16,7 +17,10 @@ add-t5 : tie.Need-add-t5
 add-t5 c = search needs
 
 sub-t6 : tie.Need-sub-t6
-sub-t6 c = word-whole (c .before .before .before .args .cap) 18446744073709551615 (c .before .before .before .args .self) (omega arith) (omega arith) (omega arith) refl (c .before .before .joins .result) (c .before .before .joins .ensures) .0
+sub-t6 c =
+    let g = c .before .before .before .args in
+    let j = c .before .before .joins in
+    word-whole (g .cap) (2 ^ 64 - 1) (g .self) (omega arith) (omega arith) (omega arith) refl (j .result) (j .ensures) .0
 
 add-cut : tie.Need-add-cut
 add-cut c = search needs
@@ -25,7 +29,10 @@ cut-requires : tie.Need-cut-requires
 cut-requires c κs = search needs
 
 returns : tie.Need-returns
-returns c = word-whole (c .before .before .before .before .before .args .cap) 18446744073709551615 (c .before .before .before .before .before .args .self) (omega arith) (omega arith) (omega arith) refl (c .before .before .before .before .joins .result) (c .before .before .before .before .joins .ensures) .1 (c .cut .result) (c .cut .ensures)
+returns c =
+    let g = c .before .before .before .before .before .args in
+    let j = c .before .before .before .before .joins in
+    word-whole (g .cap) (2 ^ 64 - 1) (g .self) (omega arith) (omega arith) (omega arith) refl (j .result) (j .ensures) .1 (c .cut .result) (c .cut .ensures)
 
 pub took-whole-spec : {M : Type 1} → statement M
 took-whole-spec =

@@ -10,14 +10,18 @@ use Rattle.runs.proofs.tally.Tally.took_word.Statement.{statement}
 use Rattle.runs.proofs.tally.Tally.took_word.Tie as tie
 
 returns : tie.Need-returns
-returns c = word-none (c .before .args .cap) (c .before .args .word) (c .before .args .self) (omega arith) (omega arith) (omega arith) (c .if1 .taken)
+returns c =
+    let g = c .before .args in
+    word-none (g .cap) (g .word) (g .self) (omega arith) (omega arith) (omega arith) (c .if1 .taken)
 
 took-whole-requires : tie.Need-took-whole-requires
 took-whole-requires c κs = search needs
 
 returns-2 : tie.Need-returns-2
-returns-2 c = let e : 18446744073709551615 ≡ c .before .before .before .args .word = omega arith in
-    c .took-whole .ensures ∙ ap (λ (w : ℕ). tookBits (c .before .before .before .args .cap) (c .before .before .before .args .self) w 64) e
+returns-2 c =
+    let g = c .before .before .before .args in
+    let e : 18446744073709551615 ≡ g .word = omega arith in
+    c .took-whole .ensures ∙ ap (λ (w : ℕ). tookBits (g .cap) (g .self) w 64) e
 
 joins-requires : tie.Need-joins-requires
 joins-requires c κs = omega (arith, trailing-le 64 (18446744073709551615 - c .before .before .args .word))
@@ -29,13 +33,22 @@ add-t12 : tie.Need-add-t12
 add-t12 c = omega (arith, ones-le 64 (c .before .before .before .before .before .args .word) (omega arith))
 
 sub-t13 : tie.Need-sub-t13
-sub-t13 c = omega (arith, word-runs (c .before .before .before .before .before .args .cap) (c .before .before .before .before .before .args .word) (c .before .before .before .before .before .args .self) (omega arith) (omega arith) (omega arith) (c .before .before .joins .result) (c .before .before .joins .ensures))
+sub-t13 c =
+    let g = c .before .before .before .before .before .args in
+    let j = c .before .before .joins in
+    omega (arith, word-runs (g .cap) (g .word) (g .self) (omega arith) (omega arith) (omega arith) (j .result) (j .ensures))
 
 sub-t14 : tie.Need-sub-t14
-sub-t14 c = omega (arith, word-runs (c .before .before .before .before .before .args .cap) (c .before .before .before .before .before .args .word) (c .before .before .before .before .before .args .self) (omega arith) (omega arith) (omega arith) (c .before .before .joins .result) (c .before .before .joins .ensures))
+sub-t14 c =
+    let g = c .before .before .before .before .before .args in
+    let j = c .before .before .joins in
+    omega (arith, word-runs (g .cap) (g .word) (g .self) (omega arith) (omega arith) (omega arith) (j .result) (j .ensures))
 
 returns-3 : tie.Need-returns-3
-returns-3 c = word-mixed (c .before .before .before .before .before .args .cap) (c .before .before .before .before .before .args .word) (c .before .before .before .before .before .args .self) (omega arith) (omega arith) (omega arith) (c .before .before .joins .result) (c .before .before .joins .ensures) (c .before .before .before .if2 .left)
+returns-3 c =
+    let g = c .before .before .before .before .before .args in
+    let j = c .before .before .joins in
+    word-mixed (g .cap) (g .word) (g .self) (omega arith) (omega arith) (omega arith) (j .result) (j .ensures) (c .before .before .before .if2 .left)
 
 pub took-word-spec : {M : Type 1} → statement M
 took-word-spec =
