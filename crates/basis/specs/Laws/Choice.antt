@@ -1,6 +1,8 @@
 -- Laws of choice.
 use mathlib.Core.Bool.{Bool, true, false}
+use Prim.Native.Nat.{ℕ}
 use mathlib.Core.Path.{_≡_, refl}
+use native.Mathlib.Omega.{arith}
 use Rattle.basis.specs.Choice.{both}
 
 -- a case split that keeps its equation
@@ -17,3 +19,7 @@ both-second a b e = simp e
 
 pub both-false : (a b : Bool) → a ≡ false → both a b ≡ false
 both-false a b e = simp e
+
+-- no test both holds and fails
+pub true-false : _≡_ {A = Bool} true false → ⊥
+true-false e = let z : _≡_ {A = ℕ} 0 1 = cc in omega arith
