@@ -1,1 +1,5 @@
 pub mod Map
+pub mod Runs
+pub mod Pieces
+pub mod Pages
+pub mod Files

@@ -1,6 +1,8 @@
 -- Laws of choice.
+use Prim.Native.Nat.{ℕ}
 use mathlib.Core.Bool.{Bool, true, false, _||_}
 use mathlib.Core.Path.{_≡_, refl}
+use native.Mathlib.Omega.{arith}
 use Rattle.basis.specs.Choice.{both, either}
 
 -- a case split that keeps its equation
@@ -21,3 +23,7 @@ both-false a b e = simp e
 pub or-either : (a b : Bool) → a || b ≡ either a b
 or-either true b = refl
 or-either false b = refl
+
+-- no test both holds and fails
+pub true-false : _≡_ {A = Bool} true false → ⊥
+true-false e = let z : _≡_ {A = ℕ} 0 1 = cc in omega arith
