@@ -27,3 +27,17 @@ or-either false b = refl
 -- no test both holds and fails
 pub true-false : _≡_ {A = Bool} true false → ⊥
 true-false e = let z : _≡_ {A = ℕ} 0 1 = cc in omega arith
+
+pub either-first : (a b : Bool) → a ≡ true → either a b ≡ true
+either-first a b e = simp e
+
+pub either-second : (a b : Bool) → b ≡ true → either a b ≡ true
+either-second true b e = refl
+either-second false b e = e
+
+pub either-false : (a b : Bool) → a ≡ false → b ≡ false → either a b ≡ false
+either-false a b e f = simp e f
+
+pub either-none : (a b : Bool) → either a b ≡ false → (a ≡ false) × (b ≡ false)
+either-none true b e = (e, cc)
+either-none false b e = (refl, e)

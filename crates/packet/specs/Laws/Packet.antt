@@ -135,3 +135,11 @@ accepted s p e =
       shape = t .1;
       says = cc (t .2);
     }
+
+-- the data lie within the input
+pub data-within : (s : List ℕ) (p : Parts) → readOf s ≡ given p → p .place + p .size ≤ length s
+data-within s p e =
+    let r = accepted s p e in
+    let a : p .place ≡ 8 = sym (ap (λ (x : Parts). x .place) (r .says)) in
+    let b : p .size ≡ count s - 5 = sym (ap (λ (x : Parts). x .size) (r .says)) in
+    omega arith

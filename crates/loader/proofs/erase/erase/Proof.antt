@@ -1,0 +1,90 @@
+-- `erase` meets its contract: the sequence first, then the mass erase, then the table of 7 and 8.
+use Prim.Native.Nat.{ℕ, _*_}
+use mathlib.Core.Path.{refl, ap, sym, _∙_}
+use native.Mathlib.Omega.{arith}
+use borrow.Author.Needs.{needs}
+use Rattle.basis.specs.Board.{pages}
+use Rattle.basis.specs.Laws.Refusals.{alike, through}
+use Rattle.basis.specs.Refusals.{given}
+use Rattle.basis.specs.Units.{startOf}
+use Rattle.image.specs.Flash.{eraseOf}
+use Rattle.loader.specs.Laws.Commands.{leaves-all, does, erase-let, erasing-open, erasing-mass, erasing-pages}
+use Rattle.loader.specs.Paper.{paperVerdict}
+use Rattle.loader.proofs.erase.erase.Statement.{statement}
+use Rattle.loader.proofs.erase.erase.Tie as tie
+
+returns : tie.Need-returns
+returns c = let a = c .before .before .args in leaves-all _ _ (erasing-open pages (a .loader) (a .address .0) (a .count) (a .flash .now) (c .if1 .taken))
+
+is-mass-requires : tie.Need-is-mass-requires
+is-mass-requires c κs = search needs
+
+mass-erase-requires : tie.Need-mass-erase-requires
+mass-erase-requires c κs = search needs
+
+same-length : tie.Need-same-length
+same-length c = search needs
+
+returns-2 : tie.Need-returns-2
+returns-2 c = let a = c .before .before .before .before .before .before .before .before .args in does _ _ (erasing-mass pages (a .loader) (a .address .0) (a .count) (a .flash .now) (c .before .before .before .before .before .before .if1 .left) (sym (c .before .before .before .before .before .is-mass .ensures) ∙ c .before .before .before .before .if2 .taken)) (c .before .before .mass-erase .ensures .0) (c .before .before .mass-erase .ensures .1) (c .before .before .mass-erase .ensures .2)
+
+judge-requires : tie.Need-judge-requires
+judge-requires c κs = search needs
+
+enum-known-why : tie.Need-enum-known-why
+enum-known-why c = search needs
+
+enum-told : tie.Need-enum-told
+enum-told c = search needs
+
+page-requires : tie.Need-page-requires
+page-requires c κs = search needs
+
+start-requires : tie.Need-start-requires
+start-requires c κs = search needs
+
+cast-erase : tie.Need-cast-erase
+cast-erase c = search needs
+
+mul-erase : tie.Need-mul-erase
+mul-erase c = search needs
+
+erase-requires : tie.Need-erase-requires
+erase-requires c κs = let a = c .before .before .before .before .before .before .before .before .before .before .before .args in
+    let e = erase-let pages (a .loader) (a .address .0) (a .count) (given tt) (sym (c .before .before .before .before .before .before .judge .ensures) ∙ ap paperVerdict (c .before .before .before .before .enum-told .given .1)) in
+    omega (arith, e .0, e .1, c .before .before .before .before .before .before .before .before .before .before .before .pre, c .before .start .ensures, c .before .before .page .ensures)
+
+returns-3 : tie.Need-returns-3
+returns-3 c = let a = c .before .before .before .before .before .before .before .before .args in leaves-all _ _ (erasing-pages pages (a .loader) (a .address .0) (a .count) (a .flash .now) (c .before .before .before .before .before .before .if1 .left) (sym (c .before .before .before .before .before .is-mass .ensures) ∙ c .before .before .before .before .if2 .left) ∙ alike _ _ _ (sym (c .before .before .before .judge .ensures) ∙ ap paperVerdict (c .before .why .given .1)))
+
+same-length-2 : tie.Need-same-length-2
+same-length-2 c = search needs
+
+returns-4 : tie.Need-returns-4
+returns-4 c = let a = c .before .before .before .before .before .before .before .before .before .before .before .before .before .before .args in
+    does _ _
+    (erasing-pages pages (a .loader) (a .address .0) (a .count) (a .flash .now) (c .before .before .before .before .before .before .before .before .before .before .before .before .if1 .left) (sym (c .before .before .before .before .before .before .before .before .before .before .before .is-mass .ensures) ∙ c .before .before .before .before .before .before .before .before .before .before .if2 .left)
+    ∙ through _ _ _ (sym (c .before .before .before .before .before .before .before .before .before .judge .ensures) ∙ ap paperVerdict (c .before .before .before .before .before .before .before .enum-told .given .1)))
+    refl refl
+    (c .before .before .erase .ensures ∙ ap (λ (s : ℕ). eraseOf (a .flash .now) s (a .count * 512)) (c .before .before .before .before .start .ensures ∙ ap startOf (c .before .before .before .before .before .page .ensures)))
+
+pub erase-spec : {M : Type 1} → statement M
+erase-spec =
+    tie.close
+    (tie.spec
+    returns
+    is-mass-requires
+    mass-erase-requires
+    same-length
+    returns-2
+    judge-requires
+    enum-known-why
+    enum-told
+    page-requires
+    start-requires
+    cast-erase
+    mul-erase
+    erase-requires
+    returns-3
+    same-length-2
+    returns-4)

@@ -1,0 +1,72 @@
+-- `judge` meets its contract: each test is a row of the table, and the groups asked for are those of the pages.
+use Prim.Native.Nat.{ℕ, _+_, _-_}
+use mathlib.Core.Path.{_≡_, ap, ap₂, sym, _∙_}
+use native.Mathlib.Omega.{arith}
+use borrow.Author.Needs.{needs}
+use Rattle.basis.specs.Board.{pages}
+use Rattle.basis.specs.Refusals.{given}
+use Rattle.basis.specs.Units.{pageOf, pageGroupOf}
+use Rattle.loader.specs.Commands.{protectedPages}
+use Rattle.loader.specs.Laws.Commands.{erase-none, erase-past, erase-over, erase-protected, erase-passes}
+use Rattle.loader.specs.Protection.{anyOf}
+use Rattle.loader.proofs.erase.judge.Statement.{statement}
+use Rattle.loader.proofs.erase.judge.Tie as tie
+
+-- the groups asked for are those of the pages
+spanned : (c : tie.After-any) → let a = c .before .before .before .before .before .before .before .before .before .args in c .any .result ≡ protectedPages (a .loader .protection) (pageOf (a .address .0)) (pageOf (a .address .0) + a .count)
+spanned c =
+    let a = c .before .before .before .before .before .before .before .before .before .args in
+    let p = c .before .before .before .before .before .before .before .before .page .ensures in
+    c .any .ensures
+    ∙ ap₂ (λ (g h : ℕ). anyOf (a .loader .protection .groups) g (h - g))
+    (c .before .before .group .ensures ∙ ap pageGroupOf p)
+    (c .before .group2 .ensures ∙ ap (λ (x : ℕ). pageGroupOf (x + a .count + 3)) p)
+
+page-requires : tie.Need-page-requires
+page-requires c κs = search needs
+
+add-end : tie.Need-add-end
+add-end c = search needs
+
+returns : tie.Need-returns
+returns c = let a = c .before .before .args in sym (erase-none pages (a .loader) (a .address .0) (a .count) (given tt) (c .if1 .taken))
+
+returns-2 : tie.Need-returns-2
+returns-2 c = let a = c .before .before .before .before .args in sym (erase-past pages (a .loader) (a .address .0) (a .count) (given tt) (c .if2 .taken))
+
+returns-3 : tie.Need-returns-3
+returns-3 c = let a = c .before .before .before .before .before .args in sym (erase-over pages (a .loader) (a .address .0) (a .count) (given tt) (omega (arith, c .before .before .before .before .page .ensures, c .if3 .taken)))
+
+group-requires : tie.Need-group-requires
+group-requires c κs = search needs
+
+add-t8 : tie.Need-add-t8
+add-t8 c = search needs
+
+group-requires-2 : tie.Need-group-requires-2
+group-requires-2 c κs = search needs
+
+any-requires : tie.Need-any-requires
+any-requires c κs = search needs
+
+returns-4 : tie.Need-returns-4
+returns-4 c = let a = c .before .before .before .before .before .before .before .before .before .before .args in sym (erase-protected pages (a .loader) (a .address .0) (a .count) (given tt) (c .before .before .before .before .before .before .before .before .if1 .left) (c .before .before .before .before .before .before .if2 .left) (omega (arith, c .before .before .before .before .before .before .before .before .before .page .ensures, c .before .before .before .before .before .if3 .left)) (sym (spanned (c .before)) ∙ c .if4 .taken))
+
+returns-5 : tie.Need-returns-5
+returns-5 c = let a = c .before .before .before .before .before .before .before .before .before .before .args in sym (erase-passes pages (a .loader) (a .address .0) (a .count) (given tt) (c .before .before .before .before .before .before .before .before .if1 .left) (c .before .before .before .before .before .before .if2 .left) (omega (arith, c .before .before .before .before .before .before .before .before .before .page .ensures, c .before .before .before .before .before .if3 .left)) (sym (spanned (c .before)) ∙ c .if4 .left))
+
+pub judge-spec : {M : Type 1} → statement M
+judge-spec =
+    tie.close
+    (tie.spec
+    page-requires
+    add-end
+    returns
+    returns-2
+    returns-3
+    group-requires
+    add-t8
+    group-requires-2
+    any-requires
+    returns-4
+    returns-5)

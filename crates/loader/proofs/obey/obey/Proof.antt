@@ -1,0 +1,109 @@
+-- `obey` meets its contract: each command does what its definition says.
+use Prim.Native.Nat.{ℕ}
+use mathlib.Core.Path.{_≡_, ap, sym, _∙_}
+use borrow.Author.Needs.{needs}
+use Rattle.basis.specs.Board.{pages}
+use Rattle.basis.specs.Refusals.{given, first}
+use Rattle.loader.specs.Commands.{erasing, keeping, protecting, obeyOf}
+use Rattle.loader.specs.Laws.Commands.{turned-does, judged-does, obey-erase, obey-write, obey-verify, obey-protect, obey-run}
+use Rattle.packet.specs.Paper.{paperCommand}
+use Rattle.packet.specs.declared.table.Command.{Command}
+use Rattle.loader.proofs.obey.obey.Statement.{statement}
+use Rattle.loader.proofs.obey.obey.Tie as tie
+
+-- a command is its byte
+by-byte : (c : tie.Start) {x : Command} → c .args .command ≡ x → let a = c .args in
+    obeyOf pages (a .loader) (paperCommand (a .command)) (a .address .0) (a .sent .now) (a .flash .now) ≡ obeyOf pages (a .loader) (paperCommand x) (a .address .0) (a .sent .now) (a .flash .now)
+by-byte c e = let a = c .args in ap (λ (x : Command). obeyOf pages (a .loader) (paperCommand x) (a .address .0) (a .sent .now) (a .flash .now)) e
+
+enum-told : tie.Need-enum-told
+enum-told c = search needs
+
+first-requires : tie.Need-first-requires
+first-requires c κs = search needs
+
+erase-requires : tie.Need-erase-requires
+erase-requires c κs = search needs
+
+enum-told-2 : tie.Need-enum-told-2
+enum-told-2 c = search needs
+
+write-requires : tie.Need-write-requires
+write-requires c κs = search needs
+
+enum-told-3 : tie.Need-enum-told-3
+enum-told-3 c = search needs
+
+verify-requires : tie.Need-verify-requires
+verify-requires c κs = search needs
+
+enum-told-4 : tie.Need-enum-told-4
+enum-told-4 c = search needs
+
+first-requires-2 : tie.Need-first-requires-2
+first-requires-2 c κs = search needs
+
+protect-requires : tie.Need-protect-requires
+protect-requires c κs = search needs
+
+enum-told-5 : tie.Need-enum-told-5
+enum-told-5 c = search needs
+
+run-requires : tie.Need-run-requires
+run-requires c κs = search needs
+
+same-length : tie.Need-same-length
+same-length c = search needs
+
+returns : tie.Need-returns
+returns c = let a = c .before .before .before .before .before .before .before .before .before .args in
+    rw (by-byte (c .before .before .before .before .before .before .before .before .before) (c .before .before .before .before .before .enum-told .given .1) ∙ obey-erase pages (a .loader) (a .address .0) (a .sent .now) (a .flash .now) ∙ ap (λ (n : ℕ). erasing pages (a .loader) (a .address .0) n (a .flash .now)) (sym (c .before .before .before .before .first .ensures)))
+    (c .before .before .erase .ensures)
+
+same-length-2 : tie.Need-same-length-2
+same-length-2 c = search needs
+
+returns-2 : tie.Need-returns-2
+returns-2 c = let a = c .before .before .before .before .before .before .before .before .args in
+    rw (by-byte (c .before .before .before .before .before .before .before .before) (c .before .before .before .before .enum-told2 .given .1) ∙ obey-write pages (a .loader) (a .address .0) (a .sent .now) (a .flash .now)) (c .before .before .write .ensures)
+
+same-length-3 : tie.Need-same-length-3
+same-length-3 c = search needs
+
+returns-3 : tie.Need-returns-3
+returns-3 c = let a = c .before .before .before .before .before .before .args in
+    rw (by-byte (c .before .before .before .before .before .before) (c .before .before .enum-told3 .given .1) ∙ obey-verify pages (a .loader) (a .address .0) (a .sent .now) (a .flash .now)) (judged-does _ _ _ (c .verify .ensures))
+
+returns-4 : tie.Need-returns-4
+returns-4 c = let a = c .before .before .before .before .before .before .args in
+    rw (by-byte (c .before .before .before .before .before .before) (c .before .before .enum-told4 .given .1) ∙ obey-protect pages (a .loader) (a .address .0) (a .sent .now) (a .flash .now) ∙ ap (λ (n : ℕ). keeping (a .flash .now) (protecting pages (a .loader) (a .address .0) n)) (sym (c .before .first2 .ensures)))
+    (turned-does _ _ _ (c .protect .ensures))
+
+returns-5 : tie.Need-returns-5
+returns-5 c = let a = c .before .before .before .before .before .args in
+    rw (by-byte (c .before .before .before .before .before) (c .before .enum-told5 .given .1) ∙ obey-run pages (a .loader) (a .address .0) (a .sent .now) (a .flash .now)) (turned-does _ _ _ (c .run .ensures))
+
+pub obey-spec : {M : Type 1} → statement M
+obey-spec =
+    tie.close
+    (tie.spec
+    enum-told
+    first-requires
+    erase-requires
+    enum-told-2
+    write-requires
+    enum-told-3
+    verify-requires
+    enum-told-4
+    first-requires-2
+    protect-requires
+    enum-told-5
+    run-requires
+    same-length
+    returns
+    same-length-2
+    returns-2
+    same-length-3
+    returns-3
+    returns-4
+    returns-5)

@@ -1,0 +1,31 @@
+-- `protect` meets its contract: the type decides.
+use borrow.Author.Needs.{needs}
+use borrow.Author.Tests.{ne-eqb}
+use Rattle.loader.specs.Commands.{protecting}
+use Rattle.loader.proofs.protect.protect.Statement.{statement}
+use Rattle.loader.proofs.protect.protect.Tie as tie
+
+open-requires : tie.Need-open-requires
+open-requires c κs = search needs
+
+add-requires : tie.Need-add-requires
+add-requires c κs = search needs
+
+close-requires : tie.Need-close-requires
+close-requires c κs = search needs
+
+returns : tie.Need-returns
+unfolding protecting
+returns c = simp (c .before .match .keys1) (c .«open» .ensures)
+
+returns-2 : tie.Need-returns-2
+unfolding protecting
+returns-2 c = simp (c .before .match .keys2) (c .add .ensures)
+
+returns-3 : tie.Need-returns-3
+unfolding protecting
+returns-3 c = simp (ne-eqb _ _ (c .before .match .rest .0 .1), ne-eqb _ _ (c .before .match .rest .1)) (c .close .ensures)
+
+pub protect-spec : {M : Type 1} → statement M
+protect-spec =
+    tie.close (tie.spec open-requires add-requires close-requires returns returns-2 returns-3)

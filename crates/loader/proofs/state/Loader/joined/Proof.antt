@@ -1,0 +1,16 @@
+-- `joined` meets its contract: the two protections are joined and the sequence closes.
+use borrow.Author.Needs.{needs}
+use Rattle.loader.proofs.state.Loader.joined.Statement.{statement}
+use Rattle.loader.proofs.state.Loader.joined.Tie as tie
+
+closed-requires : tie.Need-closed-requires
+closed-requires c κs = search needs
+
+join-requires : tie.Need-join-requires
+join-requires c κs = search needs
+
+returns : tie.Need-returns
+returns c = λ i. record { condition = c .before .before .before .before .before .args .self .condition; sequence = c .before .closed .ensures i; protection = c .join .ensures i; key = c .before .before .before .before .before .args .key }
+
+pub joined-spec : {M : Type 1} → statement M
+joined-spec = tie.close (tie.spec closed-requires join-requires returns)

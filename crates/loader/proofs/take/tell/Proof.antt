@@ -1,0 +1,86 @@
+-- `tell` meets its contract: each verdict has its bytes.
+use Prim.Native.Nat.{ℕ}
+use mathlib.Core.Bool.{Bool, true, false}
+use mathlib.Core.List.{[], _∷_}
+use mathlib.Core.Path.{_≡_, refl, ap, sym, _∙_}
+use native.Mathlib.Omega.{arith}
+use borrow.Author.Needs.{needs}
+use Rattle.basis.specs.Laws.Lists.{overlay-next}
+use Rattle.basis.specs.Refusals.{Answer, refused, given}
+use Rattle.loader.specs.Paper.{paperVerdict}
+use Rattle.loader.specs.Take.{greeting, quiet, toldOf}
+use Rattle.loader.proofs.take.tell.Statement.{statement}
+use Rattle.loader.proofs.take.tell.Tie as tie
+
+told-greeting : (w : Bool) (v : Answer (Unit {0})) → w ≡ true → v ≡ given tt → toldOf w v ≡ greeting
+told-greeting w v e g = rw (g, e)
+
+told-ack : (w : Bool) (v : Answer (Unit {0})) → w ≡ false → v ≡ given tt → toldOf w v ≡ 0x06 ∷ []
+told-ack w v e g = rw (g, e)
+
+told-nothing : (w : Bool) (v : Answer (Unit {0})) (n : ℕ) → quiet n ≡ true → v ≡ refused n → toldOf w v ≡ []
+told-nothing w v n e g = rw (g, e)
+
+told-bel : (w : Bool) (v : Answer (Unit {0})) (n : ℕ) → quiet n ≡ false → v ≡ refused n → toldOf w v ≡ 0x07 ∷ []
+told-bel w v n e g = rw (g, e)
+
+enum-told : tie.Need-enum-told
+enum-told c = search needs
+
+slice-aggregate-write : tie.Need-slice-aggregate-write
+slice-aggregate-write c = search needs
+
+write-requires : tie.Need-write-requires
+write-requires c κs = search needs
+
+same-length : tie.Need-same-length
+same-length c = search needs
+
+returns : tie.Need-returns
+returns c = rw (told-greeting _ _ (c .before .before .before .before .before .if1 .taken) (ap paperVerdict (c .before .before .before .before .before .before .enum-told .given .1))) (refl, c .before .before .write .ensures)
+
+slice-write-answer : tie.Need-slice-write-answer
+slice-write-answer c = search needs
+
+enum-known-verdict : tie.Need-enum-known-verdict
+enum-known-verdict c = search needs
+
+is-quiet-requires : tie.Need-is-quiet-requires
+is-quiet-requires c κs = search needs
+
+returns-2 : tie.Need-returns-2
+returns-2 c = rw (told-nothing (c .before .before .before .before .before .before .args .waiting) _ _ (sym (c .before .is-quiet .ensures) ∙ c .if2 .taken) (ap paperVerdict (c .before .before .before .verdict .given .1))) (refl, refl)
+
+slice-write-answer-2 : tie.Need-slice-write-answer-2
+slice-write-answer-2 c = search needs
+
+same-length-2 : tie.Need-same-length-2
+same-length-2 c = search needs
+
+returns-3 : tie.Need-returns-3
+returns-3 c = rw (told-ack _ _ (c .if1 .left) (ap paperVerdict (c .before .enum-told .given .1))) (refl, overlay-next [] (c .before .before .before .before .args .answer .now) 0 6 refl (omega arith))
+
+same-length-3 : tie.Need-same-length-3
+same-length-3 c = search needs
+
+returns-4 : tie.Need-returns-4
+returns-4 c = rw (told-bel (c .before .before .before .before .before .before .args .waiting) _ _ (sym (c .before .is-quiet .ensures) ∙ c .if2 .left) (ap paperVerdict (c .before .before .before .verdict .given .1))) (refl, overlay-next [] (c .before .before .before .before .before .before .args .answer .now) 0 7 refl (omega arith))
+
+pub tell-spec : {M : Type 1} → statement M
+tell-spec =
+    tie.close
+    (tie.spec
+    enum-told
+    slice-aggregate-write
+    write-requires
+    same-length
+    returns
+    slice-write-answer
+    enum-known-verdict
+    is-quiet-requires
+    returns-2
+    slice-write-answer-2
+    same-length-2
+    returns-3
+    same-length-3
+    returns-4)

@@ -1,0 +1,32 @@
+-- `past_end` meets its contract: a difference is compared where a sum could wrap.
+use Prim.Native.Nat.{ℕ, _+_, _-_, _≤_}
+use mathlib.Core.Path.{_≡_, sym, _∙_}
+use native.Mathlib.Omega.{arith}
+use borrow.Author.Needs.{needs}
+use borrow.Author.Tests.{ltb-true, ltb-false, lt-ltb, le-ltb}
+use lib.Dec.{ltb}
+use Rattle.basis.specs.Laws.Choice.{decide}
+use Rattle.loader.proofs.write.past_end.Statement.{statement}
+use Rattle.loader.proofs.write.past_end.Tie as tie
+
+-- the sum that could wrap is turned into a difference that cannot
+turned-over : (a x : ℕ) → x ≤ 63488 → ltb (63488 - x) a ≡ ltb 63488 (a + x)
+turned-over a x h =
+    decide (ltb (63488 - x) a)
+    (λ t. t ∙ sym (lt-ltb 63488 (a + x) (omega (arith, ltb-true (63488 - x) a t))))
+    (λ t. t ∙ sym (le-ltb 63488 (a + x) (omega (arith, ltb-false (63488 - x) a t))))
+
+cast-room : tie.Need-cast-room
+cast-room c = search needs
+
+returns : tie.Need-returns
+returns c = let a = c .before .args in sym (lt-ltb 63488 (a .address .0 + a .size) (omega arith))
+
+cast-result : tie.Need-cast-result
+cast-result c = search needs
+
+returns-2 : tie.Need-returns-2
+returns-2 c = let a = c .before .before .args in turned-over (a .address .0) (a .size) (c .before .if1 .left)
+
+pub past-end-spec : {M : Type 1} → statement M
+past-end-spec = tie.close (tie.spec cast-room returns cast-result returns-2)

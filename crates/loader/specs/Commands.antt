@@ -1,0 +1,123 @@
+-- What each command does to a serving loader of k pages. A refusal leaves loader and flash as they were.
+use Prim.Native.Nat.{ℕ, _+_, _-_, _*_}
+use mathlib.Core.Bool.{Bool, not}
+use mathlib.Core.List.{List, [], _∷_}
+use mathlib.Core.Path.{_≡_}
+use lib.Dec.{leb, ltb, eqb}
+use lib.ListN.{length, getD}
+use Rattle.basis.specs.Choice.{pick, both, either}
+use Rattle.basis.specs.Refusals.{Answer, refused, given, Rule, _when_, first, bare}
+use Rattle.basis.specs.Units.{pageOf, groupOf, pageGroupOf, startOf}
+use Rattle.image.specs.Flash.{eraseOf, storeOf}
+use Rattle.loader.specs.Protection.{none, withGroup, withRead, anyOf}
+use Rattle.loader.specs.State.{withCondition, withAdded, joinedOf, clearedOf}
+use Rattle.loader.specs.Verify.{sameOf}
+use Rattle.loader.specs.declared.protection.Protection.{Protection}
+use Rattle.loader.specs.declared.state.Condition.the-variants.{Left}
+use Rattle.loader.specs.declared.state.Loader.{Loader}
+
+-- loader and flash after an accepted command
+pub record Effect : Type 0 where
+  pub loader : Loader
+  pub flash : List ℕ
+
+-- a group of the pages p to q - 1, or of the bytes a to e - 1, is protected
+abbrev pub protectedPages : Protection → ℕ → ℕ → Bool
+protectedPages s p q = anyOf (s .groups) (pageGroupOf p) (pageGroupOf (q + 3) - pageGroupOf p)
+
+abbrev pub protectedBytes : Protection → ℕ → ℕ → Bool
+protectedBytes s a e = anyOf (s .groups) (groupOf a) (groupOf (e + 0x7FF) - groupOf a)
+
+-- E: count 0 with address exactly 0 is the mass erase
+abbrev pub massErase : ℕ → ℕ → Bool
+massErase a n = both (eqb n 0) (eqb a 0)
+
+-- otherwise the address is rounded down to its page
+unfoldable pub eraseRows : ℕ → Loader → ℕ → ℕ → List Rule
+eraseRows k l a n =
+    7 when either (eqb n 0) (either (leb (startOf k) a) (ltb k (pageOf a + n)))
+    ∷ 8 when protectedPages (l .protection) (pageOf a) (pageOf a + n)
+    ∷ []
+
+unfoldable pub erasing : ℕ → Loader → ℕ → ℕ → List ℕ → Answer Effect
+erasing k l a n f =
+    first (9 when l .sequence .opened ∷ [])
+    (pick (massErase a n)
+    (given (record { loader = clearedOf l; flash = eraseOf f 0 (length f) }))
+    (first (eraseRows k l a n) (given (record { loader = l; flash = eraseOf f (startOf (pageOf a)) (n * 512) }))))
+
+-- W: each byte becomes old AND new
+unfoldable pub writeRows : ℕ → Loader → ℕ → ℕ → List Rule
+writeRows k l a x =
+    9 when l .sequence .opened
+    ∷ 7 when ltb (startOf k) (a + x)
+    ∷ 8 when protectedBytes (l .protection) a (a + x)
+    ∷ []
+
+unfoldable pub writing : ℕ → Loader → ℕ → List ℕ → List ℕ → Answer Effect
+writing k l a d f = first (writeRows k l a (length d)) (given (record { loader = l; flash = storeOf f a d }))
+
+-- V: accepted when all bytes, turned back, equal flash
+unfoldable pub verifyRows : ℕ → Loader → ℕ → List ℕ → List ℕ → List Rule
+verifyRows k l a d f =
+    9 when l .sequence .opened
+    ∷ 7 when ltb (startOf k) (a + length d)
+    ∷ 8 when l .protection .read
+    ∷ 10 when not (sameOf f a d)
+    ∷ []
+
+-- P, type 0x00 opens a sequence
+unfoldable pub opening : Loader → Answer Loader
+opening l = first (9 when l .sequence .opened ∷ []) (given (withAdded l none))
+
+-- type 0x0F adds the group of the address; just past flash it means read protection, and higher is 7
+abbrev pub addedOf : ℕ → Protection → ℕ → Protection
+addedOf k p a = pick (ltb a (startOf k)) (withGroup p (groupOf a)) (withRead p)
+
+unfoldable pub adding : ℕ → Loader → ℕ → Answer Loader
+adding k l a =
+    first (9 when not (l .sequence .opened) ∷ 7 when leb (startOf k + 0x800) a ∷ [])
+    (given (withAdded l (addedOf k (l .sequence .added) a)))
+
+-- type 0x01 joins the added groups to the protection in force, records the address as key, and closes
+unfoldable pub closing : Loader → ℕ → Answer Loader
+closing l a = first (9 when not (l .sequence .opened) ∷ []) (given (joinedOf l a))
+
+unfoldable pub protecting : ℕ → Loader → ℕ → ℕ → Answer Loader
+protecting k l a t = pick (eqb t 0x00) (opening l) (pick (eqb t 0x0F) (adding k l a) (closing l a))
+
+-- R: address 0 (jump) or 1 (software reset)
+unfoldable pub running : Loader → ℕ → Answer Loader
+running l a = first (9 when l .sequence .opened ∷ 7 when ltb 1 a ∷ []) (given (withCondition l Left))
+
+-- V, P and R leave flash as it was
+abbrev pub keeping : List ℕ → Answer Loader → Answer Effect
+keeping f (refused n) = refused n
+keeping f (given l) = given (record { loader = l; flash = f })
+
+-- the command c with its address and the bytes d after it
+unfoldable pub obeyOf : ℕ → Loader → ℕ → ℕ → List ℕ → List ℕ → Answer Effect
+obeyOf k l c a d f =
+    pick (eqb c 0x45) (erasing k l a (getD d 0 0) f)
+    (pick (eqb c 0x57) (writing k l a d f)
+    (pick (eqb c 0x56) (keeping f (first (verifyRows k l a d f) (given l)))
+    (pick (eqb c 0x50) (keeping f (protecting k l a (getD d 0 0)))
+    (keeping f (running l a)))))
+
+-- what a function that obeys shows: verdict, next loader and flash are those of x, or of a refusal
+abbrev pub loaderAfter : Loader → Answer Loader → Loader
+loaderAfter l (refused n) = l
+loaderAfter l (given m) = m
+
+pub record Turns (x : Answer Loader) (l : Loader) (verdict : Answer (Unit {0})) (next : Loader) : Type 0 where
+  pub verdict-is : verdict ≡ bare x
+  pub loader-is : next ≡ loaderAfter l x
+
+abbrev pub after : Loader → List ℕ → Answer Effect → Effect
+after l f (refused n) = record { loader = l; flash = f }
+after l f (given e) = e
+
+pub record Does (x : Answer Effect) (l : Loader) (f : List ℕ) (verdict : Answer (Unit {0})) (next : Loader) (flash : List ℕ) : Type 0 where
+  pub verdict-is : verdict ≡ bare x
+  pub loader-is : next ≡ after l f x .loader
+  pub flash-is : flash ≡ after l f x .flash

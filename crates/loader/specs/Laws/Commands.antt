@@ -1,0 +1,148 @@
+-- Laws of the commands.
+use Prim.Native.Nat.{ℕ, _+_, _*_, _≤_, _<_}
+use mathlib.Core.Bool.{Bool, true, false}
+use mathlib.Core.List.{List, [], _∷_}
+use mathlib.Core.Path.{_≡_, refl, _∙_}
+use borrow.Author.Tests.{lt-ltb, le-ltb, le-leb, lt-leb, eq-eqb, ne-eqb, ltb-false, leb-false}
+use lib.Dec.{leb, eqb}
+use lib.ListN.{length, getD}
+use Rattle.basis.specs.Choice.{pick}
+use Rattle.basis.specs.Laws.Choice.{either-first, either-second, either-false, either-none}
+use Rattle.basis.specs.Laws.Refusals.{skip, stop, done, passed}
+use Rattle.basis.specs.Refusals.{Answer, refused, given, Rule, _when_, first}
+use Rattle.basis.specs.Units.{pageOf, startOf}
+use Rattle.image.specs.Flash.{eraseOf}
+use Rattle.loader.specs.Commands.{Effect, Turns, Does, protectedPages, protectedBytes, massErase, eraseRows, erasing, writeRows, writing, verifyRows, protecting, running, keeping, obeyOf}
+use Rattle.loader.specs.State.{clearedOf}
+use Rattle.loader.specs.declared.state.Loader.{Loader}
+
+-- what a function that obeys shows, by its two ways out
+pub stays : {x : Answer Loader} {n : ℕ} (l : Loader) → x ≡ refused n → Turns x l (refused n) l
+stays l e = rw e (record { verdict-is = refl; loader-is = refl })
+
+pub turns : {x : Answer Loader} {m next : Loader} (l : Loader) → x ≡ given m → next ≡ m → Turns x l (given tt) next
+turns l e f = rw e (record { verdict-is = refl; loader-is = f })
+
+pub leaves-all : {x : Answer Effect} {n : ℕ} (l : Loader) (f : List ℕ) → x ≡ refused n → Does x l f (refused n) l f
+leaves-all l f e = rw e (record { verdict-is = refl; loader-is = refl; flash-is = refl })
+
+pub does : {x : Answer Effect} {e : Effect} {v : Answer (Unit {0})} {next : Loader} {flash : List ℕ} (l : Loader) (f : List ℕ) → x ≡ given e → v ≡ given tt → next ≡ e .loader → flash ≡ e .flash → Does x l f v next flash
+does l f e v p q = rw e (record { verdict-is = v; loader-is = p; flash-is = q })
+
+-- ---- E: 7, 8, or let through
+
+module _ {A : Type 0} (k : ℕ) (l : Loader) (a n : ℕ) (r : Answer A) where
+  pub erase-none : n ≡ 0 → first (eraseRows k l a n) r ≡ refused 7
+  unfolding eraseRows
+  erase-none h = stop 7 _ _ r (either-first (eqb n 0) _ (eq-eqb n 0 h))
+
+  pub erase-past : startOf k ≤ a → first (eraseRows k l a n) r ≡ refused 7
+  unfolding eraseRows
+  erase-past h = stop 7 _ _ r (either-second (eqb n 0) _ (either-first (leb (startOf k) a) _ (le-leb _ _ h)))
+
+  pub erase-over : k < pageOf a + n → first (eraseRows k l a n) r ≡ refused 7
+  unfolding eraseRows
+  erase-over h = stop 7 _ _ r (either-second (eqb n 0) _ (either-second (leb (startOf k) a) _ (lt-ltb k (pageOf a + n) h)))
+
+  erase-inside : (n ≡ 0 → ⊥) → a < startOf k → pageOf a + n ≤ k → first (eraseRows k l a n) r ≡ first (8 when protectedPages (l .protection) (pageOf a) (pageOf a + n) ∷ []) r
+  unfolding eraseRows
+  erase-inside p q s =
+      skip 7 _ _ r (either-false (eqb n 0) _ (ne-eqb n 0 p) (either-false (leb (startOf k) a) _ (lt-leb (startOf k) a q) (le-ltb k (pageOf a + n) s)))
+
+  module _ (p : n ≡ 0 → ⊥) (q : a < startOf k) (s : pageOf a + n ≤ k) where
+    pub erase-protected : protectedPages (l .protection) (pageOf a) (pageOf a + n) ≡ true → first (eraseRows k l a n) r ≡ refused 8
+    erase-protected t = erase-inside p q s ∙ stop 8 _ _ r t
+
+    pub erase-passes : protectedPages (l .protection) (pageOf a) (pageOf a + n) ≡ false → first (eraseRows k l a n) r ≡ r
+    erase-passes t = erase-inside p q s ∙ skip 8 _ _ r t ∙ done r
+
+-- what is let through lies in flash, and is not protected
+pub erase-let : {A : Type 0} {y : A} (k : ℕ) (l : Loader) (a n : ℕ) (r : Answer A) → first (eraseRows k l a n) r ≡ given y → (a < startOf k) × (pageOf a + n ≤ k) × (protectedPages (l .protection) (pageOf a) (pageOf a + n) ≡ false)
+unfolding eraseRows
+erase-let k l a n r e =
+    let p = passed 7 _ _ _ e in
+    let q = either-none (eqb n 0) _ (p .0) in
+    let s = either-none (leb (startOf k) a) _ (q .1) in
+    (leb-false _ _ (s .0), ltb-false _ _ (s .1), passed 8 _ _ _ (p .1) .0)
+
+module _ (k : ℕ) (l : Loader) (a n : ℕ) (f : List ℕ) where
+  pub erasing-open : l .sequence .opened ≡ true → erasing k l a n f ≡ refused 9
+  unfolding erasing
+  erasing-open h = stop 9 _ _ _ h
+
+  module _ (p : l .sequence .opened ≡ false) where
+    pub erasing-mass : massErase a n ≡ true → erasing k l a n f ≡ given (record { loader = clearedOf l; flash = eraseOf f 0 (length f) })
+    unfolding erasing
+    erasing-mass h = skip 9 _ _ _ p ∙ done _ ∙ simp h
+
+    pub erasing-pages : massErase a n ≡ false → erasing k l a n f ≡ first (eraseRows k l a n) (given (record { loader = l; flash = eraseOf f (startOf (pageOf a)) (n * 512) }))
+    unfolding erasing
+    erasing-pages h = skip 9 _ _ _ p ∙ done _ ∙ simp h
+
+-- ---- W: 9, 7, 8, or let through
+
+module _ {A : Type 0} (k : ℕ) (l : Loader) (a x : ℕ) (r : Answer A) where
+  pub write-open : l .sequence .opened ≡ true → first (writeRows k l a x) r ≡ refused 9
+  unfolding writeRows
+  write-open h = stop 9 _ _ r h
+
+  module _ (p : l .sequence .opened ≡ false) where
+    pub write-past : startOf k < a + x → first (writeRows k l a x) r ≡ refused 7
+    unfolding writeRows
+    write-past h = skip 9 _ _ r p ∙ stop 7 _ _ r (lt-ltb _ _ h)
+
+    pub write-protected : a + x ≤ startOf k → protectedBytes (l .protection) a (a + x) ≡ true → first (writeRows k l a x) r ≡ refused 8
+    unfolding writeRows
+    write-protected q t = skip 9 _ _ r p ∙ skip 7 _ _ r (le-ltb _ _ q) ∙ stop 8 _ _ r t
+
+    pub write-passes : a + x ≤ startOf k → protectedBytes (l .protection) a (a + x) ≡ false → first (writeRows k l a x) r ≡ r
+    unfolding writeRows
+    write-passes q t = skip 9 _ _ r p ∙ skip 7 _ _ r (le-ltb _ _ q) ∙ skip 8 _ _ r t ∙ done r
+
+pub write-let : {A : Type 0} {y : A} (k : ℕ) (l : Loader) (a x : ℕ) (r : Answer A) → first (writeRows k l a x) r ≡ given y → (l .sequence .opened ≡ false) × (a + x ≤ startOf k) × (protectedBytes (l .protection) a (a + x) ≡ false)
+unfolding writeRows
+write-let k l a x r e =
+    let p = passed 9 _ _ _ e in
+    let q = passed 7 _ _ _ (p .1) in
+    (p .0, ltb-false _ _ (q .0), passed 8 _ _ _ (q .1) .0)
+
+-- ---- V, P and R leave flash as it was
+
+module _ (l : Loader) (f : List ℕ) where
+  -- what turns the loader alone
+  pub turned-does : (x : Answer Loader) {v : Answer (Unit {0})} {next : Loader} → Turns x l v next → Does (keeping f x) l f v next f
+  turned-does (refused n) t = record { verdict-is = t .verdict-is; loader-is = t .loader-is; flash-is = refl }
+  turned-does (given m) t = record { verdict-is = t .verdict-is; loader-is = t .loader-is; flash-is = refl }
+
+  -- what turns nothing: the table decides
+  pub judged-does : (t : List Rule) {v : Answer (Unit {0})} → v ≡ first t (given tt) → Does (keeping f (first t (given l))) l f v l f
+  unfolding first
+  judged-does [] e = record { verdict-is = e; loader-is = refl; flash-is = refl }
+  judged-does (r ∷ t) {v} e = go (r .holds) e (judged-does t)
+    where
+      go : (b : Bool) → v ≡ pick b (refused (r .number)) (first t (given tt)) → (v ≡ first t (given tt) → Does (keeping f (first t (given l))) l f v l f) → Does (keeping f (pick b (refused (r .number)) (first t (given l)))) l f v l f
+      go true e h = record { verdict-is = e; loader-is = refl; flash-is = refl }
+      go false e h = h e
+
+-- ---- each command by its byte
+
+module _ (k : ℕ) (l : Loader) (a : ℕ) (d f : List ℕ) where
+  pub obey-erase : obeyOf k l 0x45 a d f ≡ erasing k l a (getD d 0 0) f
+  unfolding obeyOf
+  obey-erase = refl
+
+  pub obey-write : obeyOf k l 0x57 a d f ≡ writing k l a d f
+  unfolding obeyOf
+  obey-write = refl
+
+  pub obey-verify : obeyOf k l 0x56 a d f ≡ keeping f (first (verifyRows k l a d f) (given l))
+  unfolding obeyOf
+  obey-verify = refl
+
+  pub obey-protect : obeyOf k l 0x50 a d f ≡ keeping f (protecting k l a (getD d 0 0))
+  unfolding obeyOf
+  obey-protect = refl
+
+  pub obey-run : obeyOf k l 0x52 a d f ≡ keeping f (running l a)
+  unfolding obeyOf
+  obey-run = refl

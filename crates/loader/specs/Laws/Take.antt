@@ -1,0 +1,59 @@
+-- Laws of the entry: what each condition lets in, and what is answered.
+use Prim.Native.Nat.{ℕ, _≤_, _<_}
+use mathlib.Core.Bool.{true, false, not}
+use mathlib.Core.List.{List}
+use mathlib.Core.Path.{_≡_, refl, ap, _∙_}
+use borrow.Author.Tests.{lt-ltb, le-ltb, eq-eqb, ne-eqb}
+use lib.Dec.{eqb}
+use lib.ListN.{length, take, drop}
+use Rattle.basis.specs.Laws.Choice.{either-first, either-second, either-false}
+use Rattle.basis.specs.Laws.Refusals.{skip, stop, done}
+use Rattle.basis.specs.Refusals.{refused, given}
+use Rattle.basis.specs.Units.{startOf}
+use Rattle.loader.specs.Commands.{obeyOf}
+use Rattle.loader.specs.State.{withCondition}
+use Rattle.loader.specs.Take.{opens, servedOf, heardOf, takeOf}
+use Rattle.loader.specs.declared.state.Condition.the-variants.{Waiting, Serving, Left}
+use Rattle.loader.specs.declared.state.Loader.{Loader}
+use Rattle.packet.specs.Packet.{Parts, readOf}
+
+module _ (k : ℕ) (l : Loader) (s f : List ℕ) where
+  -- ---- by condition
+  pub heard-waiting : l .condition ≡ Waiting → opens s ≡ true → heardOf k l s f ≡ given (record { loader = withCondition l Serving; flash = f })
+  unfolding heardOf
+  heard-waiting c o = rw c (skip 11 _ _ _ (ap not o) ∙ done _)
+
+  pub heard-closed : l .condition ≡ Waiting → opens s ≡ false → heardOf k l s f ≡ refused 11
+  unfolding heardOf
+  heard-closed c o = rw c (stop 11 _ _ _ (ap not o))
+
+  pub heard-serving : l .condition ≡ Serving → heardOf k l s f ≡ servedOf k l s f
+  unfolding heardOf
+  heard-serving c = rw c (skip 11 _ _ _ refl ∙ done _)
+
+  pub heard-left : l .condition ≡ Left → heardOf k l s f ≡ refused 11
+  unfolding heardOf
+  heard-left c = rw c (stop 11 _ _ _ refl)
+
+  -- ---- by what is read
+  pub served-unread : {n : ℕ} → readOf s ≡ refused n → servedOf k l s f ≡ refused n
+  unfolding servedOf
+  served-unread e = rw e
+
+  pub served-packet : (p : Parts) → readOf s ≡ given p → servedOf k l s f ≡ obeyOf k l (p .command) (p .address) (take (p .size) (drop (p .place) s)) f
+  unfolding servedOf
+  served-packet p e = rw e
+
+  -- ---- by size
+  module _ (room : ℕ) where
+    pub take-size : (length f ≡ startOf k → ⊥) → takeOf k l s f room ≡ refused 20
+    unfolding takeOf
+    take-size h = stop 20 _ _ _ (either-first (not (eqb (length f) (startOf k))) _ (ap not (ne-eqb _ _ h)))
+
+    pub take-small : room < 24 → takeOf k l s f room ≡ refused 20
+    unfolding takeOf
+    take-small h = stop 20 _ _ _ (either-second (not (eqb (length f) (startOf k))) _ (lt-ltb room 24 h))
+
+    pub take-heard : length f ≡ startOf k → 24 ≤ room → takeOf k l s f room ≡ heardOf k l s f
+    unfolding takeOf
+    take-heard e h = skip 20 _ _ _ (either-false (not (eqb (length f) (startOf k))) _ (ap not (eq-eqb _ _ e)) (le-ltb room 24 h)) ∙ done _

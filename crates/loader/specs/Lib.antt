@@ -1,0 +1,8 @@
+-- The loader of 01. Definitions stand here in the paper's order, what is proved of them under Laws.
+pub mod Protection
+pub mod State
+pub mod Verify
+pub mod Commands
+pub mod Take
+pub mod Paper
+pub mod Laws

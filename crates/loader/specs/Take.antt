@@ -1,0 +1,81 @@
+-- The loader's one entry: which inputs are heard, what they do, and what is answered.
+use Prim.Native.Nat.{ℕ}
+use mathlib.Core.Bool.{Bool, true, false, not}
+use mathlib.Core.List.{List, [], _∷_}
+use mathlib.Core.Path.{_≡_}
+use lib.Dec.{ltb, eqb}
+use lib.ListN.{length, getD, take, drop}
+use Rattle.basis.specs.Choice.{pick, both, either}
+use Rattle.basis.specs.Lists.{overlay}
+use Rattle.basis.specs.Refusals.{Answer, refused, given, _when_, first, bare}
+use Rattle.basis.specs.Units.{startOf}
+use Rattle.loader.specs.Commands.{Effect, obeyOf, Does}
+use Rattle.loader.specs.State.{withCondition}
+use Rattle.loader.specs.declared.state.Condition.{Condition}
+use Rattle.loader.specs.declared.state.Condition.the-variants.{Waiting, Serving, Left}
+use Rattle.loader.specs.declared.state.Loader.{Loader}
+use Rattle.packet.specs.Packet.{Parts, readOf}
+
+-- the three conditions
+abbrev pub waiting : Condition → Bool
+waiting Waiting = true
+waiting Serving = false
+waiting Left = false
+
+abbrev pub left : Condition → Bool
+left Waiting = false
+left Serving = false
+left Left = true
+
+-- the one-byte input 08
+abbrev pub opens : List ℕ → Bool
+opens s = both (eqb (length s) 1) (eqb (getD s 0 0) 0x08)
+
+-- serving reads the input and obeys it
+abbrev pub obeyed : ℕ → Loader → List ℕ → List ℕ → Answer Parts → Answer Effect
+obeyed k l s f (refused n) = refused n
+obeyed k l s f (given p) = obeyOf k l (p .command) (p .address) (take (p .size) (drop (p .place) s)) f
+
+unfoldable pub servedOf : ℕ → Loader → List ℕ → List ℕ → Answer Effect
+servedOf k l s f = obeyed k l s f (readOf s)
+
+-- 11: left, or waiting and the input is not the single 08; waiting takes that byte and serves
+unfoldable pub heardOf : ℕ → Loader → List ℕ → List ℕ → Answer Effect
+heardOf k l s f =
+    first (11 when either (left (l .condition)) (both (waiting (l .condition)) (not (opens s))) ∷ [])
+    (pick (waiting (l .condition)) (given (record { loader = withCondition l Serving; flash = f })) (servedOf k l s f))
+
+-- 20: flash not its size, or answer buffer under 24
+unfoldable pub takeOf : ℕ → Loader → List ℕ → List ℕ → ℕ → Answer Effect
+takeOf k l s f room =
+    first (20 when either (not (eqb (length f) (startOf k))) (ltb room 24) ∷ []) (heardOf k l s f)
+
+-- "ADuC702x", three spaces, "-62", one space, "I31", four spaces, 0A 0D
+abbrev pub greeting : List ℕ
+greeting =
+    0x41 ∷ 0x44 ∷ 0x75 ∷ 0x43 ∷ 0x37 ∷ 0x30 ∷ 0x32 ∷ 0x78
+    ∷ 0x20 ∷ 0x20 ∷ 0x20
+    ∷ 0x2D ∷ 0x36 ∷ 0x32
+    ∷ 0x20
+    ∷ 0x49 ∷ 0x33 ∷ 0x31
+    ∷ 0x20 ∷ 0x20 ∷ 0x20 ∷ 0x20
+    ∷ 0x0A ∷ 0x0D
+    ∷ []
+
+-- 20, 11, 1 and 2 are not answered
+abbrev pub quiet : ℕ → Bool
+quiet n = either (eqb n 20) (either (eqb n 11) (either (eqb n 1) (eqb n 2)))
+
+-- any other refusal answers BEL 07; acceptance answers the greeting where the loader was waiting, else ACK 06
+abbrev pub toldOf : Bool → Answer (Unit {0}) → List ℕ
+toldOf w (refused n) = pick (quiet n) [] (0x07 ∷ [])
+toldOf w (given u) = pick w greeting (0x06 ∷ [])
+
+abbrev pub answerOf : Loader → Answer Effect → List ℕ
+answerOf l x = toldOf (waiting (l .condition)) (bare x)
+
+-- what the entry shows: besides loader and flash, the answer bytes and how many they are
+pub record Takes (x : Answer Effect) (l : Loader) (f old : List ℕ) (verdict : Answer (Unit {0})) (next : Loader) (answered : ℕ) (flash answer : List ℕ) : Type 0 where
+  pub does-is : Does x l f verdict next flash
+  pub answered-is : answered ≡ length (answerOf l x)
+  pub answer-is : answer ≡ overlay (answerOf l x) old

@@ -1,0 +1,174 @@
+// The loader's one entry: an input, and what becomes of loader, flash and answer.
+ghost use mathlib.Core.Path.{_≡_};
+ghost use Prim.Native.Nat.{_≤_};
+ghost use lib.ListN.{length};
+ghost use Rattle.basis.specs.Board.{pages, flashSize};
+ghost use Rattle.basis.specs.Lists.{overlay};
+ghost use Rattle.loader.specs.Commands.{Does};
+ghost use Rattle.loader.specs.Paper.{paperRefusal, paperVerdict};
+ghost use Rattle.loader.specs.Take.{waiting, opens, servedOf, heardOf, takeOf, quiet, toldOf, Takes};
+ghost use Rattle.packet.specs.Paper.{paperRefusal as paperUnread};
+use crate::obey::obey;
+use crate::state::Condition;
+use crate::state::Loader;
+use crate::verdict::Acted;
+use crate::verdict::Refusal;
+use crate::verdict::Verdict;
+use basis::board::FLASH;
+use basis::buffers::write;
+use packet::read::Reading;
+use packet::read::read;
+
+const GREETING: [u8; 24] = *b"ADuC702x   -62 I31    \n\r";
+
+// The next loader, the verdict, and how many answer bytes were written.
+pub struct Taken {
+    pub loader: Loader,
+    pub verdict: Verdict,
+    pub answered: usize,
+}
+
+pub fn take(loader: Loader, input: &[u8], flash: &mut [u8], answer: &mut [u8]) -> Taken
+    ensures { λ r. ⌜ Takes (takeOf pages loader (now (input .entry)) (now (flash .entry)) (length (now (answer .entry)))) loader (now (flash .entry)) (now (answer .entry)) (paperVerdict (r .verdict)) (r .loader) (r .answered) (now (flash .exit)) (now (answer .exit)) ⌝ }
+{
+    if flash.len() != FLASH as usize {
+        return Taken {
+            loader,
+            verdict: Verdict::Refused(Refusal::Size),
+            answered: 0,
+        };
+    }
+    if answer.len() < 24 {
+        return Taken {
+            loader,
+            verdict: Verdict::Refused(Refusal::Size),
+            answered: 0,
+        };
+    }
+    let acted = hear(loader, input, flash);
+    let next = acted.loader;
+    let verdict = acted.verdict;
+    Taken {
+        loader: next,
+        verdict,
+        answered: tell(is_waiting(loader), verdict, answer),
+    }
+}
+
+fn is_waiting(loader: Loader) -> bool
+    ensures { λ r. ⌜ r ≡ waiting (loader .condition) ⌝ }
+{
+    let condition = loader.condition;
+    match condition {
+        Condition::Waiting => true,
+        Condition::Serving => false,
+        Condition::Left => false,
+    }
+}
+
+// What the condition lets in.
+fn hear(loader: Loader, input: &[u8], flash: &mut [u8]) -> Acted
+    requires { ⌜ length (now flash) ≡ flashSize ⌝ }
+    ensures { λ r. ⌜ Does (heardOf pages loader (now (input .entry)) (now (flash .entry))) loader (now (flash .entry)) (paperVerdict (r .verdict)) (r .loader) (now (flash .exit)) ⌝ }
+{
+    let condition = loader.condition;
+    match condition {
+        Condition::Waiting => {
+            if !is_opening(input) {
+                return Acted {
+                    loader,
+                    verdict: Verdict::Refused(Refusal::Closed),
+                };
+            }
+            Acted {
+                loader: loader.with_condition(Condition::Serving),
+                verdict: Verdict::Accepted,
+            }
+        }
+        Condition::Serving => serve(loader, input, flash),
+        Condition::Left => Acted {
+            loader,
+            verdict: Verdict::Refused(Refusal::Closed),
+        },
+    }
+}
+
+fn is_opening(input: &[u8]) -> bool
+    ensures { λ r. ⌜ r ≡ opens (now (input .entry)) ⌝ }
+{
+    if input.len() != 1 {
+        return false;
+    }
+    input[0] == 0x08
+}
+
+fn serve(loader: Loader, input: &[u8], flash: &mut [u8]) -> Acted
+    requires { ⌜ length (now flash) ≡ flashSize ⌝ }
+    ensures { λ r. ⌜ Does (servedOf pages loader (now (input .entry)) (now (flash .entry))) loader (now (flash .entry)) (paperVerdict (r .verdict)) (r .loader) (now (flash .exit)) ⌝ }
+{
+    match read(input) {
+        Reading::Refused(why) => Acted {
+            loader,
+            verdict: Verdict::Refused(Refusal::Unread(why)),
+        },
+        Reading::Packet(packet) => {
+            let at = packet.at;
+            let end = at + packet.len;
+            let command = packet.command;
+            let address = packet.address;
+            obey(loader, command, address, &input[at..end], flash)
+        }
+    }
+}
+
+// The answer bytes of a verdict, and how many.
+fn tell(waiting: bool, verdict: Verdict, answer: &mut [u8]) -> usize
+    requires { ⌜ 24 ≤ length (now answer) ⌝ }
+    ensures { λ r. ⌜ (r ≡ length (toldOf waiting (paperVerdict verdict))) × (now (answer .exit) ≡ overlay (toldOf waiting (paperVerdict verdict)) (now (answer .entry))) ⌝ }
+{
+    match verdict {
+        Verdict::Accepted => {
+            if waiting {
+                write(answer, &GREETING);
+                return 24;
+            }
+            answer[0] = 0x06;
+            1
+        }
+        Verdict::Refused(why) => {
+            if is_quiet(why) {
+                return 0;
+            }
+            answer[0] = 0x07;
+            1
+        }
+    }
+}
+
+// The refusals that are not answered.
+fn is_quiet(why: Refusal) -> bool
+    ensures { λ r. ⌜ r ≡ quiet (paperRefusal why) ⌝ }
+{
+    match why {
+        Refusal::Size => true,
+        Refusal::Closed => true,
+        Refusal::Unread(unread) => is_no_frame(unread),
+        Refusal::Sequence => false,
+        Refusal::Address => false,
+        Refusal::Protected => false,
+        Refusal::Differs => false,
+    }
+}
+
+fn is_no_frame(unread: packet::table::Refusal) -> bool
+    ensures { λ r. ⌜ r ≡ quiet (paperUnread unread) ⌝ }
+{
+    match unread {
+        packet::table::Refusal::Start => true,
+        packet::table::Refusal::Length => true,
+        packet::table::Refusal::Count => false,
+        packet::table::Refusal::Checksum => false,
+        packet::table::Refusal::Unlisted => false,
+        packet::table::Refusal::Shape => false,
+    }
+}
