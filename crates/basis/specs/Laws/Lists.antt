@@ -1,17 +1,17 @@
 -- Laws of lists and of lent buffers.
-use Prim.Native.Nat.{ℕ, zero, suc, _+_, _-_, _≤_, _<_}
-use mathlib.Core.Path.{_≡_, refl, ap, sym, _∙_}
+use Prim.Native.Nat.{ℕ, _+_, _-_, _≤_, _<_}
 use mathlib.Core.List.{List, [], _∷_, _++_, append-assoc, append-nil}
+use mathlib.Core.Path.{_≡_, sym, _∙_}
 use native.Mathlib.Nat.{not-suc-le-zero}
 use native.Mathlib.Numerals.{add-one}
 use native.Mathlib.Omega.{arith}
-use lib.ListN.{length, getD, take, drop, set, length-append, length-drop, drop-of-length-le}
-use lib.Seq.{length-take-le, take-suc, take-all, take-at, drop-at, drop-drop, set-at}
+use borrow.Author.Tests.{ltb-true, ltb-false}
 use borrow.Rule.Slice.PartMut.{putMid}
-use Rattle.basis.specs.Lists.{overlay}
-
-pub length-overlay : (w old : List ℕ) → length w ≤ length old → length (overlay w old) ≡ length old
-length-overlay w old h = simp (length-append, length-drop) (omega arith)
+use lib.Dec.{ltb, lit<}
+use lib.ListN.{length, getD, take, drop, set, length-append, length-take, length-drop, drop-of-length-le, List·getD-eq-default}
+use lib.Seq.{length-take-le, take-suc, take-all, take-at, drop-at, drop-drop, set-at, getD-take, getD-drop}
+use Rattle.basis.specs.Laws.Choice.{decide}
+use Rattle.basis.specs.Lists.{Bytes, overlay}
 
 -- the next byte is written
 set-next : (w old : List ℕ) (x : ℕ) → 0 < length old → (k : ℕ) → length w ≡ k → set (w ++ old) k x ≡ (w ++ (x ∷ [])) ++ drop 1 old
@@ -35,3 +35,13 @@ overlay-part f s old F P k lf eF eP =
     let l : length r ≤ length (f ++ r) - k = omega (arith, length-append f r) in
     let e : P ≡ overlay s r = rw (eF, drop-at f r k lf, take-all (length (f ++ r) - k) r l) at eP in
     rw (eF, e, take-at f r k lf, drop-at f r k lf, drop-of-length-le r l, append-nil, drop-drop, length-append) (sym (append-assoc f s (drop (length f + length s) old)))
+
+-- a part of bytes is bytes
+pub bytes-drop : (n : ℕ) (s : List ℕ) → Bytes s → Bytes (drop n s)
+bytes-drop n s b k = rw getD-drop (b (n + k))
+
+pub bytes-take : (n : ℕ) (s : List ℕ) → Bytes s → Bytes (take n s)
+bytes-take n s b k =
+    decide (ltb k n)
+    (λ t. rw (getD-take n s k 0 (ltb-true k n t)) (b k))
+    (λ t. let h : length (take n s) ≤ k = omega (arith, length-take n s, ltb-false k n t) in rw (List·getD-eq-default (take n s) 0 h) (lit< tt))

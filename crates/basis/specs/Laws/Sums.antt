@@ -1,7 +1,7 @@
 -- Laws of sums.
-use Prim.Native.Nat.{ℕ, _+_, _-_, _%_, _<_}
-use mathlib.Core.Path.{_≡_, refl, ap}
+use Prim.Native.Nat.{ℕ, _+_, _%_, _<_}
 use mathlib.Core.List.{List, [], _∷_, _++_}
+use mathlib.Core.Path.{_≡_, refl}
 use native.Mathlib.Omega.{arith}
 use Rattle.basis.specs.Sums.{total, sumOf, checksumOf}
 
@@ -26,9 +26,6 @@ sum-more s x = omega (arith, total-append s (x ∷ []))
 pub sum-below : (s : List ℕ) → sumOf s < 256
 unfolding sumOf
 sum-below s = omega arith
-
-pub checksum-below : (s : List ℕ) → checksumOf s < 256
-checksum-below s = omega arith
 
 -- a list with its checksum sums to zero
 pub sum-closed : (s : List ℕ) → sumOf (s ++ (checksumOf s ∷ [])) ≡ 0
