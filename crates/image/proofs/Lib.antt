@@ -1,1 +1,4 @@
 pub mod FlashTurns
+pub mod Characters
+pub mod Rows
+pub mod Records
