@@ -2,6 +2,7 @@
 pub mod Choice
 pub mod Refusals
 pub mod Lists
+pub mod Board
 pub mod Units
 pub mod Sums
 pub mod Laws

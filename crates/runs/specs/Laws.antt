@@ -1,1 +1,6 @@
 pub mod Map
+pub mod Runs
+pub mod Pieces
+pub mod Pages
+pub mod Tally
+pub mod Survey

@@ -1,5 +1,5 @@
 -- The map of named addresses: one bit an address, lowest bit first.
-use Prim.Native.Nat.{ℕ, _/_, _%_, _^_}
+use Prim.Native.Nat.{ℕ, zero, suc, _+_, _*_, _/_, _%_, _^_}
 use mathlib.Core.List.{List}
 use mathlib.Core.Bool.{Bool}
 use lib.ListN.{getD, set}
@@ -17,3 +17,8 @@ named m a = bit (getD m (a / 8) 0) (a % 8)
 -- the map with the address named, all other bits as they were
 unfoldable pub nameOf : List ℕ → ℕ → List ℕ
 nameOf m a = set m (a / 8) (bitOr (getD m (a / 8) 0) (2 ^ (a % 8)))
+
+-- the number that k bytes of the map from the i-th on make, the first lowest
+unfoldable pub wordOf : List ℕ → ℕ → ℕ → ℕ
+wordOf m i zero = 0
+wordOf m i (suc k) = getD m i 0 + 256 * wordOf m (i + 1) k

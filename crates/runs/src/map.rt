@@ -1,4 +1,5 @@
 // The map of named addresses: one bit an address, lowest bit first.
+// It is asked by `Address`, so that no page number is passed for one; the caller shows that the map has it.
 ghost use mathlib.Core.Path.{_≡_};
 ghost use Prim.Native.Nat.{_*_, _<_};
 ghost use lib.ListN.{length};

@@ -3,7 +3,7 @@ use Prim.Native.Nat.{ℕ, zero, suc, _+_, _*_, _/_, _%_, _^_, _<_, _≤_}
 use mathlib.Core.Path.{_≡_, refl, ap, sym, _∙_}
 use mathlib.Core.List.{List}
 use mathlib.Core.Bool.{Bool, true, false}
-use native.Mathlib.Nat.{zero-div, zero-mod}
+use native.Mathlib.Nat.{zero-div}
 use native.Mathlib.Decide.{ℕ-discrete}
 use native.Mathlib.Omega.{arith}
 use lib.ListN.{length, set, getD, replicate, length-set, length-replicate, getD-replicate, List·getD-eq-default}
@@ -87,12 +87,12 @@ pub named-past : (m : List ℕ) (a : ℕ) → 8 * length m ≤ a → named m a �
 unfolding named
 named-past m a h =
     let k : length m ≤ a / 8 = omega arith in
-    simp (List·getD-eq-default m 0 k, zero-div, zero-mod)
+    simp (List·getD-eq-default m 0 k, zero-div)
 
 -- an all-zero map names nothing
 pub named-none : (n a : ℕ) → named (replicate n 0) a ≡ false
 unfolding named
-named-none n a = simp (zero-at n (a / 8), zero-div, zero-mod)
+named-none n a = simp (zero-at n (a / 8), zero-div)
   where
     zero-at : (n i : ℕ) → _≡_ {A = ℕ} (getD (replicate n 0) i 0) 0
     zero-at zero i = refl

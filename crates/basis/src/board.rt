@@ -1,0 +1,6 @@
+// The board's sizes: 124 pages of 512 bytes, and a map of one bit a byte.
+pub const PAGES: u32 = 124;
+
+pub const FLASH: u32 = 0xF800;
+
+pub const MAP: usize = 7936;

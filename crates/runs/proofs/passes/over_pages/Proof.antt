@@ -1,0 +1,88 @@
+-- `over_pages` meets its contract: the tallies are those of the pages passed; a page is touched where the count of named bytes grows.
+use Prim.Native.Nat.{ℕ, _+_, _*_, _-_, _≤_}
+use mathlib.Core.Path.{_≡_, ap, _∙_}
+use native.Mathlib.Omega.{arith}
+use borrow.Author.Needs.{needs}
+use Rattle.basis.specs.Board
+use Rattle.basis.specs.Units.{startOf}
+use Rattle.runs.specs.Map.{named}
+use Rattle.runs.specs.Pages.{touched}
+use Rattle.runs.specs.Pieces.{pieceMost}
+use Rattle.runs.specs.Survey.{passAt}
+use Rattle.runs.specs.Tally.{tallyAt}
+use Rattle.runs.specs.Laws.Pages.{tallies-touched}
+use Rattle.runs.specs.Laws.Survey.{pass-bytes, pass-pages, pass-of}
+use Rattle.runs.specs.Laws.Tally.{tally-again, tally-le}
+use Rattle.runs.proofs.passes.over_pages.Statement.{statement}
+use Rattle.runs.proofs.passes.over_pages.Tie as tie
+
+abbrev Inv-loop : tie.InvT-loop
+Inv-loop map bytes₀ pages₀ end page₀ bytes pages page = (page ≤ end) × (bytes ≡ tallyAt (named map) pieceMost (startOf page)) × (pages ≡ tallyAt (touched map) Board.pages page)
+
+abbrev μ-loop : tie.MeasureT-loop
+μ-loop map bytes₀ pages₀ end page₀ bytes pages page = end - page
+
+loop-holds : tie.Need-loop-holds Inv-loop μ-loop
+loop-holds c =
+    let pre = c .before .before .before .pre in
+    (search needs, pass-bytes _ _ (pre .3), pass-pages _ _ (pre .3))
+
+cast-first : tie.Need-cast-first Inv-loop μ-loop
+cast-first c = search needs
+
+mul-first : tie.Need-mul-first Inv-loop μ-loop
+mul-first c = search needs
+
+add-over-words : tie.Need-add-over-words Inv-loop μ-loop
+add-over-words c = search needs
+
+over-words-requires : tie.Need-over-words-requires Inv-loop μ-loop
+over-words-requires c κs =
+    let l = c .before .loop in
+    let e : startOf (l .page) ≡ 64 * (8 * l .page) = omega arith in
+    (omega arith, omega arith, omega arith, l .inv .1 ∙ ap (tallyAt (named (c .before .before .before .before .before .args .map .now)) pieceMost) e)
+
+took-requires : tie.Need-took-requires Inv-loop μ-loop
+took-requires c κs =
+    let l = c .before .before .before .before .loop in
+    let t = tally-le (touched (c .before .before .before .before .before .before .before .before .args .map .now)) Board.pages (omega arith) (l .page) (l .inv .2) in
+    omega arith
+
+add-page : tie.Need-add-page Inv-loop μ-loop
+add-page c = search needs
+
+loop-less : tie.Need-loop-less Inv-loop μ-loop
+loop-less c = search needs
+
+loop-again : tie.Need-loop-again Inv-loop μ-loop
+loop-again c =
+    let m = c .before .before .before .before .before .before .before .before .before .args .map .now in
+    let l = c .before .before .before .before .before .loop in
+    let e : 64 * (8 * l .page + 8) ≡ startOf (l .page + 1) = omega arith in
+    let next = c .before .before .before .over-words .ensures ∙ ap (tallyAt (named m) pieceMost) e in
+    let grew = tallies-touched m pieceMost (l .page) (l .inv .1) next in
+    (search needs, next, tally-again (touched m) Board.pages (l .page) (l .inv .2) grew (c .took .ensures))
+
+returns : tie.Need-returns Inv-loop μ-loop
+returns c =
+    let g = c .before .before .before .before .before .args in
+    let l = c .before .loop in
+    let e : l .page ≡ g .to .0 = omega arith in
+    pass-of _ _ (l .inv .1) (l .inv .2) ∙ ap (passAt (g .map .now)) e
+
+pub over-pages-spec : {M : Type 1} → statement M
+over-pages-spec =
+    tie.close
+    (tie.spec
+    Inv-loop
+    μ-loop
+    loop-holds
+    cast-first
+    mul-first
+    add-over-words
+    over-words-requires
+    took-requires
+    add-page
+    loop-less
+    loop-again
+    returns)

@@ -1,0 +1,42 @@
+-- `took` meets its contract: its tests are the definition's.
+use borrow.Author.Tests.{not-true, not-false, eq-eqb, ne-eqb}
+use borrow.Author.Needs.{needs}
+use Rattle.runs.specs.Tally.{tookOf}
+use Rattle.runs.proofs.tally.Tally.took.Statement.{statement}
+use Rattle.runs.proofs.tally.Tally.took.Tie as tie
+
+returns : tie.Need-returns
+unfolding tookOf
+returns c = rw (not-true (c .before .args .passes) (c .if1 .taken))
+
+add-wrapped : tie.Need-add-wrapped
+add-wrapped c = search needs
+
+wrapped-requires : tie.Need-wrapped-requires
+wrapped-requires c κs = search needs
+
+add-t7 : tie.Need-add-t7
+add-t7 c = search needs
+
+add-t8 : tie.Need-add-t8
+add-t8 c = search needs
+
+returns-2 : tie.Need-returns-2
+unfolding tookOf
+returns-2 c =
+    let g = c .before .before .before .before .before .before .before .args in
+    rw (not-false (g .passes) (c .before .before .before .before .before .before .if1 .left), c .before .before .before .before .wrapped .ensures, eq-eqb (g .self .off) 0 (c .before .before .if2 .taken))
+
+add-t6 : tie.Need-add-t6
+add-t6 c = search needs
+
+returns-3 : tie.Need-returns-3
+unfolding tookOf
+returns-3 c =
+    let g = c .before .before .before .before .before .before .args in
+    rw (not-false (g .passes) (c .before .before .before .before .before .if1 .left), c .before .before .before .wrapped .ensures, ne-eqb (g .self .off) 0 (c .before .if2 .left))
+
+pub took-spec : {M : Type 1} → statement M
+took-spec =
+    tie.close
+    (tie.spec returns add-wrapped wrapped-requires add-t7 add-t8 returns-2 add-t6 returns-3)

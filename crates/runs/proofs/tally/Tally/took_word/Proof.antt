@@ -1,0 +1,65 @@
+-- `took_word` meets its contract: each run of a word starts a piece, but for one that goes on from before.
+use Prim.Native.Nat.{ℕ, _-_}
+use mathlib.Core.Path.{_≡_, ap, _∙_}
+use native.Mathlib.Omega.{arith}
+use borrow.Author.Needs.{needs}
+use lib.Count.{ones-le, trailing-le}
+use Rattle.runs.specs.Tally.{tookBits}
+use Rattle.runs.proofs.WordSteps.{word-runs, word-none, word-mixed}
+use Rattle.runs.proofs.tally.Tally.took_word.Statement.{statement}
+use Rattle.runs.proofs.tally.Tally.took_word.Tie as tie
+
+returns : tie.Need-returns
+returns c =
+    let g = c .before .args in
+    word-none (g .cap) (g .word) (g .self) (omega arith) (omega arith) (omega arith) (c .if1 .taken)
+
+took-whole-requires : tie.Need-took-whole-requires
+took-whole-requires c κs = search needs
+
+returns-2 : tie.Need-returns-2
+returns-2 c =
+    let g = c .before .before .before .args in
+    let e : 18446744073709551615 ≡ g .word = omega arith in
+    c .took-whole .ensures ∙ ap (λ (w : ℕ). tookBits (g .cap) (g .self) w 64) e
+
+joins-requires : tie.Need-joins-requires
+joins-requires c κs = omega (arith, trailing-le 64 (18446744073709551615 - c .before .before .args .word))
+
+add-t11 : tie.Need-add-t11
+add-t11 c = omega (arith, ones-le 64 (c .before .before .before .before .args .word) (omega arith))
+
+add-t12 : tie.Need-add-t12
+add-t12 c = omega (arith, ones-le 64 (c .before .before .before .before .before .args .word) (omega arith))
+
+sub-t13 : tie.Need-sub-t13
+sub-t13 c =
+    let g = c .before .before .before .before .before .args in
+    let j = c .before .before .joins in
+    omega (arith, word-runs (g .cap) (g .word) (g .self) (omega arith) (omega arith) (omega arith) (j .result) (j .ensures))
+
+sub-t14 : tie.Need-sub-t14
+sub-t14 c =
+    let g = c .before .before .before .before .before .args in
+    let j = c .before .before .joins in
+    omega (arith, word-runs (g .cap) (g .word) (g .self) (omega arith) (omega arith) (omega arith) (j .result) (j .ensures))
+
+returns-3 : tie.Need-returns-3
+returns-3 c =
+    let g = c .before .before .before .before .before .args in
+    let j = c .before .before .joins in
+    word-mixed (g .cap) (g .word) (g .self) (omega arith) (omega arith) (omega arith) (j .result) (j .ensures) (c .before .before .before .if2 .left)
+
+pub took-word-spec : {M : Type 1} → statement M
+took-word-spec =
+    tie.close
+    (tie.spec
+    returns
+    took-whole-requires
+    returns-2
+    joins-requires
+    add-t11
+    add-t12
+    sub-t13
+    sub-t14
+    returns-3)

@@ -1,0 +1,79 @@
+-- Laws of touched pages.
+use Prim.Native.Nat.{ℕ, _+_, _-_, _*_, _/_, _≤_, _<_}
+use native.Mathlib.Omega.{arith}
+use native.Mathlib.Nat.{add-sub-cancel-left}
+use mathlib.Core.Path.{_≡_, refl, sym, ap, subst, _∙_}
+use mathlib.Core.Bool.{Bool, true, false}
+use mathlib.Core.List.{List}
+use lib.Dec.{ltb}
+use lib.ListN.{length}
+use borrow.Author.Tests.{ltb-true, ltb-false, lt-ltb, le-ltb}
+use Rattle.basis.specs.Board.{pages, flashSize, mapSize}
+use Rattle.basis.specs.Units.{pageOf, startOf}
+use Rattle.basis.specs.Laws.Choice.{decide}
+use Rattle.runs.specs.Map.{named}
+use Rattle.runs.specs.Pages.{touched}
+use Rattle.runs.specs.Runs.{count, starts, len, next}
+use Rattle.runs.specs.Tally.{tallyAt}
+use Rattle.runs.specs.declared.tally.Tally.{Tally}
+use Rattle.runs.specs.Laws.Map.{named-past}
+use Rattle.runs.specs.Laws.Runs.{true-false, count-skip, count-mono, rank-below, next-ge, next-pass, next-skip}
+use Rattle.runs.specs.Laws.Pieces.{piece-passes}
+
+module _ (m : List ℕ) where
+  -- a touched page holds a named byte
+  pub touched-some : (q : ℕ) → touched m q ≡ true → (a : ℕ) × (named m a ≡ true) × (startOf q ≤ a) × (a < startOf (q + 1))
+  unfolding touched
+  touched-some q h =
+      let l = ltb-true (next (named m) (startOf q) 512) (startOf (q + 1)) h in
+      (next (named m) (startOf q) 512, next-pass (named m) 512 (startOf q) (omega arith), next-ge (named m) 512 (startOf q), l)
+
+  -- and a page that holds one is touched
+  some-touched : (q a : ℕ) → named m a ≡ true → startOf q ≤ a → a < startOf (q + 1) → touched m q ≡ true
+  unfolding touched
+  some-touched q a t g l =
+      decide (ltb (next (named m) (startOf q) 512) (startOf (q + 1)))
+      (λ d. d)
+      (λ d. absurd (true-false (sym t ∙ next-skip (named m) 512 (startOf q) a g (omega (arith, ltb-false (next (named m) (startOf q) 512) (startOf (q + 1)) d)))))
+
+  pub named-touched : (a : ℕ) → named m a ≡ true → touched m (pageOf a) ≡ true
+  named-touched a t = some-touched (pageOf a) a t (omega arith) (omega arith)
+
+  -- a piece lies in touched pages
+  pub piece-touched : (cap s a : ℕ) → s ≤ a → a < s + len (named m) s cap → touched m (pageOf a) ≡ true
+  piece-touched cap s a g l = named-touched a (piece-passes (named m) cap s a g l)
+
+  -- no page past the map's end is touched
+  pub touched-past : (q : ℕ) → 8 * length m ≤ startOf q → touched m q ≡ false
+  touched-past q h =
+      decide (touched m q)
+      (λ t. let s = touched-some q t in absurd (true-false (sym (s .1) ∙ named-past m (s .0) (omega arith))))
+      (λ t. t)
+
+  -- a page is touched where more bytes are named below its end than below its start
+  pub touched-counts : (q : ℕ) → touched m q ≡ ltb (count (named m) (startOf q)) (count (named m) (startOf (q + 1)))
+  touched-counts q = decide (touched m q) more none
+    where
+      more : touched m q ≡ true → touched m q ≡ ltb (count (named m) (startOf q)) (count (named m) (startOf (q + 1)))
+      more t =
+          let s = touched-some q t in
+          t ∙ sym (lt-ltb (count (named m) (startOf q)) (count (named m) (startOf (q + 1))) (omega (arith, rank-below (named m) (startOf (q + 1)) (s .0) (s .3) (s .1), count-mono (named m) (s .0) (startOf q) (s .2))))
+
+      none : touched m q ≡ false → touched m q ≡ ltb (count (named m) (startOf q)) (count (named m) (startOf (q + 1)))
+      none t =
+          let e : startOf (q + 1) ≡ startOf q + 512 = omega arith in
+          let k = count-skip (named m) (startOf q) 512 (λ i g l. decide (named m i) (λ n. absurd (true-false (sym (some-touched q i n g (omega arith)) ∙ t))) (λ n. n)) in
+          t ∙ sym (le-ltb (count (named m) (startOf q)) (count (named m) (startOf (q + 1))) (rw e (omega arith)))
+
+-- on the board nothing is named from its size on
+module _ (m : List ℕ) (long : length m ≡ mapSize) where
+  pub bytes-past : (a : ℕ) → flashSize ≤ a → named m a ≡ false
+  bytes-past a l = named-past m a (omega arith)
+
+  pub pages-past : (q : ℕ) → pages ≤ q → touched m q ≡ false
+  pages-past q l = touched-past m q (omega arith)
+
+-- the tallies of the bytes below a page's start and below its end tell whether it is touched
+pub tallies-touched : (m : List ℕ) (cap q : ℕ) {t u : Tally} → t ≡ tallyAt (named m) cap (startOf q) → u ≡ tallyAt (named m) cap (startOf (q + 1)) → ltb (t .passed) (u .passed) ≡ touched m q
+unfolding tallyAt
+tallies-touched m cap q e f = rw (e, f) (sym (touched-counts m q))

@@ -1,0 +1,47 @@
+// Named addresses in order: the next one, and how many stand in a row.
+ghost use mathlib.Core.Path.{_≡_};
+ghost use Prim.Native.Nat.{_+_, _-_, _*_, _^_, _<_, _≤_};
+ghost use lib.ListN.{length};
+ghost use Rattle.runs.specs.Map.{named};
+ghost use Rattle.runs.specs.Runs.{next, len};
+use crate::map::named;
+use basis::units::Address;
+
+// A piece has at most this many bytes.
+pub const PIECE: u32 = 250;
+
+// The lowest named address from `from` on and below `limit`, or `limit`.
+pub fn next_named(map: &[u8], from: Address, limit: Address) -> Address
+    requires { ⌜ limit .0 ≤ 8 * length (now map) ⌝ }
+    ensures { λ r. ⌜ r .0 ≡ next (named (now (map .entry))) (from .0) (limit .0 - from .0) ⌝ }
+{
+    let end = limit.0;
+    let mut at = from.0;
+    while at < end {
+        if named(map, Address(at)) {
+            return Address(at);
+        }
+        at += 1;
+    }
+    Address(at)
+}
+
+// How many named bytes stand in a row from `from` on, at most `cap`.
+pub fn run_len(map: &[u8], from: Address, cap: u32) -> u32
+    requires { ⌜ from .0 + cap < 2 ^ 32 ⌝ }
+    ensures { λ r. ⌜ r ≡ len (named (now (map .entry))) (from .0) cap ⌝ }
+{
+    let start = from.0;
+    let mut n: u32 = 0;
+    while n < cap {
+        let at = start + n;
+        if map.len() <= (at / 8) as usize {
+            return n;
+        }
+        if !named(map, Address(at)) {
+            return n;
+        }
+        n += 1;
+    }
+    n
+}

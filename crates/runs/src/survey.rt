@@ -1,0 +1,80 @@
+// The survey: one pass over the map that counts what a file has, and ranks a place among it.
+ghost use mathlib.Core.Path.{_≡_};
+ghost use Prim.Native.Nat.{_*_, _<_, _≤_};
+ghost use lib.ListN.{length};
+ghost use Rattle.basis.specs.Board.{flashSize, mapSize};
+ghost use Rattle.basis.specs.Units.{startOf};
+ghost use Rattle.runs.specs.Map.{named};
+ghost use Rattle.runs.specs.Pieces.{pieceMost};
+ghost use Rattle.runs.specs.Survey.{surveyOf};
+ghost use Rattle.runs.specs.Tally.{tallyAt};
+use crate::passes::Pass;
+use crate::passes::over_pages;
+use crate::passes::over_places;
+use crate::passes::over_words;
+use crate::tally::Tally;
+use basis::board::PAGES;
+use basis::units::Address;
+use basis::units::Page;
+
+// Runs of touched pages, pieces, and named bytes.
+pub struct Counts {
+    pub runs: u32,
+    pub pieces: u32,
+    pub named: u32,
+}
+
+// What the file has in all and below a place, and whether a run of pages and a piece start there.
+pub struct Surveyed {
+    pub all: Counts,
+    pub below: Counts,
+    pub run: bool,
+    pub piece: bool,
+}
+
+// Surveys the whole map in one pass, which halts before and behind the page of `at` to rank both.
+pub fn survey(map: &[u8], at: Address) -> Surveyed
+    requires { ⌜ (length (now map) ≡ mapSize) × (at .0 < flashSize) ⌝ }
+    ensures { λ r. ⌜ r ≡ surveyOf (now (map .entry)) (at .0) ⌝ }
+{
+    let none = Tally {
+        passed: 0,
+        pieces: 0,
+        off: 0,
+    };
+    let start = Pass {
+        bytes: none,
+        pages: none,
+    };
+    let page = at.page();
+    let behind = Page(page.0 + 1);
+    let below = over_pages(map, start, Page(0), page);
+    let here = over_pages(map, below, page, behind);
+    let all = over_pages(map, here, behind, Page(PAGES));
+    let place = up_to(map, below.bytes, page, at);
+    let next = over_places(map, place, at, Address(at.0 + 1));
+    Surveyed {
+        all: Counts {
+            runs: all.pages.pieces,
+            pieces: all.bytes.pieces,
+            named: all.bytes.passed,
+        },
+        below: Counts {
+            runs: below.pages.pieces,
+            pieces: place.pieces,
+            named: place.passed,
+        },
+        run: below.pages.pieces < here.pages.pieces,
+        piece: place.pieces < next.pieces,
+    }
+}
+
+// From the tally of the addresses below a page to that of the addresses below one of the page's.
+fn up_to(map: &[u8], tally: Tally, page: Page, at: Address) -> Tally
+    requires { ⌜ (startOf (page .0) ≤ at .0) × (at .0 < flashSize) × (length (now map) ≡ mapSize) × (tally ≡ tallyAt (named (now map)) pieceMost (startOf (page .0))) ⌝ }
+    ensures { λ r. ⌜ r ≡ tallyAt (named (now (map .entry))) pieceMost (at .0) ⌝ }
+{
+    let word = at.0 / 64;
+    let t = over_words(map, tally, 8 * (page.0 as usize), word as usize);
+    over_places(map, t, Address(word * 64), at)
+}
