@@ -1,1 +1,2 @@
 pub mod Flash
+pub mod Writer

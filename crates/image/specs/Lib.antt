@@ -4,4 +4,5 @@ pub mod Digits
 pub mod Places
 pub mod Record
 pub mod Hex
+pub mod Writer
 pub mod Laws

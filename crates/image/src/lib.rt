@@ -4,3 +4,4 @@ pub mod flash;
 pub mod hex;
 pub mod places;
 pub mod record;
+pub mod writer;
