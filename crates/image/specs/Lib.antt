@@ -5,4 +5,5 @@ pub mod Places
 pub mod Record
 pub mod Hex
 pub mod Writer
+pub mod RoundTrip
 pub mod Laws

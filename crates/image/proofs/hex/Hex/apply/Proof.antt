@@ -4,7 +4,8 @@ use native.Mathlib.Omega.{arith}
 use denote.Ref.{now}
 use Rattle.image.specs.Record.{paperCheck}
 use Rattle.image.specs.Hex.{settled}
-use Rattle.image.proofs.Records.{framing-count, apply-framing, apply-shape, apply-data, apply-told}
+use Rattle.image.specs.Laws.Hex.{framing-count}
+use Rattle.image.proofs.Records.{apply-framing, apply-shape, apply-data, apply-told}
 use borrow.Author.Needs.{needs}
 use Rattle.image.proofs.hex.Hex.apply.Statement.{statement}
 use Rattle.image.proofs.hex.Hex.apply.Tie as tie

@@ -7,7 +7,8 @@ use native.Mathlib.Omega.{arith}
 use denote.Ref.{now}
 use Rattle.image.specs.Record.{paperCheck}
 use Rattle.image.specs.Hex.{settled}
-use Rattle.image.proofs.Records.{characters-length, take-refused, take-applied}
+use Rattle.image.specs.Laws.Hex.{characters-length}
+use Rattle.image.proofs.Records.{take-refused, take-applied}
 use borrow.Author.Needs.{needs}
 use Rattle.image.proofs.hex.Hex.take.Statement.{statement}
 use Rattle.image.proofs.hex.Hex.take.Tie as tie

@@ -1,5 +1,5 @@
 -- `told` meets its contract: each type by its own arm; types 02 to 05 have the two bytes that are read.
-use Rattle.image.proofs.Records.{shape-count}
+use Rattle.image.specs.Laws.Hex.{shape-count}
 use native.Mathlib.Omega.{arith}
 use borrow.Author.Tests.{eq-eqb, ne-eqb}
 use borrow.Author.Needs.{needs}
