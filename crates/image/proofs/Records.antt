@@ -1,22 +1,18 @@
 -- The ways out of the reader's functions, each by the table.
-use Prim.Native.Nat.{ℕ, _+_, _*_, _/_, _%_, _<_, _≤_}
-use mathlib.Core.Path.{_≡_, refl, ap, _∙_}
-use mathlib.Core.Bool.{Bool, true, false, not}
-use mathlib.Core.List.{List, [], _∷_}
-use native.Mathlib.Omega.{arith}
-use lib.Dec.{eqb, ltb}
+use Prim.Native.Nat.{ℕ, _+_, _/_, _<_, _≤_}
+use mathlib.Core.Path.{_≡_, refl}
+use mathlib.Core.Bool.{true, false}
+use mathlib.Core.List.{List}
 use lib.ListN.{length, drop, replicate}
-use borrow.Author.Tests.{eq-eqb, ne-eqb, lt-ltb, le-ltb, eqb-true, eqb-false, ltb-false, not-false}
-use Rattle.basis.specs.Choice.{pick, both, either}
-use Rattle.basis.specs.Refusals.{Answer, refused, given, Rule, _when_, first}
-use Rattle.basis.specs.Laws.Refusals.{passed}
+use borrow.Author.Tests.{eq-eqb, ne-eqb, lt-ltb, le-ltb}
+use Rattle.basis.specs.Refusals.{refused, given, first}
 use Rattle.image.specs.Digits.{bytesOf}
-use Rattle.image.specs.Record.{count, kind, address, payload, noColon, lengthWrong, notDigits, countWrong, sumWrong, isData, kindWrong, shapeWrong, charactersOf, framingOf, shapeOf}
+use Rattle.image.specs.Record.{count, kind, payload, charactersOf, framingOf, shapeOf}
 use Rattle.image.specs.Flash.{stored, copyOf}
 use Rattle.image.specs.Places.{anyNamed, nameAllOf}
-use Rattle.image.specs.Hex.{file, outcome, settled, fresh, startIn, place, placeWrong, placeTaken, placed, toldOf, sizeWrong, recordIn, applyIn, dataIn}
+use Rattle.image.specs.Hex.{file, outcome, settled, fresh, startIn, place, placeTaken, toldOf, recordIn, applyIn, dataIn}
 use Rattle.image.specs.declared.hex.Hex.{Hex}
-use Rattle.image.specs.Laws.Hex.{shape-count, framing-count, Long, characters-length, after, size-right, record-cut, apply-cut}
+use Rattle.image.specs.Laws.Hex.{size-right, record-cut, apply-cut}
 
 -- ---- the ways out of `apply`
 

@@ -3,3 +3,4 @@ pub mod Places
 pub mod Writer
 pub mod Hex
 pub mod RoundTrip
+pub mod Cases

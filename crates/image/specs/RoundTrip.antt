@@ -6,7 +6,7 @@ use lib.ListN.{length, take}
 use Rattle.basis.specs.Choice.{pick}
 use Rattle.basis.specs.Refusals.{Answer, refused, given}
 use Rattle.image.specs.Hex.{File, recordIn}
-use Rattle.image.specs.Writer.{Step, stepFrom}
+use Rattle.image.specs.Writer.{stepFrom}
 
 -- a record with its line end removed
 abbrev pub unended : List ℕ → List ℕ

@@ -5,8 +5,8 @@ use mathlib.Core.Bool.{Bool, true, false, not}
 use mathlib.Core.List.{List, [], _∷_}
 use native.Mathlib.Omega.{arith}
 use lib.Dec.{eqb, ltb}
-use lib.ListN.{length, getD, drop, replicate}
-use borrow.Author.Tests.{eq-eqb, ne-eqb, lt-ltb, le-ltb, eqb-true, eqb-false, ltb-false, not-false}
+use lib.ListN.{length, getD, drop}
+use borrow.Author.Tests.{eq-eqb, ne-eqb, le-ltb, eqb-true, eqb-false, ltb-false, not-false}
 use Rattle.basis.specs.Choice.{pick, both, either}
 use Rattle.basis.specs.Refusals.{Answer, refused, given, Rule, _when_, first}
 use Rattle.basis.specs.Laws.Refusals.{passed}
@@ -15,10 +15,8 @@ use Rattle.basis.specs.Sums.{total, sumOf}
 use Rattle.image.specs.Digits.{digitOf, allDigits, bytesOf}
 use Rattle.image.specs.Writer.{letterOf, spelt, line}
 use Rattle.image.specs.Laws.Writer.{length-spelt, spelt-digits, spelt-bytes}
-use Rattle.image.specs.Record.{count, kind, address, payload, noColon, lengthWrong, notDigits, countWrong, sumWrong, isData, kindWrong, shapeWrong, charactersOf, framingOf, shapeOf}
-use Rattle.image.specs.Flash.{stored, copyOf}
-use Rattle.image.specs.Places.{anyNamed, nameAllOf}
-use Rattle.image.specs.Hex.{file, outcome, settled, fresh, startIn, place, placeWrong, placeTaken, placed, toldOf, sizeWrong, recordIn, applyIn, dataIn}
+use Rattle.image.specs.Record.{count, kind, address, noColon, lengthWrong, notDigits, countWrong, sumWrong, isData, kindWrong, shapeWrong, charactersOf, framingOf, shapeOf}
+use Rattle.image.specs.Hex.{file, place, placeWrong, placeTaken, placed, toldOf, sizeWrong, recordIn, applyIn, dataIn}
 use Rattle.image.specs.declared.hex.Hex.{Hex}
 
 never : (t : Bool) → both t false ≡ false

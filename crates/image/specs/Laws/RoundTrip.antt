@@ -1,30 +1,27 @@
 -- A file with a named byte, written and read back, gives the same map and the same named bytes.
 use Prim.Native.Nat.{ℕ, zero, suc, _+_, _*_, _-_, _/_, _%_, _<_, _≤_}
 use mathlib.Core.Path.{_≡_, refl, sym, ap, _∙_}
-use mathlib.Core.Bool.{Bool, true, false}
+use mathlib.Core.Bool.{true, false}
 use mathlib.Core.List.{List, [], _∷_, _++_}
 use native.Mathlib.Omega.{arith}
 use lib.Dec.{ltb, leb}
-use lib.ListN.{length, getD, take, drop, replicate, length-append, length-take, length-drop, length-replicate, List·getD-eq-default}
+use lib.ListN.{length, getD, take, drop, replicate, length-append, length-drop, length-replicate, List·getD-eq-default}
 use lib.Seq.{take-at, length-take-le, getD-take, getD-drop}
-use borrow.Author.Tests.{lt-ltb, le-ltb, ltb-true, ltb-false, leb-true, leb-false, le-leb, lt-leb, eq-eqb}
-use Rattle.basis.specs.Choice.{pick, either}
+use borrow.Author.Tests.{lt-ltb, le-ltb, ltb-true, ltb-false, leb-true, leb-false, le-leb, lt-leb}
 use Rattle.basis.specs.Lists.{Bytes}
-use Rattle.basis.specs.Refusals.{Answer, given, first}
-use Rattle.basis.specs.Sums.{sumOf, checksumOf}
+use Rattle.basis.specs.Refusals.{given, first}
+use Rattle.basis.specs.Sums.{checksumOf}
 use Rattle.basis.specs.Laws.Choice.{decide}
 use Rattle.basis.specs.Laws.Sums.{sum-closed}
 use Rattle.runs.specs.Map.{named}
-use Rattle.runs.specs.Runs.{len, next}
 use Rattle.runs.specs.Laws.Map.{named-past, named-none, named-only}
-use Rattle.runs.specs.Laws.Runs.{true-false, next-ge, next-le, next-pass, next-skip, len-le, len-ge, len-in}
+use Rattle.runs.specs.Laws.Runs.{true-false, next-ge, next-pass, next-skip, len-le, len-ge, len-in}
 use Rattle.image.specs.Flash.{copyOf, new}
-use Rattle.image.specs.Places.{anyNamed, nameAllOf}
-use Rattle.image.specs.Record.{count, address, payload}
-use Rattle.image.specs.Hex.{File, file, fresh, fed, place, placed, placeTaken, sizeWrong, recordIn, closeOf}
+use Rattle.image.specs.Places.{nameAllOf}
+use Rattle.image.specs.Hex.{File, file, fresh, fed, place, placed, recordIn, closeOf}
 use Rattle.image.specs.declared.hex.Hex.{Hex}
-use Rattle.image.specs.Writer.{content, line, text, Step, step, runLength, runFrom, lowest, stepFrom}
-use Rattle.image.specs.RoundTrip.{unended, lines, addressAfter, onward, readLines}
+use Rattle.image.specs.Writer.{content, line, text, step, runLength, runFrom, lowest, stepFrom}
+use Rattle.image.specs.RoundTrip.{unended, lines, addressAfter, readLines}
 use Rattle.image.specs.Laws.Flash.{length-stored, stored-below, stored-at}
 use Rattle.image.specs.Laws.Places.{any-none, name-all-length, name-all-bytes, name-all-below, name-all-above, name-all-in}
 use Rattle.image.specs.Laws.Hex.{size-right, data-taken, end-taken}
@@ -130,12 +127,12 @@ module _ (size : ℕ) (image map : List ℕ) where
       run-read : recordIn size (f .reader) (line a 0 part) (f .image) (f .map) ≡ given more
       run-read =
           data-taken size (f .reader) (f .image) (f .map) (size-right size (f .reader) (f .image) (f .map) (u .imageLength) (u .mapLength)) (u .going) (closed a part)
-              (closed-bytes a part (omega arith) (omega (arith, part-length)) part-bytes)
-              (omega (arith, length-append part (checksumOf (content a 0 part) ∷ [])))
-              (sum-closed (content a 0 part))
-              refl
-              (omega (arith, part-length, place-at (f .reader) a part (u .linear) (u .segment)))
-              (rw (place-at (f .reader) a part (u .linear) (u .segment), part-length) (any-none (f .map) a n (λ j l m. u .above j l)))
+          (closed-bytes a part (omega arith) (omega (arith, part-length)) part-bytes)
+          (omega (arith, length-append part (checksumOf (content a 0 part) ∷ [])))
+          (sum-closed (content a 0 part))
+          refl
+          (omega (arith, part-length, place-at (f .reader) a part (u .linear) (u .segment)))
+          (rw (place-at (f .reader) a part (u .linear) (u .segment), part-length) (any-none (f .map) a n (λ j l m. u .above j l)))
           ∙ ap given (placed-at (f .reader) a part (f .image) (f .map) (u .linear) (u .segment) ∙ rw part-length)
 
       upto-more : Upto (a + n) more
@@ -203,6 +200,10 @@ module _ (size : ℕ) (image map : List ℕ) where
       unfolding stepFrom
       step-run a l h = simp (le-ltb _ _ l, lt-leb _ _ h)
 
+      beyond : (a : ℕ) → size < a → stepFrom size image map a ≡ step [] a
+      unfolding stepFrom
+      beyond a h = simp (lt-ltb _ _ h)
+
       lines-step : (a k b c d : ℕ) (s : List ℕ) → a ≤ size → stepFrom size image map a ≡ step (text b c s) d → lines size image map a (suc k) ≡ line b c s ∷ lines size image map d k
       unfolding lines
       lines-step a k b c d s l e = rw (le-ltb size a l, e, unended-text b c s)
@@ -236,7 +237,7 @@ module _ (size : ℕ) (image map : List ℕ) where
           was-taken : f .reader .taken ≡ true
           was-taken =
               decide (f .reader .taken) (λ e. e)
-                  (λ e. absurd (true-false (sym nx ∙ decide (ltb x a) (λ t. u .none e x (ltb-true x a t)) (λ t. none-named x (ltb-false x a t)))))
+              (λ e. absurd (true-false (sym nx ∙ decide (ltb x a) (λ t. u .none e x (ltb-true x a t)) (λ t. none-named x (ltb-false x a t)))))
 
           abbrev last : File
           last =
@@ -251,16 +252,16 @@ module _ (size : ℕ) (image map : List ℕ) where
               record {
                 result = last;
                 read =
-                  ap (λ (s : List (List ℕ)). readLines size s f) (lines-step a k 0 1 (size + 1) [] l (step-end a l h))
-                  ∙ read-step (line 0 1 []) (lines size image map (size + 1) k) f last (end-taken size (f .reader) (f .image) (f .map) (size-right size (f .reader) (f .image) (f .map) (u .imageLength) (u .mapLength)) (u .going))
-                  ∙ ap (λ (s : List (List ℕ)). readLines size s last) (lines-past k)
-                  ∙ read-none last;
+                    ap (λ (s : List (List ℕ)). readLines size s f) (lines-step a k 0 1 (size + 1) [] l (step-end a l h))
+                    ∙ read-step (line 0 1 []) (lines size image map (size + 1) k) f last (end-taken size (f .reader) (f .image) (f .map) (size-right size (f .reader) (f .image) (f .map) (u .imageLength) (u .mapLength)) (u .going))
+                    ∙ ap (λ (s : List (List ℕ)). readLines size s last) (lines-past k)
+                    ∙ read-none last;
                 back =
-                  record {
-                    closes = closed-well;
-                    sameMap = named-only (f .map) map (u .mapLength ∙ sym ml) (u .mapBytes) mapBytes (λ j. decide (ltb j a) (λ e. u .below j (ltb-true j a e)) (λ e. u .above j (ltb-false j a e) ∙ sym (none-named j (ltb-false j a e))));
-                    sameBytes = λ j e. decide (ltb j a) (λ t. u .bytes j (ltb-true j a t) e) (λ t. absurd (true-false (sym e ∙ none-named j (ltb-false j a t))));
-                  };
+                    record {
+                      closes = closed-well;
+                      sameMap = named-only (f .map) map (u .mapLength ∙ sym ml) (u .mapBytes) mapBytes (λ j. decide (ltb j a) (λ e. u .below j (ltb-true j a e)) (λ e. u .above j (ltb-false j a e) ∙ sym (none-named j (ltb-false j a e))));
+                      sameBytes = λ j e. decide (ltb j a) (λ t. u .bytes j (ltb-true j a t) e) (λ t. absurd (true-false (sym e ∙ none-named j (ltb-false j a t))));
+                    };
               }
 
         module _ (a k : ℕ) (f : File) (u : Upto a f) (l : a ≤ size) (h : lowest size map a < size) where
@@ -291,9 +292,9 @@ module _ (size : ℕ) (image map : List ℕ) where
               record {
                 result = r .result;
                 read =
-                  ap (λ (s : List (List ℕ)). readLines size s f) (lines-step a k (lowest size map a) 0 (lowest size map a + far) (take far (drop (lowest size map a) image)) l (step-run a l h))
-                  ∙ read-step (line (lowest size map a) 0 (take far (drop (lowest size map a) image))) (lines size image map (lowest size map a + far) k) f onto onto-read
-                  ∙ r .read;
+                    ap (λ (s : List (List ℕ)). readLines size s f) (lines-step a k (lowest size map a) 0 (lowest size map a + far) (take far (drop (lowest size map a) image)) l (step-run a l h))
+                    ∙ read-step (line (lowest size map a) 0 (take far (drop (lowest size map a) image))) (lines size image map (lowest size map a + far) k) f onto onto-read
+                    ∙ r .read;
                 back = r .back;
               }
 
@@ -301,9 +302,9 @@ module _ (size : ℕ) (image map : List ℕ) where
         from-here zero a f u l m = absurd (omega arith)
         from-here (suc k) a f u l m =
             decide (leb size (lowest size map a))
-                (λ e. at-end a k f u l (leb-true _ _ e))
-                (λ e. let h : lowest size map a < size = leb-false _ _ e in
-                at-run a k f u l h (from-here k (lowest size map a + far a k f u l h) (onto a k f u l h) (onto-upto a k f u l h) (far-end a k f u l h) (fewer a k f u l h m)))
+            (λ e. at-end a k f u l (leb-true _ _ e))
+            (λ e. let h : lowest size map a < size = leb-false _ _ e in
+            at-run a k f u l h (from-here k (lowest size map a + far a k f u l h) (onto a k f u l h) (onto-upto a k f u l h) (far-end a k f u l h) (fewer a k f u l h m)))
           where
             fewer : (a k : ℕ) (f : File) (u : Upto a f) (l : a ≤ size) (h : lowest size map a < size) → size - a < suc k → size - (lowest size map a + far a k f u l h) < k
             fewer a k f u l h m = omega (arith, next-ge (named map) (size - a) a, run-some a h)
@@ -326,3 +327,23 @@ module _ (size : ℕ) (image map : List ℕ) where
                   above = λ j m. named-none (size / 8) j;
                   bytes = λ j m e. absurd (omega arith);
                 }
+
+      -- ---- the writer comes to its end
+
+      address-past : (k : ℕ) → addressAfter size image map (size + 1) k ≡ size + 1
+      unfolding addressAfter
+      address-past zero = refl
+      address-past (suc k) = rw step-past (address-past k)
+        where
+          step-past : stepFrom size image map (size + 1) ≡ step [] (size + 1)
+          step-past = beyond (size + 1) (omega arith)
+
+      -- after at most size + 1 records the end record was written
+      pub writer-ends : (k a : ℕ) → a ≤ size → size - a < k → addressAfter size image map a k ≡ size + 1
+      unfolding addressAfter
+      writer-ends zero a l m = absurd (omega arith)
+      writer-ends (suc k) a l m =
+          decide (leb size (lowest size map a))
+          (λ e. rw (step-end a l (leb-true _ _ e)) (address-past k))
+          (λ e. let h : lowest size map a < size = leb-false _ _ e in
+          rw (step-run a l h) (writer-ends k (lowest size map a + runLength map (lowest size map a)) (omega (arith, run-few a h)) (omega (arith, next-ge (named map) (size - a) a, run-some a h))))
