@@ -48,9 +48,12 @@ sizeWrong size image map = not (both (eqb (length image) size) (eqb (length map)
 abbrev pub fresh : Hex
 fresh = record { linear = 0; segment = 0; ended = false; taken = false }
 
+-- a file at its start
+abbrev pub started : ℕ → File
+started size = file fresh (replicate size 0xFF) (replicate (size / 8) 0)
+
 unfoldable pub startIn : ℕ → List ℕ → List ℕ → Answer File
-startIn size image map =
-    first (20 when sizeWrong size image map ∷ []) (given (file fresh (replicate size 0xFF) (replicate (size / 8) 0)))
+startIn size image map = first (20 when sizeWrong size image map ∷ []) (given (started size))
 
 -- the place of the first data byte, as a whole number
 abbrev pub place : Hex → List ℕ → ℕ

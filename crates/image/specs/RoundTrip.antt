@@ -1,11 +1,14 @@
 -- A file written record by record, and read back.
 use Prim.Native.Nat.{ℕ, zero, suc, _-_}
+use mathlib.Core.Path.{_≡_}
+use mathlib.Core.Bool.{true}
 use mathlib.Core.List.{List, [], _∷_}
 use lib.Dec.{ltb}
-use lib.ListN.{length, take}
+use lib.ListN.{length, getD, take}
 use Rattle.basis.specs.Choice.{pick}
 use Rattle.basis.specs.Refusals.{Answer, refused, given}
-use Rattle.image.specs.Hex.{File, recordIn}
+use Rattle.runs.specs.Map.{named}
+use Rattle.image.specs.Hex.{File, recordIn, closeOf}
 use Rattle.image.specs.Writer.{stepFrom}
 
 -- a record with its line end removed
@@ -32,3 +35,15 @@ onward (given f) g = g f
 unfoldable pub readLines : ℕ → List (List ℕ) → File → Answer File
 readLines size [] f = given f
 readLines size (l ∷ s) f = onward (recordIn size (f .reader) l (f .image) (f .map)) (readLines size s)
+
+-- a file that closes, with the map and the named bytes that were written
+pub record Back (image map : List ℕ) (f : File) : Type 0 where
+  pub closes : closeOf (f .reader) ≡ given (f .reader)
+  pub sameMap : f .map ≡ map
+  pub sameBytes : (j : ℕ) → named map j ≡ true → getD (f .image) j 0 ≡ getD image j 0
+
+-- all k records from address a on are taken by a reader at f, and give such a file
+pub record Returned (size : ℕ) (image map : List ℕ) (a k : ℕ) (f : File) : Type 0 where
+  pub result : File
+  pub read : readLines size (lines size image map a k) f ≡ given result
+  pub back : Back image map result

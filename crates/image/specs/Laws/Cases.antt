@@ -1,7 +1,7 @@
 -- The records of the paper's cases, read by a fresh reader on a board of 272 bytes.
-use Prim.Native.Nat.{ℕ, _+_}
+use Prim.Native.Nat.{ℕ, _*_}
 use mathlib.Core.Path.{_≡_, refl}
-use mathlib.Core.Bool.{Bool, true}
+use mathlib.Core.Bool.{Bool, true, false}
 use mathlib.Core.List.{List, [], _∷_}
 use lib.Dec.{eqb}
 use lib.ListN.{getD, replicate}
@@ -33,9 +33,10 @@ abbrev linear : Answer File → ℕ
 linear (refused n) = 0
 linear (given f) = f .reader .linear
 
-abbrev untaken : Answer File → ℕ
-untaken (refused n) = 1
-untaken (given f) = total (f .map) + byteAt (given f) 0
+-- accepted, and image and map stand as at the start
+abbrev unchanged : Answer File → Bool
+unchanged (refused n) = false
+unchanged (given f) = both (eqb (total (f .image)) (272 * 0xFF)) (eqb (total (f .map)) 0)
 
 abbrev all : List Bool → Bool
 all [] = true
@@ -58,7 +59,7 @@ cases =
     ∷ eqb (number (on (0x04 ∷ 0x01 ∷ 0x00 ∷ 0x00 ∷ 0x90 ∷ 0xFF ∷ 0xAA ∷ 0x55 ∷ 0x02 ∷ []))) 26
     ∷ eqb (number (on (0x04 ∷ 0x01 ∷ 0x00 ∷ 0x00 ∷ 0x90 ∷ 0xFF ∷ 0xAA ∷ 0x55 ∷ 0x6D ∷ []))) 0
     -- data of count 0 at 0xFFFF is accepted and changes nothing
-    ∷ eqb (untaken (on (0x00 ∷ 0xFF ∷ 0xFF ∷ 0x00 ∷ 0x02 ∷ []))) 0xFF
+    ∷ unchanged (on (0x00 ∷ 0xFF ∷ 0xFF ∷ 0x00 ∷ 0x02 ∷ []))
     -- the board's last byte is taken, one more is 29
     ∷ eqb (number (on (0x01 ∷ 0x01 ∷ 0x0F ∷ 0x00 ∷ 0x00 ∷ 0xEF ∷ []))) 0
     ∷ eqb (number (on (0x02 ∷ 0x01 ∷ 0x0F ∷ 0x00 ∷ 0x00 ∷ 0x00 ∷ 0xEE ∷ []))) 29

@@ -18,10 +18,10 @@ use Rattle.runs.specs.Laws.Map.{named-past, named-none, named-only}
 use Rattle.runs.specs.Laws.Runs.{true-false, next-ge, next-pass, next-skip, len-le, len-ge, len-in}
 use Rattle.image.specs.Flash.{copyOf, new}
 use Rattle.image.specs.Places.{nameAllOf}
-use Rattle.image.specs.Hex.{File, file, fresh, fed, place, placed, recordIn, closeOf}
+use Rattle.image.specs.Hex.{File, file, started, fed, place, placed, recordIn, closeOf}
 use Rattle.image.specs.declared.hex.Hex.{Hex}
 use Rattle.image.specs.Writer.{content, line, text, step, runLength, runFrom, lowest, stepFrom}
-use Rattle.image.specs.RoundTrip.{unended, lines, addressAfter, readLines}
+use Rattle.image.specs.RoundTrip.{unended, lines, addressAfter, readLines, Returned}
 use Rattle.image.specs.Laws.Flash.{length-stored, stored-below, stored-at}
 use Rattle.image.specs.Laws.Places.{any-none, name-all-length, name-all-bytes, name-all-below, name-all-above, name-all-in}
 use Rattle.image.specs.Laws.Hex.{size-right, data-taken, end-taken}
@@ -68,7 +68,7 @@ zero-below (suc n) (suc k) = zero-below n k
 
 module _ (size : ℕ) (image map : List ℕ) where
   -- all named bytes below a have been read, and nothing else
-  pub record Upto (a : ℕ) (f : File) : Type 0 where
+  record Upto (a : ℕ) (f : File) : Type 0 where
     pub linear : f .reader .linear ≡ 0
     pub segment : f .reader .segment ≡ 0
     pub going : f .reader .ended ≡ false
@@ -181,17 +181,6 @@ module _ (size : ℕ) (image map : List ℕ) where
             let e : low + (j - low) ≡ j = omega arith in
             rw e at (len-in (named map) (16 - low % 16) low (j - low) (omega arith))
 
-      -- the same map and named bytes, in a file that closes
-      pub record Back (f : File) : Type 0 where
-        pub closes : closeOf (f .reader) ≡ given (f .reader)
-        pub sameMap : f .map ≡ map
-        pub sameBytes : (j : ℕ) → named map j ≡ true → getD (f .image) j 0 ≡ getD image j 0
-
-      pub record Returned (a k : ℕ) (f : File) : Type 0 where
-        pub result : File
-        pub read : readLines size (lines size image map a k) f ≡ given result
-        pub back : Back result
-
       step-end : (a : ℕ) → a ≤ size → size ≤ lowest size map a → stepFrom size image map a ≡ step (text 0 1 []) (size + 1)
       unfolding stepFrom
       step-end a l h = simp (le-ltb _ _ l, le-leb _ _ h)
@@ -247,7 +236,7 @@ module _ (size : ℕ) (image map : List ℕ) where
           unfolding first closeOf
           closed-well = rw was-taken
 
-          at-end : Returned a (suc k) f
+          at-end : Returned size image map a (suc k) f
           at-end =
               record {
                 result = last;
@@ -287,7 +276,7 @@ module _ (size : ℕ) (image map : List ℕ) where
           onto-upto =
               upto-more (lowest size map a) far f upto-low (run-some a h) (omega (arith, run-few a h)) far-end (omega arith) (run-named a h) il
 
-          at-run : Returned (lowest size map a + far) k onto → Returned a (suc k) f
+          at-run : Returned size image map (lowest size map a + far) k onto → Returned size image map a (suc k) f
           at-run r =
               record {
                 result = r .result;
@@ -298,7 +287,7 @@ module _ (size : ℕ) (image map : List ℕ) where
                 back = r .back;
               }
 
-        from-here : (k a : ℕ) (f : File) → Upto a f → a ≤ size → size - a < k → Returned a k f
+        from-here : (k a : ℕ) (f : File) → Upto a f → a ≤ size → size - a < k → Returned size image map a k f
         from-here zero a f u l m = absurd (omega arith)
         from-here (suc k) a f u l m =
             decide (leb size (lowest size map a))
@@ -309,11 +298,10 @@ module _ (size : ℕ) (image map : List ℕ) where
             fewer : (a k : ℕ) (f : File) (u : Upto a f) (l : a ≤ size) (h : lowest size map a < size) → size - a < suc k → size - (lowest size map a + far a k f u l h) < k
             fewer a k f u l h m = omega (arith, next-ge (named map) (size - a) a, run-some a h)
 
-        -- the records of the whole file, read from a fresh reader
-        pub round-trip : Returned 0 (size + 1) (file fresh (replicate size 0xFF) (replicate (size / 8) 0))
-        round-trip = from-here (size + 1) 0 _ upto-none (omega arith) (omega arith)
+        file-returns : Returned size image map 0 (size + 1) (started size)
+        file-returns = from-here (size + 1) 0 _ upto-none (omega arith) (omega arith)
           where
-            upto-none : Upto 0 (file fresh (replicate size 0xFF) (replicate (size / 8) 0))
+            upto-none : Upto 0 (started size)
             upto-none =
                 record {
                   linear = refl;
@@ -339,7 +327,7 @@ module _ (size : ℕ) (image map : List ℕ) where
           step-past = beyond (size + 1) (omega arith)
 
       -- after at most size + 1 records the end record was written
-      pub writer-ends : (k a : ℕ) → a ≤ size → size - a < k → addressAfter size image map a k ≡ size + 1
+      writer-ends : (k a : ℕ) → a ≤ size → size - a < k → addressAfter size image map a k ≡ size + 1
       unfolding addressAfter
       writer-ends zero a l m = absurd (omega arith)
       writer-ends (suc k) a l m =
@@ -347,3 +335,12 @@ module _ (size : ℕ) (image map : List ℕ) where
           (λ e. rw (step-end a l (leb-true _ _ e)) (address-past k))
           (λ e. let h : lowest size map a < size = leb-false _ _ e in
           rw (step-run a l h) (writer-ends k (lowest size map a + runLength map (lowest size map a)) (omega (arith, run-few a h)) (omega (arith, next-ge (named map) (size - a) a, run-some a h))))
+
+-- Writing a file with a named byte record by record and reading the records back from a fresh reader is accepted throughout,
+-- closes, and gives the same map and the same named bytes.
+pub round-trip : (size : ℕ) (image map : List ℕ) → size ≤ 65536 → size % 16 ≡ 0 → length image ≡ size → length map ≡ size / 8 → Bytes image → Bytes map → (x : ℕ) → named map x ≡ true → Returned size image map 0 (size + 1) (started size)
+round-trip size image map fits whole il ml ib mb x nx = file-returns size image map fits ib whole il ml mb x nx
+
+-- The writer has given its end record after at most size + 1 records.
+pub end-comes : (size : ℕ) (image map : List ℕ) → size ≤ 65536 → size % 16 ≡ 0 → length image ≡ size → length map ≡ size / 8 → Bytes image → addressAfter size image map 0 (size + 1) ≡ size + 1
+end-comes size image map fits whole il ml ib = writer-ends size image map fits ib whole il ml (size + 1) 0 (omega arith) (omega arith)
