@@ -3,8 +3,12 @@ ghost use mathlib.Core.Path.{_≡_};
 ghost use Prim.Native.Nat.{_+_, _*_, _<_, _≤_};
 ghost use lib.ListN.{length};
 ghost use Rattle.basis.specs.Lists.{overlay};
+ghost use Rattle.basis.specs.Board.{flashSize};
 ghost use Rattle.image.specs.Flash.{copyOf};
 ghost use Rattle.image.specs.Writer.{letterOf, spelt, text, paperWritten, told, textOf, writeIn};
+use crate::flash::SIZE;
+use basis::board::FLASH;
+use basis::board::MAP;
 use basis::sums::sum;
 use basis::units::Address;
 use runs::places::next_named;
@@ -19,30 +23,30 @@ pub enum Written {
 // The record that starts at the lowest named byte from `from` on, closed by 0A; the end record where there is none.
 // From above the board nothing is written.
 pub fn write(image: &[u8], map: &[u8], from: Address, buffer: &mut [u8]) -> Written
-    ensures answer { λ r. ⌜ paperWritten r ≡ told (writeIn 63488 (now (image .entry)) (now (map .entry)) (from .0) (length (now (buffer .entry)))) ⌝ }
-    ensures buffer { λ _. ⌜ now (buffer .exit) ≡ overlay (textOf (writeIn 63488 (now (image .entry)) (now (map .entry)) (from .0) (length (now (buffer .entry))))) (now (buffer .entry)) ⌝ }
+    ensures answer { λ r. ⌜ paperWritten r ≡ told (writeIn flashSize (now (image .entry)) (now (map .entry)) (from .0) (length (now (buffer .entry)))) ⌝ }
+    ensures buffer { λ _. ⌜ now (buffer .exit) ≡ overlay (textOf (writeIn flashSize (now (image .entry)) (now (map .entry)) (from .0) (length (now (buffer .entry))))) (now (buffer .entry)) ⌝ }
 {
-    if image.len() != 63488 {
+    if image.len() != SIZE {
         return Written::Size;
     }
-    if map.len() != 7936 {
+    if map.len() != MAP {
         return Written::Size;
     }
     if buffer.len() < 44 {
         return Written::Short;
     }
-    if 63488 < from.0 {
+    if FLASH < from.0 {
         return Written::Record {
             length: 0,
             next: from,
         };
     }
-    let place = next_named(map, from, Address(63488));
-    if 63488 <= place.0 {
+    let place = next_named(map, from, Address(FLASH));
+    if FLASH <= place.0 {
         let length = print(0, 1, &image[..0], buffer);
         return Written::Record {
             length,
-            next: Address(63489),
+            next: Address(FLASH + 1),
         };
     }
     let at = place.0;

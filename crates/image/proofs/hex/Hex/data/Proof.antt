@@ -42,6 +42,9 @@ cast-place-3 c = search needs
 add-place-2 : tie.Need-add-place-2
 add-place-2 c = search needs
 
+cast-if2 : tie.Need-cast-if2
+cast-if2 c = search needs
+
 add-if2 : tie.Need-add-if2
 add-if2 c = search needs
 
@@ -112,6 +115,7 @@ data-spec =
     word-requires
     cast-place-3
     add-place-2
+    cast-if2
     add-if2
     returns-2
     cast-any-named
