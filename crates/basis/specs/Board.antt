@@ -9,6 +9,6 @@ pages = 124
 abbrev pub flashSize : ℕ
 flashSize = 0xF800
 
--- the map has one bit for each
+-- the map has one bit for each byte
 abbrev pub mapSize : ℕ
 mapSize = 7936

@@ -3,4 +3,4 @@ pub mod Refusals
 pub mod Computed
 pub mod Lists
 pub mod Sums
-pub mod Units
+pub mod Bits

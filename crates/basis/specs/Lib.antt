@@ -4,5 +4,6 @@ pub mod Refusals
 pub mod Lists
 pub mod Board
 pub mod Units
+pub mod Bits
 pub mod Sums
 pub mod Laws

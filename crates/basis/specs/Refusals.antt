@@ -32,3 +32,8 @@ counted (given s) = given (length s)
 abbrev pub written : Answer (List ℕ) → List ℕ
 written (refused n) = []
 written (given s) = s
+
+-- an answer without its value: accepted, or refused
+abbrev pub bare : {A : Type 0} → Answer A → Answer (Unit {0})
+bare (refused n) = refused n
+bare (given x) = given tt

@@ -1,4 +1,5 @@
-// What every part stands on: the board's sizes, the three units, and the sum of bytes.
+// What every part stands on: the board, the three units, lent buffers, and the sum of bytes.
 pub mod board;
+pub mod buffers;
 pub mod sums;
 pub mod units;

@@ -1,8 +1,8 @@
 -- Words of the map: a long one is two short ones joined, and the bits of one are taken as its places are.
-use Prim.Native.Nat.{ℕ, zero, suc, _+_, _-_, _*_, _/_, _%_, _^_, _≤_, _<_}
-use native.Mathlib.Nat.{add-zero, add-suc, one-mul, pow-succ', zero-add, suc-add, mul-one, mul-assoc, pow-suc, div-one, div-div-eq-div-mul}
+use Prim.Native.Nat.{ℕ, zero, suc, _+_, _*_, _/_, _%_, _^_, _<_}
+use native.Mathlib.Nat.{add-zero, add-suc, pow-succ', zero-add, suc-add, mul-assoc, pow-suc, div-one, div-div-eq-div-mul}
 use native.Mathlib.Omega.{arith}
-use mathlib.Core.Path.{_≡_, refl, sym, ap, ap₂, _∙_}
+use mathlib.Core.Path.{_≡_, sym, ap, ap₂, _∙_}
 use mathlib.Core.List.{List}
 use mathlib.Core.Bool.{Bool}
 use lib.Dec.{eqb}
@@ -10,8 +10,9 @@ use lib.ListN.{getD}
 use Rattle.basis.specs.Lists.{Bytes}
 use Rattle.runs.specs.declared.tally.Tally.{Tally}
 use Rattle.runs.specs.Tally.{tallyAt, tookOf, tookBits}
-use Rattle.runs.specs.Laws.Tally.{tally-next}
-use Rattle.runs.specs.Map.{bit, named, wordOf}
+use Rattle.runs.proofs.Tallies.{tally-next}
+use Rattle.basis.specs.Bits.{bit}
+use Rattle.runs.specs.Map.{named, wordOf}
 
 pub word-join : (m : List ℕ) (j i k : ℕ) → wordOf m (i + j) k * 256 ^ j + wordOf m i j ≡ wordOf m i (j + k)
 unfolding wordOf

@@ -8,7 +8,7 @@ use lib.Bits.{bitAnd, and-step, and-mask}
 use lib.Count.{ones, onesIn, ones-step, ones-ones, leadingZeros, leading-of-zero, leading-unique, trailingZeros, trailing-of-zero, trailing-le}
 use lib.Dec.{eqb, ltb}
 use borrow.Author.Tests.{eq-eqb, ne-eqb, eqb-true, eqb-false, lt-ltb, le-ltb, ltb-true, ltb-false}
-use Rattle.basis.specs.Choice.{pick, both}
+use Rattle.basis.specs.Choice.{pick}
 use Rattle.basis.specs.Laws.Choice.{decide}
 use Rattle.runs.specs.declared.tally.Tally.{Tally}
 use Rattle.runs.specs.Tally.{tookOf, tookBits, joinsOf, cutOf}

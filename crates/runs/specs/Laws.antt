@@ -2,5 +2,4 @@ pub mod Map
 pub mod Runs
 pub mod Pieces
 pub mod Pages
-pub mod Tally
-pub mod Survey
+pub mod Files

@@ -4,11 +4,7 @@ use mathlib.Core.List.{List}
 use mathlib.Core.Bool.{Bool}
 use lib.ListN.{getD, set}
 use lib.Bits.{bitOr}
-use lib.Dec.{eqb}
-
--- bit k of a byte, counted from the lowest
-abbrev pub bit : ℕ → ℕ → Bool
-bit b k = eqb (b / 2 ^ k % 2) 1
+use Rattle.basis.specs.Bits.{bit}
 
 -- the address is named
 unfoldable pub named : List ℕ → ℕ → Bool

@@ -51,6 +51,16 @@ alike {A} {B} {n} (r ∷ l) x y e = go (r .holds) (alike l x y) e
     go true f e = cc
     go false f e = f e
 
+-- and lets through alike
+pub through : {A B : Type 0} {z : A} (l : List Rule) (x : A) (r : Answer B) → first l (given x) ≡ given z → first l r ≡ r
+unfolding first
+through [] x r e = refl
+through {A} {B} {z} (y ∷ l) x r e = go (y .holds) (through l x r) e
+  where
+    go : (t : Bool) → (first l (given x) ≡ given z → first l r ≡ r) → pick t (refused (y .number)) (first l (given x)) ≡ given z → pick t (refused (y .number)) (first l r) ≡ r
+    go true f e = absurd (apart e)
+    go false f e = f e
+
 -- two outcomes that one equation permits are equal, where the paper tells all cases apart
 pub determined : {A B : Type 0} (paper : A → B) → ((r s : A) → paper r ≡ paper s → r ≡ s) → {x : B} (r s : A) → paper r ≡ x → paper s ≡ x → r ≡ s
 determined paper one r s p q = one r s (p ∙ sym q)

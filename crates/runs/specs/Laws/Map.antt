@@ -1,12 +1,12 @@
 -- Laws of the map.
 use Prim.Native.Nat.{ℕ, zero, suc, _+_, _*_, _/_, _%_, _^_, _<_, _≤_}
-use mathlib.Core.Path.{_≡_, refl, ap, sym, _∙_}
+use mathlib.Core.Path.{_≡_, refl, sym, _∙_}
 use mathlib.Core.List.{List}
 use mathlib.Core.Bool.{Bool, true, false}
 use native.Mathlib.Nat.{zero-div}
 use native.Mathlib.Decide.{ℕ-discrete}
 use native.Mathlib.Omega.{arith}
-use lib.ListN.{length, set, getD, replicate, length-set, length-replicate, getD-replicate, List·getD-eq-default}
+use lib.ListN.{length, set, getD, replicate, length-set, List·getD-eq-default}
 use lib.Seq.{getD-set-same, getD-set-other, ext-getD}
 use lib.Bits.{bitOr, or-shr, or-mod, or-lt}
 use lib.Dec.{T, eqb, ltb, eqb→eq}
@@ -14,7 +14,8 @@ use borrow.Author.Tests.{eq-eqb, ne-eqb, ltb-true}
 use Rattle.basis.specs.Choice.{pick, either}
 use Rattle.basis.specs.Lists.{Bytes}
 use Rattle.basis.specs.Laws.Computed.{allBelow, one-of, agree}
-use Rattle.runs.specs.Map.{bit, named, nameOf}
+use Rattle.basis.specs.Bits.{bit}
+use Rattle.runs.specs.Map.{named, nameOf}
 
 pub name-length : (m : List ℕ) (a : ℕ) → length (nameOf m a) ≡ length m
 unfolding nameOf

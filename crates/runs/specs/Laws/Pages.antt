@@ -1,23 +1,19 @@
 -- Laws of touched pages.
-use Prim.Native.Nat.{ℕ, _+_, _-_, _*_, _/_, _≤_, _<_}
+use Prim.Native.Nat.{ℕ, _+_, _*_, _≤_, _<_}
 use native.Mathlib.Omega.{arith}
-use native.Mathlib.Nat.{add-sub-cancel-left}
-use mathlib.Core.Path.{_≡_, refl, sym, ap, subst, _∙_}
-use mathlib.Core.Bool.{Bool, true, false}
+use mathlib.Core.Path.{_≡_, sym, _∙_}
+use mathlib.Core.Bool.{true, false}
 use mathlib.Core.List.{List}
 use lib.Dec.{ltb}
 use lib.ListN.{length}
 use borrow.Author.Tests.{ltb-true, ltb-false, lt-ltb, le-ltb}
-use Rattle.basis.specs.Board.{pages, flashSize, mapSize}
 use Rattle.basis.specs.Units.{pageOf, startOf}
-use Rattle.basis.specs.Laws.Choice.{decide}
+use Rattle.basis.specs.Laws.Choice.{decide, true-false}
 use Rattle.runs.specs.Map.{named}
 use Rattle.runs.specs.Pages.{touched}
-use Rattle.runs.specs.Runs.{count, starts, len, next}
-use Rattle.runs.specs.Tally.{tallyAt}
-use Rattle.runs.specs.declared.tally.Tally.{Tally}
+use Rattle.runs.specs.Runs.{count, len, next}
 use Rattle.runs.specs.Laws.Map.{named-past}
-use Rattle.runs.specs.Laws.Runs.{true-false, count-skip, count-mono, rank-below, next-ge, next-pass, next-skip}
+use Rattle.runs.specs.Laws.Runs.{count-skip, count-mono, rank-below, next-ge, next-pass, next-skip}
 use Rattle.runs.specs.Laws.Pieces.{piece-passes}
 
 module _ (m : List ℕ) where
@@ -64,16 +60,3 @@ module _ (m : List ℕ) where
           let e : startOf (q + 1) ≡ startOf q + 512 = omega arith in
           let k = count-skip (named m) (startOf q) 512 (λ i g l. decide (named m i) (λ n. absurd (true-false (sym (some-touched q i n g (omega arith)) ∙ t))) (λ n. n)) in
           t ∙ sym (le-ltb (count (named m) (startOf q)) (count (named m) (startOf (q + 1))) (rw e (omega arith)))
-
--- on the board nothing is named from its size on
-module _ (m : List ℕ) (long : length m ≡ mapSize) where
-  pub bytes-past : (a : ℕ) → flashSize ≤ a → named m a ≡ false
-  bytes-past a l = named-past m a (omega arith)
-
-  pub pages-past : (q : ℕ) → pages ≤ q → touched m q ≡ false
-  pages-past q l = touched-past m q (omega arith)
-
--- the tallies of the bytes below a page's start and below its end tell whether it is touched
-pub tallies-touched : (m : List ℕ) (cap q : ℕ) {t u : Tally} → t ≡ tallyAt (named m) cap (startOf q) → u ≡ tallyAt (named m) cap (startOf (q + 1)) → ltb (t .passed) (u .passed) ≡ touched m q
-unfolding tallyAt
-tallies-touched m cap q e f = rw (e, f) (sym (touched-counts m q))

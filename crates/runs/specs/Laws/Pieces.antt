@@ -8,10 +8,9 @@ use mathlib.Core.Logic.{⊎-elim}
 use mathlib.Core.Bool.{Bool, true, false}
 use lib.Dec.{eqb, ltb}
 use borrow.Author.Tests.{eq-eqb, ne-eqb, eqb-true, eqb-false, ltb-true, ltb-false}
-use Rattle.basis.specs.Choice.{pick, both}
-use Rattle.basis.specs.Laws.Choice.{decide, both-true}
-use Rattle.runs.specs.Runs.{count, off, starts, len, next, select, home, follow}
-use Rattle.runs.specs.Laws.Runs.{true-false, count-zero, count-yes, count-no, count-skip, select-kth, select-ascends, next-ge, next-pass, next-skip, len-le, len-in, len-ge, len-out}
+use Rattle.basis.specs.Laws.Choice.{decide, both-true, true-false}
+use Rattle.runs.specs.Runs.{count, off, starts, len, next, home, follow}
+use Rattle.runs.specs.Laws.Runs.{count-zero, count-yes, count-skip, next-ge, next-pass, next-skip, len-le, len-in, len-ge, len-out}
 
 module _ (p : ℕ → Bool) (cap : ℕ) where
   -- ---- the place in the piece

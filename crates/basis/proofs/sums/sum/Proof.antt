@@ -6,8 +6,8 @@ use native.Mathlib.Omega.{arith}
 use borrow.Author.Needs.{needs}
 use lib.ListN.{length, take, getD}
 use lib.Seq.{take-suc, take-all}
-use Rattle.basis.specs.Sums.{sumOf}
 use Rattle.basis.specs.Laws.Sums.{sum-nil, sum-more}
+use Rattle.basis.specs.Sums.{sumOf}
 use Rattle.basis.proofs.sums.sum.Statement.{statement}
 use Rattle.basis.proofs.sums.sum.Tie as tie
 

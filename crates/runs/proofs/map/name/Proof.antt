@@ -1,7 +1,10 @@
 -- `name` meets its contract: a one shifted to the address's bit is joined to its byte.
-use Prim.Native.Nat.{_%_}
+use Prim.Native.Nat.{ℕ, _/_, _%_}
+use mathlib.Core.Path.{ap}
 use native.Mathlib.Omega.{arith}
 use borrow.Author.Needs.{needs}
+use lib.Bits.{bitOr}
+use lib.ListN.{getD, set}
 use Rattle.runs.specs.Map.{nameOf}
 use Rattle.runs.proofs.Bits.{one-shifted}
 use Rattle.runs.proofs.map.name.Statement.{statement}
@@ -27,7 +30,10 @@ same-length c = search needs
 
 returns : tie.Need-returns
 unfolding nameOf
-returns c = rw (one-shifted (c .before .before .args .address .0 % 8) (omega arith))
+returns c =
+    let m = c .before .before .args .map .now in
+    let a = c .before .before .args .address .0 in
+    ap (λ (x : ℕ). set m (a / 8) (bitOr (getD m (a / 8) 0) x)) (one-shifted (a % 8) (omega arith))
 
 pub name-spec : {M : Type 1} → statement M
 name-spec =

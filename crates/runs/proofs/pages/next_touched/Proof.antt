@@ -5,7 +5,7 @@ use native.Mathlib.Omega.{arith}
 use borrow.Author.Needs.{needs}
 use Rattle.runs.specs.Pages.{touched}
 use Rattle.runs.specs.Runs.{next}
-use Rattle.runs.specs.Laws.Runs.{next-end, next-stop, next-go}
+use Rattle.runs.proofs.Turns.{next-end, next-stop, next-go}
 use Rattle.runs.proofs.pages.next_touched.Statement.{statement}
 use Rattle.runs.proofs.pages.next_touched.Tie as tie
 

@@ -7,7 +7,7 @@ use borrow.Author.Needs.{needs}
 use Rattle.runs.specs.Pages.{touched}
 use Rattle.runs.specs.Runs.{len}
 use Rattle.runs.specs.Laws.Pages.{touched-past}
-use Rattle.runs.specs.Laws.Runs.{len-begin, len-stop, len-go, len-end}
+use Rattle.runs.proofs.Turns.{len-begin, len-stop, len-go, len-end}
 use Rattle.runs.proofs.pages.page_run_len.Statement.{statement}
 use Rattle.runs.proofs.pages.page_run_len.Tie as tie
 

@@ -1,5 +1,5 @@
 -- `over_pages` meets its contract: the tallies are those of the pages passed; a page is touched where the count of named bytes grows.
-use Prim.Native.Nat.{ℕ, _+_, _*_, _-_, _≤_}
+use Prim.Native.Nat.{_+_, _*_, _-_, _≤_}
 use mathlib.Core.Path.{_≡_, ap, _∙_}
 use native.Mathlib.Omega.{arith}
 use borrow.Author.Needs.{needs}
@@ -10,9 +10,8 @@ use Rattle.runs.specs.Pages.{touched}
 use Rattle.runs.specs.Pieces.{pieceMost}
 use Rattle.runs.specs.Survey.{passAt}
 use Rattle.runs.specs.Tally.{tallyAt}
-use Rattle.runs.specs.Laws.Pages.{tallies-touched}
-use Rattle.runs.specs.Laws.Survey.{pass-bytes, pass-pages, pass-of}
-use Rattle.runs.specs.Laws.Tally.{tally-again, tally-le}
+use Rattle.runs.proofs.Surveys.{pass-bytes, pass-pages, pass-of}
+use Rattle.runs.proofs.Tallies.{tally-again, tally-le, tallies-touched}
 use Rattle.runs.proofs.passes.over_pages.Statement.{statement}
 use Rattle.runs.proofs.passes.over_pages.Tie as tie
 

@@ -1,12 +1,12 @@
 -- `over_places` meets its contract: the tally is that of the places passed.
-use Prim.Native.Nat.{_+_, _-_, _≤_}
+use Prim.Native.Nat.{_-_, _≤_}
 use mathlib.Core.Path.{_≡_, ap, _∙_}
 use native.Mathlib.Omega.{arith}
 use borrow.Author.Needs.{needs}
 use Rattle.runs.specs.Map.{named}
 use Rattle.runs.specs.Pieces.{pieceMost}
 use Rattle.runs.specs.Tally.{tallyAt}
-use Rattle.runs.specs.Laws.Tally.{tally-again, tally-le}
+use Rattle.runs.proofs.Tallies.{tally-again, tally-le}
 use Rattle.runs.proofs.passes.over_places.Statement.{statement}
 use Rattle.runs.proofs.passes.over_places.Tie as tie
 

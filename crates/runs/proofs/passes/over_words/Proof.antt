@@ -1,5 +1,5 @@
 -- `over_words` meets its contract: the tally is that of the words passed.
-use Prim.Native.Nat.{ℕ, _+_, _*_, _-_, _≤_}
+use Prim.Native.Nat.{ℕ, _*_, _-_, _≤_}
 use mathlib.Core.Path.{_≡_, ap, _∙_}
 use native.Mathlib.Omega.{arith}
 use borrow.Author.Needs.{needs}
@@ -7,7 +7,7 @@ use Rattle.basis.specs.Lists.{Bytes}
 use Rattle.runs.specs.Map.{named}
 use Rattle.runs.specs.Pieces.{pieceMost}
 use Rattle.runs.specs.Tally.{tallyAt}
-use Rattle.runs.specs.Laws.Tally.{tally-le}
+use Rattle.runs.proofs.Tallies.{tally-le}
 use Rattle.runs.proofs.WordBits.{word-again}
 use Rattle.runs.proofs.passes.over_words.Statement.{statement}
 use Rattle.runs.proofs.passes.over_words.Tie as tie

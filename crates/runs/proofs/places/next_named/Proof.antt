@@ -5,7 +5,7 @@ use native.Mathlib.Omega.{arith}
 use borrow.Author.Needs.{needs}
 use Rattle.runs.specs.Map.{named}
 use Rattle.runs.specs.Runs.{next}
-use Rattle.runs.specs.Laws.Runs.{next-end, next-stop, next-go}
+use Rattle.runs.proofs.Turns.{next-end, next-stop, next-go}
 use Rattle.runs.proofs.places.next_named.Statement.{statement}
 use Rattle.runs.proofs.places.next_named.Tie as tie
 

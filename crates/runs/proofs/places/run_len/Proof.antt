@@ -7,7 +7,7 @@ use borrow.Author.Needs.{needs}
 use Rattle.runs.specs.Map.{named}
 use Rattle.runs.specs.Runs.{len}
 use Rattle.runs.specs.Laws.Map.{named-past}
-use Rattle.runs.specs.Laws.Runs.{len-begin, len-stop, len-go, len-end}
+use Rattle.runs.proofs.Turns.{len-begin, len-stop, len-go, len-end}
 use Rattle.runs.proofs.places.run_len.Statement.{statement}
 use Rattle.runs.proofs.places.run_len.Tie as tie
 

@@ -1,7 +1,7 @@
 -- `survey` meets its contract: the pass halts at the place's page, and the counts grow where a run or a piece starts.
 use native.Mathlib.Omega.{arith}
 use borrow.Author.Needs.{needs}
-use Rattle.runs.specs.Laws.Survey.{pass-none, pass-bytes, surveyed}
+use Rattle.runs.proofs.Surveys.{pass-none, pass-bytes, surveyed}
 use Rattle.runs.proofs.survey.survey.Statement.{statement}
 use Rattle.runs.proofs.survey.survey.Tie as tie
 

@@ -1,7 +1,7 @@
--- Laws of passes and of the survey.
+-- A pass is two tallies, and the survey is told by those of its halts.
 use Prim.Native.Nat.{ℕ, _+_}
 use lib.Dec.{ltb}
-use mathlib.Core.Path.{_≡_, refl, sym, ap, ap₂, _∙_}
+use mathlib.Core.Path.{_≡_, ap}
 use mathlib.Core.List.{List}
 use Rattle.basis.specs.Board.{pages}
 use Rattle.basis.specs.Units.{pageOf, startOf}
@@ -11,9 +11,9 @@ use Rattle.runs.specs.Pieces.{pieceMost, runStarts, pieceStarts}
 use Rattle.runs.specs.Survey.{passAt, surveyOf}
 use Rattle.runs.specs.Tally.{tallyAt}
 use Rattle.runs.specs.Laws.Runs.{count-tells}
-use Rattle.runs.specs.Laws.Tally.{tally-none}
 use Rattle.runs.specs.declared.passes.Pass.{Pass}
 use Rattle.runs.specs.declared.tally.Tally.{Tally}
+use Rattle.runs.proofs.Tallies.{tally-none}
 
 module _ (m : List ℕ) (q : ℕ) where
   -- a pass is its two tallies

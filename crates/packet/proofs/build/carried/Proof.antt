@@ -1,0 +1,17 @@
+-- `carried` meets its contract: a byte is turned for V alone.
+use borrow.Author.Needs.{needs}
+use borrow.Author.Tests.{eq-eqb, ne-eqb}
+use Rattle.packet.proofs.build.carried.Statement.{statement}
+use Rattle.packet.proofs.build.carried.Tie as tie
+
+turned-requires : tie.Need-turned-requires
+turned-requires c κs = search needs
+
+returns : tie.Need-returns
+returns c = simp (eq-eqb _ 0x56 (c .before .if1 .taken)) (c .turned .ensures)
+
+returns-2 : tie.Need-returns-2
+returns-2 c = simp (ne-eqb _ 0x56 (c .if1 .left))
+
+pub carried-spec : {M : Type 1} → statement M
+carried-spec = tie.close (tie.spec turned-requires returns returns-2)

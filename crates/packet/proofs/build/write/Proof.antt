@@ -1,0 +1,98 @@
+-- `write` meets its contract: front, data and checksum follow one another.
+use Prim.Native.Nat.{ℕ, _+_, _-_, _<_}
+use mathlib.Core.List.{List, _++_, map}
+use mathlib.Core.Path.{_≡_, refl, ap, _∙_}
+use native.Mathlib.Omega.{arith}
+use borrow.Author.Needs.{needs}
+use borrow.Rule.Slice.PartMut.{putMid}
+use lib.ListN.{length, take, drop, set, length-set, length-map}
+use lib.Seq.{take-at}
+use Rattle.basis.specs.Laws.Lists.{overlay-part, overlay-next}
+use Rattle.basis.specs.Lists.{overlay}
+use Rattle.basis.specs.Sums.{checksumOf}
+use Rattle.packet.specs.Packet.{frontOf, carriedOf, summed, packet}
+use Rattle.packet.proofs.build.write.Statement.{statement}
+use Rattle.packet.proofs.build.write.Tie as tie
+
+-- a buffer F with the front written, its part P behind the front with the data, and the checksum x of what stands from N on
+module _ (c a : ℕ) (d old F P : List ℕ) (eF : F ≡ overlay (frontOf (length d + 5) c a) old) (eP : P ≡ overlay (map (carriedOf c) d) (take (length F - 8) (drop 8 F))) where
+  closed : (x : ℕ) → x ≡ checksumOf (take (8 + length d - 2) (drop 2 (putMid 8 (length F - 8) F P))) → 8 + length d < length old
+      → set (putMid 8 (length F - 8) F P) (8 + length d) x ≡ overlay (packet c a d) old
+  unfolding packet
+  closed x e h =
+      let f = frontOf (length d + 5) c a in
+      let s = map (carriedOf c) d in
+      let t = summed c a d in
+      let m : length t ≡ 8 + length d - 2 = simp length-map (omega arith) in
+      let k : length (f ++ s) ≡ 8 + length d = simp length-map (omega arith) in
+      let w : putMid 8 (length F - 8) F P ≡ overlay (f ++ s) old = overlay-part f s old F P 8 refl eF eP in
+      let y : x ≡ checksumOf t = e ∙ ap checksumOf (rw w (take-at t _ (8 + length d - 2) m)) in
+      rw (w, y) (overlay-next (f ++ s) old (8 + length d) (checksumOf t) k h)
+
+add-end : tie.Need-add-end
+add-end c = search needs
+
+add-front : tie.Need-add-front
+add-front c = search needs
+
+front-requires : tie.Need-front-requires
+front-requires c κs = search needs
+
+sub-fill : tie.Need-sub-fill
+sub-fill c = search needs
+
+part-fill-start : tie.Need-part-fill-start
+part-fill-start c = search needs
+
+part-fill-end : tie.Need-part-fill-end
+part-fill-end c = search needs
+
+fill-requires : tie.Need-fill-requires
+fill-requires c κs = search needs
+
+sub-checksum : tie.Need-sub-checksum
+sub-checksum c = search needs
+
+part-checksum-start : tie.Need-part-checksum-start
+part-checksum-start c = search needs
+
+part-checksum-end : tie.Need-part-checksum-end
+part-checksum-end c = search needs
+
+checksum-requires : tie.Need-checksum-requires
+checksum-requires c κs = search needs
+
+slice-write-buffer : tie.Need-slice-write-buffer
+slice-write-buffer c = search needs
+
+add-result : tie.Need-add-result
+add-result c = search needs
+
+same-length : tie.Need-same-length
+same-length c = simp length-set (omega arith)
+
+returns : tie.Need-returns
+returns c = let a = c .before .before .before .before .before .before .before .before .before .before .before .before .before .args in (
+  omega arith,
+  closed (a .command) (a .address .0) (a .plain .now) (a .buffer .now) (c .before .before .before .before .before .before .before .before .before .front .last .0) (c .before .before .before .before .before .fill .last .0) (c .before .before .before .before .before .before .before .before .before .front .ensures) (c .before .before .before .before .before .fill .ensures) (c .checksum .result) (c .checksum .ensures) (omega arith),
+)
+
+pub write-spec : {M : Type 1} → statement M
+write-spec =
+    tie.close
+    (tie.spec
+    add-end
+    add-front
+    front-requires
+    sub-fill
+    part-fill-start
+    part-fill-end
+    fill-requires
+    sub-checksum
+    part-checksum-start
+    part-checksum-end
+    checksum-requires
+    slice-write-buffer
+    add-result
+    same-length
+    returns)

@@ -1,0 +1,5 @@
+pub mod Turn
+pub mod Table
+pub mod Packet
+pub mod RoundTrip
+pub mod Determined

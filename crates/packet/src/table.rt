@@ -1,0 +1,77 @@
+// The command table: which commands there are, and what may follow the address.
+ghost use mathlib.Core.Path.{_≡_};
+ghost use Rattle.basis.specs.Refusals.{given, first};
+ghost use Rattle.packet.specs.Paper.{paperRow, paperShaped};
+ghost use Rattle.packet.specs.Table.{table, dataCount, protectType};
+
+pub enum Command {
+    Erase,
+    Write,
+    Verify,
+    Protect,
+    Run,
+}
+
+// Why an input is no packet, or a packet is not built.
+pub enum Refusal {
+    Start,
+    Length,
+    Count,
+    Checksum,
+    Unlisted,
+    Shape,
+}
+
+// What the table says of a packet.
+pub enum Row {
+    Listed(Command),
+    Refused(Refusal),
+}
+
+// `kind` is the byte after the address, which counts for P alone.
+pub fn look_up(command: u8, n: usize, kind: u8) -> Row
+    ensures { λ r. ⌜ paperRow r ≡ first (table command n kind) (given command) ⌝ }
+{
+    match command {
+        0x45 => shaped(Command::Erase, n == 6),
+        0x57 => shaped(Command::Write, data_count(n)),
+        0x56 => shaped(Command::Verify, data_count(n)),
+        0x50 => {
+            if n != 6 {
+                return Row::Refused(Refusal::Shape);
+            }
+            shaped(Command::Protect, protect_type(kind))
+        }
+        0x52 => shaped(Command::Run, n == 5),
+        _ => Row::Refused(Refusal::Unlisted),
+    }
+}
+
+fn shaped(command: Command, fits: bool) -> Row
+    ensures { λ r. ⌜ paperRow r ≡ paperShaped command fits ⌝ }
+{
+    if fits {
+        Row::Listed(command)
+    } else {
+        Row::Refused(Refusal::Shape)
+    }
+}
+
+// W and V carry 1 to 250 bytes.
+fn data_count(n: usize) -> bool
+    ensures { λ r. ⌜ r ≡ dataCount n ⌝ }
+{
+    6 <= n && n <= 255
+}
+
+fn protect_type(kind: u8) -> bool
+    ensures { λ r. ⌜ r ≡ protectType kind ⌝ }
+{
+    if kind == 0x00 {
+        return true;
+    }
+    if kind == 0x0F {
+        return true;
+    }
+    kind == 0x01
+}
