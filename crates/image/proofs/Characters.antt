@@ -1,7 +1,7 @@
 -- A character inside or outside a row of characters, and two characters more of a line.
 use Prim.Native.Nat.{ℕ, suc, _+_, _*_, _≤_, _<_}
-use mathlib.Core.Path.{_≡_, refl, sym, ap, _∙_}
-use mathlib.Core.Bool.{Bool, true, false}
+use mathlib.Core.Path.{_≡_, sym, ap, _∙_}
+use mathlib.Core.Bool.{true, false}
 use mathlib.Core.List.{List, [], _∷_, _++_}
 use native.Mathlib.Numerals.{add-one}
 use native.Mathlib.Omega.{arith}
@@ -10,11 +10,8 @@ use lib.ListN.{length, getD, take, drop, set, drop-of-length-le}
 use lib.Seq.{drop-cons, append-snoc, take-suc-set}
 use borrow.Author.Tests.{lt-ltb, le-ltb, le-leb, lt-leb}
 use Rattle.basis.specs.Choice.{both}
+use Rattle.image.specs.Laws.Hex.{never}
 use Rattle.image.specs.Digits.{digitOf, allDigits, bytesOf}
-
-never : (t : Bool) → both t false ≡ false
-never true = refl
-never false = refl
 
 module _ (low high c : ℕ) where
   pub within : low ≤ c → c ≤ high → both (leb low c) (leb c high) ≡ true
@@ -66,6 +63,3 @@ module _ (line : List ℕ) (i : ℕ) (h : 2 * i + 2 < length line) where
       ap (λ (d : List ℕ). take i bytes ++ bytesOf d) pair
       ∙ sym (append-snoc (take i bytes) (16 * high + low) (bytesOf (drop (2 * (i + 1) + 1) line)))
       ∙ rw (add-one i, take-suc-set bytes i (16 * high + low) l)
-
-pub never-true : {P : Type 0} → false ≡ true → P
-never-true e = let z : _≡_ {A = ℕ} 0 1 = cc in absurd (omega arith)

@@ -19,7 +19,8 @@ use Rattle.image.specs.Record.{count, kind, address, noColon, lengthWron
 use Rattle.image.specs.Hex.{file, place, placeWrong, placeTaken, placed, toldOf, sizeWrong, recordIn, applyIn, dataIn}
 use Rattle.image.specs.declared.hex.Hex.{Hex}
 
-never : (t : Bool) → both t false ≡ false
+-- no pair of tests holds where the second fails
+pub never : (t : Bool) → both t false ≡ false
 never true = refl
 never false = refl
 

@@ -5,17 +5,18 @@ use mathlib.Core.Bool.{true, false}
 use mathlib.Core.List.{List, [], _∷_, _++_}
 use native.Mathlib.Omega.{arith}
 use lib.Dec.{ltb, leb}
-use lib.ListN.{length, getD, take, drop, replicate, length-append, length-drop, length-replicate, List·getD-eq-default}
+use lib.ListN.{length, getD, take, drop, replicate, length-append, length-drop, length-replicate}
 use lib.Seq.{take-at, length-take-le, getD-take, getD-drop}
 use borrow.Author.Tests.{lt-ltb, le-ltb, ltb-true, ltb-false, leb-true, leb-false, le-leb, lt-leb}
 use Rattle.basis.specs.Lists.{Bytes}
 use Rattle.basis.specs.Refusals.{given, first}
 use Rattle.basis.specs.Sums.{checksumOf}
-use Rattle.basis.specs.Laws.Choice.{decide}
+use Rattle.basis.specs.Laws.Choice.{decide, true-false}
+use Rattle.basis.specs.Laws.Lists.{bytes-drop, bytes-take}
 use Rattle.basis.specs.Laws.Sums.{sum-closed}
 use Rattle.runs.specs.Map.{named}
 use Rattle.runs.specs.Laws.Map.{named-past, named-none, named-only}
-use Rattle.runs.specs.Laws.Runs.{true-false, next-ge, next-pass, next-skip, len-le, len-ge, len-in}
+use Rattle.runs.specs.Laws.Runs.{next-ge, next-pass, next-skip, len-le, len-ge, len-in}
 use Rattle.image.specs.Flash.{copyOf, new}
 use Rattle.image.specs.Places.{nameAllOf}
 use Rattle.image.specs.Hex.{File, file, started, fed, place, placed, recordIn, closeOf}
@@ -112,10 +113,7 @@ module _ (size : ℕ) (image map : List ℕ) where
       part-at k h = getD-take n (drop a image) k 0 h ∙ getD-drop a image k 0
 
       part-bytes : Bytes part
-      part-bytes k = decide (ltb k n) (λ e. rw (part-at k (ltb-true k n e)) (imageBytes (a + k))) (λ e. past k (ltb-false k n e))
-        where
-          past : (k : ℕ) → n ≤ k → getD part k 0 < 256
-          past k h = let l : length part ≤ k = omega (arith, part-length) in rw (List·getD-eq-default part 0 l) (omega arith)
+      part-bytes = bytes-take n (drop a image) (bytes-drop a image imageBytes)
 
       room : a + n ≤ 8 * length (f .map)
       room = omega (arith, u .mapLength)

@@ -1,5 +1,5 @@
 -- `decode` meets its contract: what was decoded, and then what is left, is what the line spells.
-use Rattle.image.proofs.Characters.{never-true}
+use Rattle.basis.specs.Laws.Choice.{true-false}
 use mathlib.Core.List.{append-nil}
 use Prim.Native.Nat.{_≤_, _-_, _+_, _*_, _/_}
 use mathlib.Core.Path.{_≡_, refl, sym, _∙_}
@@ -38,7 +38,7 @@ same-length : tie.Need-same-length Inv-loop μ-loop
 same-length c = search needs
 
 returns : tie.Need-returns Inv-loop μ-loop
-returns c = (sym (high-wrong (c .before .before .before .before .before .before .before .args .line .now) (c .before .before .before .before .loop .i) (omega arith) (omega (arith, c .before .digit .ensures))) ∙ c .before .before .before .before .loop .inv .2, λ e. never-true e)
+returns c = (sym (high-wrong (c .before .before .before .before .before .before .before .args .line .now) (c .before .before .before .before .loop .i) (omega arith) (omega (arith, c .before .digit .ensures))) ∙ c .before .before .before .before .loop .inv .2, λ e. absurd (true-false (sym e)))
 
 mul-digit-2 : tie.Need-mul-digit-2 Inv-loop μ-loop
 mul-digit-2 c = search needs
@@ -56,7 +56,7 @@ same-length-2 : tie.Need-same-length-2 Inv-loop μ-loop
 same-length-2 c = search needs
 
 returns-2 : tie.Need-returns-2 Inv-loop μ-loop
-returns-2 c = (sym (low-wrong (c .before .before .before .before .before .before .before .before .before .before .args .line .now) (c .before .before .before .before .before .before .before .loop .i) (omega arith) (omega (arith, c .before .before .before .before .digit .ensures)) (omega (arith, c .before .digit2 .ensures))) ∙ c .before .before .before .before .before .before .before .loop .inv .2, λ e. never-true e)
+returns-2 c = (sym (low-wrong (c .before .before .before .before .before .before .before .before .before .before .args .line .now) (c .before .before .before .before .before .before .before .loop .i) (omega arith) (omega (arith, c .before .before .before .before .digit .ensures)) (omega (arith, c .before .digit2 .ensures))) ∙ c .before .before .before .before .before .before .before .loop .inv .2, λ e. absurd (true-false (sym e)))
 
 mul-bytes : tie.Need-mul-bytes Inv-loop μ-loop
 mul-bytes c = search needs
