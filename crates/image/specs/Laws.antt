@@ -1,1 +1,7 @@
 pub mod Flash
+pub mod Places
+pub mod Writer
+pub mod Hex
+pub mod RoundTrip
+pub mod Cases
+pub mod Answers

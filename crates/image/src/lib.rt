@@ -1,2 +1,7 @@
 // The image library: flash as bytes that are erased and stored, and the hex file that fills an image.
+pub mod digits;
 pub mod flash;
+pub mod hex;
+pub mod places;
+pub mod record;
+pub mod writer;

@@ -1,0 +1,122 @@
+-- `decode` meets its contract: what was decoded, and then what is left, is what the line spells.
+use Rattle.basis.specs.Laws.Choice.{true-false}
+use mathlib.Core.List.{append-nil}
+use Prim.Native.Nat.{_≤_, _-_, _+_, _*_, _/_}
+use mathlib.Core.Path.{_≡_, refl, sym, _∙_}
+use mathlib.Core.List.{_++_}
+use native.Mathlib.Omega.{arith}
+use borrow.Author.Needs.{needs}
+use lib.ListN.{length, take, drop, length-set}
+use Rattle.image.specs.Digits.{allDigits, bytesOf}
+use Rattle.image.proofs.Characters.{digits-end, bytes-end, high-wrong, low-wrong, digits-more, bytes-more}
+use Rattle.image.proofs.digits.decode.Statement.{statement}
+use Rattle.image.proofs.digits.decode.Tie as tie
+
+abbrev Inv-loop : tie.InvT-loop
+Inv-loop line bytes₀ n i₀ bytes i =
+    (i ≤ n) × (length bytes ≡ length bytes₀) × (allDigits (drop (2 * i + 1) line) ≡ allDigits (drop 1 line)) × (take i bytes ++ bytesOf (drop (2 * i + 1) line) ≡ bytesOf (drop 1 line))
+
+abbrev μ-loop : tie.MeasureT-loop
+μ-loop line bytes₀ n i₀ bytes i = n - i
+
+loop-holds : tie.Need-loop-holds Inv-loop μ-loop
+loop-holds c = (search needs, refl, refl, refl)
+
+mul-digit : tie.Need-mul-digit Inv-loop μ-loop
+mul-digit c = search needs
+
+add-digit : tie.Need-add-digit Inv-loop μ-loop
+add-digit c = search needs
+
+shared-slice-read-digit : tie.Need-shared-slice-read-digit Inv-loop μ-loop
+shared-slice-read-digit c = search needs
+
+digit-requires : tie.Need-digit-requires Inv-loop μ-loop
+digit-requires c κs = search needs
+
+same-length : tie.Need-same-length Inv-loop μ-loop
+same-length c = search needs
+
+returns : tie.Need-returns Inv-loop μ-loop
+returns c = (sym (high-wrong (c .before .before .before .before .before .before .before .args .line .now) (c .before .before .before .before .loop .i) (omega arith) (omega (arith, c .before .digit .ensures))) ∙ c .before .before .before .before .loop .inv .2, λ e. absurd (true-false (sym e)))
+
+mul-digit-2 : tie.Need-mul-digit-2 Inv-loop μ-loop
+mul-digit-2 c = search needs
+
+add-digit-2 : tie.Need-add-digit-2 Inv-loop μ-loop
+add-digit-2 c = search needs
+
+shared-slice-read-digit-2 : tie.Need-shared-slice-read-digit-2 Inv-loop μ-loop
+shared-slice-read-digit-2 c = search needs
+
+digit-requires-2 : tie.Need-digit-requires-2 Inv-loop μ-loop
+digit-requires-2 c κs = search needs
+
+same-length-2 : tie.Need-same-length-2 Inv-loop μ-loop
+same-length-2 c = search needs
+
+returns-2 : tie.Need-returns-2 Inv-loop μ-loop
+returns-2 c = (sym (low-wrong (c .before .before .before .before .before .before .before .before .before .before .args .line .now) (c .before .before .before .before .before .before .before .loop .i) (omega arith) (omega (arith, c .before .before .before .before .digit .ensures)) (omega (arith, c .before .digit2 .ensures))) ∙ c .before .before .before .before .before .before .before .loop .inv .2, λ e. absurd (true-false (sym e)))
+
+mul-bytes : tie.Need-mul-bytes Inv-loop μ-loop
+mul-bytes c = search needs
+
+add-bytes : tie.Need-add-bytes Inv-loop μ-loop
+add-bytes c = search needs
+
+slice-write-bytes : tie.Need-slice-write-bytes Inv-loop μ-loop
+slice-write-bytes c = search needs
+
+add-i : tie.Need-add-i Inv-loop μ-loop
+add-i c = search needs
+
+loop-less : tie.Need-loop-less Inv-loop μ-loop
+loop-less c = search needs
+
+loop-again : tie.Need-loop-again Inv-loop μ-loop
+loop-again c = let line = c .before .before .before .before .before .before .before .before .before .before .args .line .now in let i = c .before .before .before .before .before .before .before .loop .i in (
+  omega arith,
+  simp length-set (omega arith),
+  sym (digits-more line i (omega arith) (omega (arith, c .before .before .before .before .digit .ensures)) (omega (arith, c .before .digit2 .ensures))) ∙ c .before .before .before .before .before .before .before .loop .inv .2,
+  rw (c .before .before .before .before .digit .ensures, c .before .digit2 .ensures) (sym (bytes-more line i (omega arith) (c .before .before .before .before .before .before .before .loop .bytes) (omega arith))) ∙ c .before .before .before .before .before .before .before .loop .inv .3,
+)
+
+same-length-3 : tie.Need-same-length-3 Inv-loop μ-loop
+same-length-3 c = search needs
+
+returns-3 : tie.Need-returns-3 Inv-loop μ-loop
+returns-3 c = let line = c .before .before .before .before .args .line .now in
+    let i = c .before .loop .i in
+    let e : length line / 2 ≡ i = omega arith in
+    let past : length line ≤ 2 * i + 1 = omega arith in (
+      sym (digits-end line (2 * i + 1) past) ∙ c .before .loop .inv .2,
+      λ _. rw e (sym (append-nil (take i (c .before .loop .bytes))) ∙ rw (← bytes-end line (2 * i + 1) past) (c .before .loop .inv .3)),
+    )
+
+pub decode-spec : {M : Type 1} → statement M
+decode-spec =
+    tie.close
+    (tie.spec
+    Inv-loop
+    μ-loop
+    loop-holds
+    mul-digit
+    add-digit
+    shared-slice-read-digit
+    digit-requires
+    same-length
+    returns
+    mul-digit-2
+    add-digit-2
+    shared-slice-read-digit-2
+    digit-requires-2
+    same-length-2
+    returns-2
+    mul-bytes
+    add-bytes
+    slice-write-bytes
+    add-i
+    loop-less
+    loop-again
+    same-length-3
+    returns-3)

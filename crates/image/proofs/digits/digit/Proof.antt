@@ -1,0 +1,55 @@
+-- `digit` meets its contract: each arm knows in which row of characters the one at hand stands.
+use native.Mathlib.Omega.{arith}
+use Rattle.image.specs.Digits.{digitOf}
+use Rattle.image.proofs.Characters.{within, below, above}
+use borrow.Author.Needs.{needs}
+use Rattle.image.proofs.digits.digit.Statement.{statement}
+use Rattle.image.proofs.digits.digit.Tie as tie
+
+sub-result : tie.Need-sub-result
+sub-result c = search needs
+
+sub-result-2 : tie.Need-sub-result-2
+sub-result-2 c = search needs
+
+returns : tie.Need-returns
+unfolding digitOf
+returns c = simp (within 0x30 0x39 (c .before .before .args .c) (omega arith) (omega arith))
+
+returns-2 : tie.Need-returns-2
+unfolding digitOf
+returns-2 c = simp (above 0x30 0x39 (c .before .before .before .before .args .c) (omega arith), within 0x41 0x46 (c .before .before .before .before .args .c) (omega arith) (omega arith))
+
+returns-3 : tie.Need-returns-3
+unfolding digitOf
+returns-3 c = simp (above 0x30 0x39 (c .before .before .before .before .before .before .args .c) (omega arith), above 0x41 0x46 (c .before .before .before .before .before .before .args .c) (omega arith), within 0x61 0x66 (c .before .before .before .before .before .before .args .c) (omega arith) (omega arith))
+
+returns-4 : tie.Need-returns-4
+unfolding digitOf
+returns-4 c = simp (below 0x30 0x39 (c .before .args .c) (omega arith), below 0x41 0x46 (c .before .args .c) (omega arith), below 0x61 0x66 (c .before .args .c) (omega arith))
+
+returns-5 : tie.Need-returns-5
+unfolding digitOf
+returns-5 c = simp (above 0x30 0x39 (c .before .before .before .args .c) (omega arith), below 0x41 0x46 (c .before .before .before .args .c) (omega arith), below 0x61 0x66 (c .before .before .before .args .c) (omega arith))
+
+returns-6 : tie.Need-returns-6
+unfolding digitOf
+returns-6 c = simp (above 0x30 0x39 (c .before .before .before .before .before .args .c) (omega arith), above 0x41 0x46 (c .before .before .before .before .before .args .c) (omega arith), below 0x61 0x66 (c .before .before .before .before .before .args .c) (omega arith))
+
+returns-7 : tie.Need-returns-7
+unfolding digitOf
+returns-7 c = simp (above 0x30 0x39 (c .before .before .before .before .before .before .args .c) (omega arith), above 0x41 0x46 (c .before .before .before .before .before .before .args .c) (omega arith), above 0x61 0x66 (c .before .before .before .before .before .before .args .c) (omega arith))
+
+pub digit-spec : {M : Type 1} → statement M
+digit-spec =
+    tie.close
+    (tie.spec
+    sub-result
+    sub-result-2
+    returns
+    returns-2
+    returns-3
+    returns-4
+    returns-5
+    returns-6
+    returns-7)

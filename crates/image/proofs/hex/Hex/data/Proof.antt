@@ -1,0 +1,135 @@
+-- `data` meets its contract: one lemma for each way out.
+use mathlib.Core.Path.{_≡_}
+use Prim.Native.Nat.{_+_, _-_}
+use mathlib.Core.Path.{sym, _∙_}
+use native.Mathlib.Omega.{arith}
+use Rattle.image.specs.Record.{count}
+use Rattle.image.proofs.Records.{data-none, data-high, data-twice, data-given}
+use borrow.Author.Needs.{needs}
+use Rattle.image.proofs.hex.Hex.data.Statement.{statement}
+use Rattle.image.proofs.hex.Hex.data.Tie as tie
+
+shared-slice-read-wide : tie.Need-shared-slice-read-wide
+shared-slice-read-wide c = search needs
+
+wide-requires : tie.Need-wide-requires
+wide-requires c κs = search needs
+
+returns : tie.Need-returns
+returns c = data-none 63488 _ _ _ _ (sym (c .before .wide .ensures .0) ∙ c .if1 .taken)
+
+cast-place : tie.Need-cast-place
+cast-place c = search needs
+
+cast-place-2 : tie.Need-cast-place-2
+cast-place-2 c = search needs
+
+add-place : tie.Need-add-place
+add-place c = search needs
+
+shared-slice-read-word : tie.Need-shared-slice-read-word
+shared-slice-read-word c = search needs
+
+shared-slice-read-word-2 : tie.Need-shared-slice-read-word-2
+shared-slice-read-word-2 c = search needs
+
+word-requires : tie.Need-word-requires
+word-requires c κs = search needs
+
+cast-place-3 : tie.Need-cast-place-3
+cast-place-3 c = search needs
+
+add-place-2 : tie.Need-add-place-2
+add-place-2 c = search needs
+
+cast-if2 : tie.Need-cast-if2
+cast-if2 c = search needs
+
+add-if2 : tie.Need-add-if2
+add-if2 c = search needs
+
+returns-2 : tie.Need-returns-2
+returns-2 c = let b = c .before .before .before .before .before .before .before .before .before .before .before .before .args .bytes .now in
+    data-high 63488 _ b _ _ (omega (arith, c .before .before .before .before .before .before .before .wide .ensures .0, c .before .before .before .before .before .before .if1 .left)) (omega (arith, c .before .before .before .before .before .before .before .wide .ensures .0, c .before .word .ensures, c .if2 .taken))
+
+cast-any-named : tie.Need-cast-any-named
+cast-any-named c = search needs
+
+cast-any-named-2 : tie.Need-cast-any-named-2
+cast-any-named-2 c = search needs
+
+any-named-requires : tie.Need-any-named-requires
+any-named-requires c κs = search needs
+
+same-length : tie.Need-same-length
+same-length c = search needs
+
+returns-3 : tie.Need-returns-3
+returns-3 c = let b = c .before .before .before .before .before .before .before .before .before .before .before .before .before .before .before .args .bytes .now in
+    data-twice 63488 _ b _ _ (omega (arith, c .before .before .before .before .before .before .before .before .before .before .wide .ensures .0, c .before .before .before .before .before .before .before .before .before .if1 .left)) (omega (arith, c .before .before .before .before .before .before .before .before .before .before .wide .ensures .0, c .before .before .before .before .word .ensures, c .before .before .before .if2 .left)) (rw (← c .before .before .before .before .before .before .before .before .before .before .wide .ensures .0, ← c .before .before .before .before .word .ensures) (sym (c .before .any-named .ensures) ∙ c .if3 .taken))
+
+add-end : tie.Need-add-end
+add-end c = search needs
+
+sub-copy : tie.Need-sub-copy
+sub-copy c = search needs
+
+part-copy-start : tie.Need-part-copy-start
+part-copy-start c = search needs
+
+part-copy-end : tie.Need-part-copy-end
+part-copy-end c = search needs
+
+copy-requires : tie.Need-copy-requires
+copy-requires c κs = search needs
+
+cast-name-all : tie.Need-cast-name-all
+cast-name-all c = search needs
+
+name-all-requires : tie.Need-name-all-requires
+name-all-requires c κs = search needs
+
+same-length-2 : tie.Need-same-length-2
+same-length-2 c = search needs
+
+same-length-3 : tie.Need-same-length-3
+same-length-3 c = search needs
+
+returns-4 : tie.Need-returns-4
+returns-4 c = let b = c .before .before .before .before .before .before .before .before .before .before .before .before .before .before .before .before .before .before .before .before .before .before .before .before .args .bytes .now in
+    let size : 4 + c .before .before .before .before .before .before .before .before .before .before .before .before .before .before .before .before .before .before .before .wide .result - 4 ≡ count b = omega (arith, c .before .before .before .before .before .before .before .before .before .before .before .before .before .before .before .before .before .before .before .wide .ensures .0) in
+    data-given 63488 _ b _ _ (omega (arith, c .before .before .before .before .before .before .before .before .before .before .before .before .before .before .before .before .before .before .before .wide .ensures .0, c .before .before .before .before .before .before .before .before .before .before .before .before .before .before .before .before .before .before .if1 .left)) (omega (arith, c .before .before .before .before .before .before .before .before .before .before .before .before .before .before .before .before .before .before .before .wide .ensures .0, c .before .before .before .before .before .before .before .before .before .before .before .before .before .word .ensures, c .before .before .before .before .before .before .before .before .before .before .before .before .if2 .left)) _ _ (rw (← c .before .before .before .before .before .before .before .before .before .before .before .before .before .before .before .before .before .before .before .wide .ensures .0, ← c .before .before .before .before .before .before .before .before .before .before .before .before .before .word .ensures) (sym (c .before .before .before .before .before .before .before .before .before .before .any-named .ensures) ∙ c .before .before .before .before .before .before .before .before .before .if3 .left)) (c .before .before .before .before .before .before .copy .ensures ∙ rw (size, c .before .before .before .before .before .before .before .before .before .before .before .before .before .word .ensures)) (c .before .before .name-all .ensures ∙ rw (c .before .before .before .before .before .before .before .before .before .before .before .before .before .before .before .before .before .before .before .wide .ensures .0, c .before .before .before .before .before .before .before .before .before .before .before .before .before .word .ensures))
+
+pub data-spec : {M : Type 1} → statement M
+data-spec =
+    tie.close
+    (tie.spec
+    shared-slice-read-wide
+    wide-requires
+    returns
+    cast-place
+    cast-place-2
+    add-place
+    shared-slice-read-word
+    shared-slice-read-word-2
+    word-requires
+    cast-place-3
+    add-place-2
+    cast-if2
+    add-if2
+    returns-2
+    cast-any-named
+    cast-any-named-2
+    any-named-requires
+    same-length
+    returns-3
+    add-end
+    sub-copy
+    part-copy-start
+    part-copy-end
+    copy-requires
+    cast-name-all
+    name-all-requires
+    same-length-2
+    same-length-3
+    returns-4)

@@ -1,0 +1,56 @@
+-- `told` meets its contract: each type by its own arm; types 02 to 05 have the two bytes that are read.
+use Rattle.image.specs.Laws.Hex.{shape-count}
+use native.Mathlib.Omega.{arith}
+use borrow.Author.Tests.{eq-eqb, ne-eqb}
+use borrow.Author.Needs.{needs}
+use Rattle.image.proofs.hex.Hex.told.Statement.{statement}
+use Rattle.image.proofs.hex.Hex.told.Tie as tie
+
+shared-slice-read-kind : tie.Need-shared-slice-read-kind
+shared-slice-read-kind c = search needs
+
+returns : tie.Need-returns
+returns c = simp (eq-eqb _ _ (c .if1 .taken))
+
+shared-slice-read-word : tie.Need-shared-slice-read-word
+shared-slice-read-word c = search needs
+
+shared-slice-read-word-2 : tie.Need-shared-slice-read-word-2
+shared-slice-read-word-2 c = omega (arith, shape-count (c .before .before .before .before .before .args .bytes .now) (c .before .before .before .before .before .pre .1) (c .before .before .before .before .before .pre .2) (c .before .before .if1 .left), c .before .before .before .before .before .pre .0)
+
+word-requires : tie.Need-word-requires
+word-requires c κs = search needs
+
+cast-value : tie.Need-cast-value
+cast-value c = search needs
+
+mul-self : tie.Need-mul-self
+mul-self c = search needs
+
+returns-2 : tie.Need-returns-2
+returns-2 c = simp (ne-eqb _ _ (c .before .before .before .before .if1 .left), eq-eqb _ _ (c .if2 .taken), c .before .word .ensures)
+
+mul-self-2 : tie.Need-mul-self-2
+mul-self-2 c = search needs
+
+returns-3 : tie.Need-returns-3
+returns-3 c = simp (ne-eqb _ _ (c .before .before .before .before .before .if1 .left), ne-eqb _ _ (c .before .if2 .left), eq-eqb _ _ (c .if3 .taken), c .before .before .word .ensures)
+
+returns-4 : tie.Need-returns-4
+returns-4 c = simp (ne-eqb _ _ (c .before .before .before .before .before .if1 .left), ne-eqb _ _ (c .before .if2 .left), ne-eqb _ _ (c .if3 .left))
+
+pub told-spec : {M : Type 1} → statement M
+told-spec =
+    tie.close
+    (tie.spec
+    shared-slice-read-kind
+    returns
+    shared-slice-read-word
+    shared-slice-read-word-2
+    word-requires
+    cast-value
+    mul-self
+    returns-2
+    mul-self-2
+    returns-3
+    returns-4)

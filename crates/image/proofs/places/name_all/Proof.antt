@@ -1,0 +1,57 @@
+-- `name_all` meets its contract: naming what is left, from here, gives what was to be given.
+use Prim.Native.Nat.{_≤_, _-_, _+_}
+use mathlib.Core.Path.{_≡_, refl, sym, _∙_}
+use native.Mathlib.Nat.{add-zero, sub-zero}
+use native.Mathlib.Omega.{arith}
+use borrow.Author.Needs.{needs}
+use lib.ListN.{length}
+use Rattle.image.specs.Places.{nameAllOf}
+use Rattle.image.proofs.Rows.{name-turn, name-ended}
+use Rattle.image.proofs.places.name_all.Statement.{statement}
+use Rattle.image.proofs.places.name_all.Tie as tie
+
+abbrev Inv-loop : tie.InvT-loop
+Inv-loop map₀ count first i₀ map i =
+    (i ≤ count) × (length map ≡ length map₀) × (nameAllOf map (first + i) (count - i) ≡ nameAllOf map₀ first count)
+
+abbrev μ-loop : tie.MeasureT-loop
+μ-loop map₀ count first i₀ map i = count - i
+
+loop-holds : tie.Need-loop-holds Inv-loop μ-loop
+loop-holds c = (search needs, refl, rw (add-zero, sub-zero))
+
+add-t10 : tie.Need-add-t10 Inv-loop μ-loop
+add-t10 c = search needs
+
+name-requires : tie.Need-name-requires Inv-loop μ-loop
+name-requires c κs = search needs
+
+add-i : tie.Need-add-i Inv-loop μ-loop
+add-i c = search needs
+
+loop-less : tie.Need-loop-less Inv-loop μ-loop
+loop-less c = search needs
+
+loop-again : tie.Need-loop-again Inv-loop μ-loop
+loop-again c = (omega arith, c .before .before .name .kept .0 ∙ c .before .before .before .before .before .loop .inv .1, rw (c .before .before .name .ensures) (name-turn _ _ _ _ (omega arith)) ∙ c .before .before .before .before .before .loop .inv .2)
+
+same-length : tie.Need-same-length Inv-loop μ-loop
+same-length c = search needs
+
+returns : tie.Need-returns Inv-loop μ-loop
+returns c = sym (name-ended _ _ _ _ (c .loop-test .left)) ∙ c .before .loop .inv .2
+
+pub name-all-spec : {M : Type 1} → statement M
+name-all-spec =
+    tie.close
+    (tie.spec
+    Inv-loop
+    μ-loop
+    loop-holds
+    add-t10
+    name-requires
+    add-i
+    loop-less
+    loop-again
+    same-length
+    returns)

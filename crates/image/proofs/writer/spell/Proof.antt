@@ -1,0 +1,86 @@
+-- `spell` meets its contract: spelling what is left, from here, gives what was to be given.
+use Prim.Native.Nat.{_≤_, _-_, _+_, _*_}
+use mathlib.Core.Path.{_≡_, refl, sym, _∙_}
+use native.Mathlib.Nat.{add-zero}
+use native.Mathlib.Omega.{arith}
+use borrow.Author.Needs.{needs}
+use lib.ListN.{length, drop, length-set}
+use Rattle.image.specs.Flash.{copyOf}
+use Rattle.image.specs.Writer.{spelt}
+use Rattle.image.proofs.Printing.{spell-turn, spell-ended}
+use Rattle.image.proofs.writer.spell.Statement.{statement}
+use Rattle.image.proofs.writer.spell.Tie as tie
+
+abbrev Inv-loop : tie.InvT-loop
+Inv-loop buffer₀ at bytes i₀ buffer i =
+    (i ≤ length bytes) × (length buffer ≡ length buffer₀) × (copyOf buffer (at + 2 * i) (spelt (drop i bytes)) ≡ copyOf buffer₀ at (spelt bytes))
+
+abbrev μ-loop : tie.MeasureT-loop
+μ-loop buffer₀ at bytes i₀ buffer i = length bytes - i
+
+loop-holds : tie.Need-loop-holds Inv-loop μ-loop
+loop-holds c = (search needs, refl, rw add-zero)
+
+mul-k : tie.Need-mul-k Inv-loop μ-loop
+mul-k c = search needs
+
+add-k : tie.Need-add-k Inv-loop μ-loop
+add-k c = search needs
+
+shared-slice-read-letter : tie.Need-shared-slice-read-letter Inv-loop μ-loop
+shared-slice-read-letter c = search needs
+
+letter-requires : tie.Need-letter-requires Inv-loop μ-loop
+letter-requires c κs = omega (arith, c .shared-slice-known2 .given (c .before .before .loop .i))
+
+slice-write-buffer : tie.Need-slice-write-buffer Inv-loop μ-loop
+slice-write-buffer c = search needs
+
+shared-slice-read-letter-2 : tie.Need-shared-slice-read-letter-2 Inv-loop μ-loop
+shared-slice-read-letter-2 c = search needs
+
+letter-requires-2 : tie.Need-letter-requires-2 Inv-loop μ-loop
+letter-requires-2 c κs = search needs
+
+add-buffer : tie.Need-add-buffer Inv-loop μ-loop
+add-buffer c = search needs
+
+slice-write-buffer-2 : tie.Need-slice-write-buffer-2 Inv-loop μ-loop
+slice-write-buffer-2 c = simp length-set (omega arith)
+
+add-i : tie.Need-add-i Inv-loop μ-loop
+add-i c = search needs
+
+loop-less : tie.Need-loop-less Inv-loop μ-loop
+loop-less c = search needs
+
+loop-again : tie.Need-loop-again Inv-loop μ-loop
+loop-again c = (omega arith, simp length-set (omega arith), spell-turn _ _ _ _ _ _ (omega arith) (c .before .before .letter .ensures) (c .letter2 .ensures) ∙ c .before .before .before .before .before .loop .inv .2)
+
+same-length : tie.Need-same-length Inv-loop μ-loop
+same-length c = search needs
+
+returns : tie.Need-returns Inv-loop μ-loop
+returns c = sym (spell-ended _ _ _ _ (c .loop-test .left)) ∙ c .before .loop .inv .2
+
+pub spell-spec : {M : Type 1} → statement M
+spell-spec =
+    tie.close
+    (tie.spec
+    Inv-loop
+    μ-loop
+    loop-holds
+    mul-k
+    add-k
+    shared-slice-read-letter
+    letter-requires
+    slice-write-buffer
+    shared-slice-read-letter-2
+    letter-requires-2
+    add-buffer
+    slice-write-buffer-2
+    add-i
+    loop-less
+    loop-again
+    same-length
+    returns)

@@ -1,0 +1,119 @@
+-- `write` meets its contract: one lemma for each way out.
+use Prim.Native.Nat.{_+_, _-_, _%_}
+use mathlib.Core.Path.{_≡_}
+use native.Mathlib.Omega.{arith}
+use borrow.Author.Tests.{eq-eqb, ne-eqb, lt-ltb}
+use lib.ListN.{length, length-take, length-drop}
+use Rattle.basis.specs.Refusals.{first}
+use Rattle.runs.specs.Map.{named}
+use Rattle.runs.specs.Laws.Runs.{len-le}
+use Rattle.image.specs.Writer.{writeIn}
+use Rattle.image.proofs.Printing.{write-above, write-end, write-run}
+use borrow.Author.Needs.{needs}
+use Rattle.image.proofs.writer.write.Statement.{statement}
+use Rattle.image.proofs.writer.write.Tie as tie
+
+returns : tie.Need-returns
+unfolding first writeIn
+returns c = (simp (ne-eqb _ _ (c .if1 .taken)), simp (ne-eqb _ _ (c .if1 .taken)))
+
+returns-2 : tie.Need-returns-2
+unfolding first writeIn
+returns-2 c = (simp (eq-eqb _ _ (c .before .if1 .left), ne-eqb _ _ (c .if2 .taken)), simp (eq-eqb _ _ (c .before .if1 .left), ne-eqb _ _ (c .if2 .taken)))
+
+returns-3 : tie.Need-returns-3
+unfolding first writeIn
+returns-3 c = (simp (eq-eqb _ _ (c .before .before .if1 .left), eq-eqb _ _ (c .before .if2 .left), lt-ltb _ _ (c .if3 .taken)), simp (eq-eqb _ _ (c .before .before .if1 .left), eq-eqb _ _ (c .before .if2 .left), lt-ltb _ _ (c .if3 .taken)))
+
+returns-4 : tie.Need-returns-4
+returns-4 c = let a = c .before .before .before .before .before .before .before .before .args in
+    let e = write-above 63488 (a .image .now) (a .map .now) (a .from .0) (length (a .buffer .now)) (c .before .before .before .before .if1 .left) (c .before .before .before .if2 .left) (c .before .before .if3 .left) (c .if4 .taken) in (rw e, rw e)
+
+next-named-requires : tie.Need-next-named-requires
+next-named-requires c κs = search needs
+
+slice-aggregate-print : tie.Need-slice-aggregate-print
+slice-aggregate-print c = search needs
+
+print-requires : tie.Need-print-requires
+print-requires c κs = search needs
+
+add-t19 : tie.Need-add-t19
+add-t19 c = search needs
+
+same-length : tie.Need-same-length
+same-length c = search needs
+
+returns-5 : tie.Need-returns-5
+returns-5 c = let a = c .before .before .before .before .before .before .before .before .before .before .before .before .before .before .before .before .args in
+    let e = write-end 63488 (a .image .now) (a .map .now) (a .from .0) (length (a .buffer .now)) (c .before .before .before .before .before .before .before .before .before .before .before .before .if1 .left) (c .before .before .before .before .before .before .before .before .before .before .before .if2 .left) (c .before .before .before .before .before .before .before .before .before .before .if3 .left) (c .before .before .before .before .before .before .before .before .if4 .left) _ (c .before .before .before .before .before .before .before .next-named .ensures) (c .before .before .before .before .before .if5 .taken) in (rw (e, c .before .before .print .ensures .0), rw e (c .before .before .print .ensures .1))
+
+sub-run-len : tie.Need-sub-run-len
+sub-run-len c = search needs
+
+run-len-requires : tie.Need-run-len-requires
+run-len-requires c κs = search needs
+
+cast-first : tie.Need-cast-first
+cast-first c = search needs
+
+cast-end : tie.Need-cast-end
+cast-end c = search needs
+
+add-end : tie.Need-add-end
+add-end c = search needs
+
+cast-print : tie.Need-cast-print
+cast-print c = search needs
+
+sub-print : tie.Need-sub-print
+sub-print c = search needs
+
+part-print-start : tie.Need-part-print-start
+part-print-start c = search needs
+
+part-print-end : tie.Need-part-print-end
+part-print-end c = omega (arith, c .run-len .ensures, len-le (named (c .before .before .before .before .before .before .before .before .before .before .before .before .args .map .now)) (c .before .before .before .next-named .result .0) (16 - c .before .before .before .next-named .result .0 % 16), c .before .if5 .left, c .before .before .before .before .before .before .before .before .if1 .left)
+
+print-requires-2 : tie.Need-print-requires-2
+print-requires-2 c κs = (simp (length-take, length-drop) (omega (arith, c .before .before .run-len .ensures, len-le (named (c .before .before .before .before .before .before .before .before .before .before .before .before .before .before .args .map .now)) (c .before .before .before .before .before .next-named .result .0) (16 - c .before .before .before .before .before .next-named .result .0 % 16))), c .before .before .before .before .before .before .before .before .if3 .left)
+
+add-t22 : tie.Need-add-t22
+add-t22 c = omega (arith, c .before .before .before .before .before .run-len .ensures, len-le (named (c .before .before .before .before .before .before .before .before .before .before .before .before .before .before .before .before .before .args .map .now)) (c .before .before .before .before .before .before .before .before .next-named .result .0) (16 - c .before .before .before .before .before .before .before .before .next-named .result .0 % 16), c .before .before .before .before .before .before .if5 .left)
+
+same-length-2 : tie.Need-same-length-2
+same-length-2 c = search needs
+
+returns-6 : tie.Need-returns-6
+returns-6 c = let a = c .before .before .before .before .before .before .before .before .before .before .before .before .before .before .before .before .before .args in
+    let k = c .before .before .before .before .before .before .before .before .next-named .result .0 in
+    let m : k + c .before .before .before .before .before .run-len .result - k ≡ c .before .before .before .before .before .run-len .result = omega arith in
+    let e = write-run 63488 (a .image .now) (a .map .now) (a .from .0) (length (a .buffer .now)) (c .before .before .before .before .before .before .before .before .before .before .before .before .before .if1 .left) (c .before .before .before .before .before .before .before .before .before .before .before .before .if2 .left) (c .before .before .before .before .before .before .before .before .before .before .before .if3 .left) (c .before .before .before .before .before .before .before .before .before .if4 .left) k (c .before .before .before .before .before .before .before .before .next-named .ensures) _ _ (c .before .before .before .before .before .before .if5 .left) (c .before .before .before .before .before .run-len .ensures) m in (rw (e, c .before .before .print2 .ensures .0), rw e (c .before .before .print2 .ensures .1))
+
+pub write-spec : {M : Type 1} → statement M
+write-spec =
+    tie.close
+    (tie.spec
+    returns
+    returns-2
+    returns-3
+    returns-4
+    next-named-requires
+    slice-aggregate-print
+    print-requires
+    add-t19
+    same-length
+    returns-5
+    sub-run-len
+    run-len-requires
+    cast-first
+    cast-end
+    add-end
+    cast-print
+    sub-print
+    part-print-start
+    part-print-end
+    print-requires-2
+    add-t22
+    same-length-2
+    returns-6)

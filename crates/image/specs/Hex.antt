@@ -1,0 +1,127 @@
+-- The hex reader: what start, one record and closing give, on a board of `size` bytes.
+use Prim.Native.Nat.{ℕ, _+_, _*_, _/_}
+use mathlib.Core.List.{List, [], _∷_}
+use mathlib.Core.Bool.{Bool, true, false, not}
+use lib.Dec.{eqb, ltb}
+use lib.ListN.{length, drop, replicate}
+use Rattle.basis.specs.Choice.{pick, both, either}
+use Rattle.basis.specs.Refusals.{Answer, refused, given, _when_, first}
+use Rattle.image.specs.Digits.{bytesOf}
+use Rattle.image.specs.Flash.{copyOf}
+use Rattle.image.specs.Places.{anyNamed, nameAllOf}
+use Rattle.image.specs.Record.{number, count, address, kind, payload, value, noColon, lengthWrong, notDigits, countWrong, sumWrong, isData, kindWrong, shapeWrong}
+use Rattle.image.specs.declared.hex.Hex.{Hex}
+use Rattle.image.specs.declared.hex.Read.{Read}
+use Rattle.image.specs.declared.hex.Read.the-variants.{Taken, Refused}
+
+abbrev pub paperRead : Read → Answer Hex
+paperRead (Taken h) = given h
+paperRead (Refused x) = refused (number x)
+
+-- reader, image and map together
+pub record File : Type 0 where
+  pub reader : Hex
+  pub image : List ℕ
+  pub map : List ℕ
+
+abbrev pub file : Hex → List ℕ → List ℕ → File
+file h image map = record { reader = h; image = image; map = map }
+
+-- the answer, with image and map as they then stand
+pub record Outcome : Type 0 where
+  pub answer : Answer Hex
+  pub image : List ℕ
+  pub map : List ℕ
+
+abbrev pub outcome : Answer Hex → List ℕ → List ℕ → Outcome
+outcome a image map = record { answer = a; image = image; map = map }
+
+-- a refusal leaves image and map as they stood
+abbrev pub settled : Answer File → List ℕ → List ℕ → Outcome
+settled (refused n) image map = outcome (refused n) image map
+settled (given f) image map = outcome (given (f .reader)) (f .image) (f .map)
+
+-- one bit an address
+abbrev pub sizeWrong : ℕ → List ℕ → List ℕ → Bool
+sizeWrong size image map = not (both (eqb (length image) size) (eqb (length map) (size / 8)))
+
+abbrev pub fresh : Hex
+fresh = record { linear = 0; segment = 0; ended = false; taken = false }
+
+-- a file at its start
+abbrev pub started : ℕ → File
+started size = file fresh (replicate size 0xFF) (replicate (size / 8) 0)
+
+unfoldable pub startIn : ℕ → List ℕ → List ℕ → Answer File
+startIn size image map = first (20 when sizeWrong size image map ∷ []) (given (started size))
+
+-- the place of the first data byte, as a whole number
+abbrev pub place : Hex → List ℕ → ℕ
+place h b = h .linear + h .segment + address b
+
+-- the reader after n data bytes
+abbrev pub fed : Hex → ℕ → Hex
+fed h n = record { linear = h .linear; segment = h .segment; ended = h .ended; taken = either (ltb 0 n) (h .taken) }
+
+-- and after a record of another type: 01 ends, 02 sets the segment base, 04 the linear base
+abbrev pub toldOf : Hex → List ℕ → Hex
+toldOf h b =
+    pick (eqb (kind b) 1) (record { linear = h .linear; segment = h .segment; ended = true; taken = h .taken })
+    (pick (eqb (kind b) 2) (record { linear = h .linear; segment = 16 * value b; ended = h .ended; taken = h .taken })
+    (pick (eqb (kind b) 4) (record { linear = 65536 * value b; segment = h .segment; ended = h .ended; taken = h .taken }) h))
+
+-- BB above 0 and place + BB above the board
+abbrev pub placeWrong : ℕ → Hex → List ℕ → Bool
+placeWrong size h b = both (ltb 0 (count b)) (ltb size (place h b + count b))
+
+-- a place named before
+abbrev pub placeTaken : Hex → List ℕ → List ℕ → Bool
+placeTaken h b map = anyNamed map (place h b) (count b)
+
+-- what a data record does
+abbrev pub placed : Hex → List ℕ → List ℕ → List ℕ → File
+placed h b image map = file (fed h (count b)) (copyOf image (place h b) (payload b)) (nameAllOf map (place h b) (count b))
+
+-- what a record does
+abbrev pub effect : Hex → List ℕ → List ℕ → List ℕ → File
+effect h b image map = pick (isData b) (placed h b image map) (file (toldOf h b) image map)
+
+unfoldable pub recordIn : ℕ → Hex → List ℕ → List ℕ → List ℕ → Answer File
+recordIn size h line image map =
+    let b = bytesOf (drop 1 line) in
+    first
+    (20 when sizeWrong size image map
+    ∷ 21 when h .ended
+    ∷ 22 when noColon line
+    ∷ 23 when lengthWrong line
+    ∷ 24 when notDigits line
+    ∷ 25 when countWrong (length line) b
+    ∷ 26 when sumWrong b
+    ∷ 27 when kindWrong b
+    ∷ 28 when shapeWrong b
+    ∷ 29 when both (isData b) (placeWrong size h b)
+    ∷ 30 when both (isData b) (placeTaken h b map)
+    ∷ [])
+    (given (effect h b image map))
+
+-- the table from 25 on, of the bytes of a record of n characters
+unfoldable pub applyIn : ℕ → Hex → ℕ → List ℕ → List ℕ → List ℕ → Answer File
+applyIn size h n b image map =
+    first
+    (25 when countWrong n b
+    ∷ 26 when sumWrong b
+    ∷ 27 when kindWrong b
+    ∷ 28 when shapeWrong b
+    ∷ 29 when both (isData b) (placeWrong size h b)
+    ∷ 30 when both (isData b) (placeTaken h b map)
+    ∷ [])
+    (given (effect h b image map))
+
+-- and from 29 on, of a data record
+unfoldable pub dataIn : ℕ → Hex → List ℕ → List ℕ → List ℕ → Answer File
+dataIn size h b image map =
+    first (29 when placeWrong size h b ∷ 30 when placeTaken h b map ∷ []) (given (placed h b image map))
+
+-- no end record; no data byte taken since the start
+unfoldable pub closeOf : Hex → Answer Hex
+closeOf h = first (31 when not (h .ended) ∷ 32 when not (h .taken) ∷ []) (given h)

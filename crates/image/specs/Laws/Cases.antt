@@ -1,0 +1,70 @@
+-- The records of the paper's cases, read by a fresh reader on a board of 272 bytes.
+use Prim.Native.Nat.{ℕ, _*_}
+use mathlib.Core.Path.{_≡_, refl}
+use mathlib.Core.Bool.{Bool, true, false}
+use mathlib.Core.List.{List, [], _∷_}
+use lib.Dec.{eqb}
+use lib.ListN.{getD, replicate}
+use Rattle.basis.specs.Choice.{both}
+use Rattle.basis.specs.Refusals.{Answer, refused, given, first}
+use Rattle.basis.specs.Sums.{total, sumOf}
+use Rattle.runs.specs.Map.{named, nameOf}
+use Rattle.image.specs.Digits.{digitOf, allDigits, bytesOf}
+use Rattle.image.specs.Flash.{stored}
+use Rattle.image.specs.Places.{anyNamed, nameAllOf}
+use Rattle.image.specs.Hex.{File, fresh, recordIn}
+use Rattle.image.specs.Writer.{letterOf, spelt}
+
+-- a record of these bytes, read
+abbrev on : List ℕ → Answer File
+on b = recordIn 272 fresh (0x3A ∷ spelt b) (replicate 272 0xFF) (replicate 34 0)
+
+-- the number of its refusal, or 0
+abbrev number : Answer File → ℕ
+number (refused n) = n
+number (given f) = 0
+
+-- the byte at an address, and the linear base
+abbrev byteAt : Answer File → ℕ → ℕ
+byteAt (refused n) a = 0
+byteAt (given f) a = getD (f .image) a 0
+
+abbrev linear : Answer File → ℕ
+linear (refused n) = 0
+linear (given f) = f .reader .linear
+
+-- accepted, and image and map stand as at the start
+abbrev unchanged : Answer File → Bool
+unchanged (refused n) = false
+unchanged (given f) = both (eqb (total (f .image)) (272 * 0xFF)) (eqb (total (f .map)) 0)
+
+abbrev all : List Bool → Bool
+all [] = true
+all (t ∷ s) = both t (all s)
+
+abbrev cases : List Bool
+cases =
+    -- :020000001234B8 is right, and its bytes stand in the image
+    eqb (number (on (0x02 ∷ 0x00 ∷ 0x00 ∷ 0x00 ∷ 0x12 ∷ 0x34 ∷ 0xB8 ∷ []))) 0
+    ∷ eqb (byteAt (on (0x02 ∷ 0x00 ∷ 0x00 ∷ 0x00 ∷ 0x12 ∷ 0x34 ∷ 0xB8 ∷ [])) 1) 0x34
+    -- :00000001FF is right
+    ∷ eqb (number (on (0x00 ∷ 0x00 ∷ 0x00 ∷ 0x01 ∷ 0xFF ∷ []))) 0
+    -- :020000040108EA is 26; F1 is right
+    ∷ eqb (number (on (0x02 ∷ 0x00 ∷ 0x00 ∷ 0x04 ∷ 0x01 ∷ 0x08 ∷ 0xEA ∷ []))) 26
+    ∷ eqb (linear (on (0x02 ∷ 0x00 ∷ 0x00 ∷ 0x04 ∷ 0x01 ∷ 0x08 ∷ 0xF1 ∷ []))) 0x01080000
+    -- :0200000212FFBD needs EB
+    ∷ eqb (number (on (0x02 ∷ 0x00 ∷ 0x00 ∷ 0x02 ∷ 0x12 ∷ 0xFF ∷ 0xBD ∷ []))) 26
+    ∷ eqb (number (on (0x02 ∷ 0x00 ∷ 0x00 ∷ 0x02 ∷ 0x12 ∷ 0xFF ∷ 0xEB ∷ []))) 0
+    -- :0401000090FFAA5502 needs 6D
+    ∷ eqb (number (on (0x04 ∷ 0x01 ∷ 0x00 ∷ 0x00 ∷ 0x90 ∷ 0xFF ∷ 0xAA ∷ 0x55 ∷ 0x02 ∷ []))) 26
+    ∷ eqb (number (on (0x04 ∷ 0x01 ∷ 0x00 ∷ 0x00 ∷ 0x90 ∷ 0xFF ∷ 0xAA ∷ 0x55 ∷ 0x6D ∷ []))) 0
+    -- data of count 0 at 0xFFFF is accepted and changes nothing
+    ∷ unchanged (on (0x00 ∷ 0xFF ∷ 0xFF ∷ 0x00 ∷ 0x02 ∷ []))
+    -- the board's last byte is taken, one more is 29
+    ∷ eqb (number (on (0x01 ∷ 0x01 ∷ 0x0F ∷ 0x00 ∷ 0x00 ∷ 0xEF ∷ []))) 0
+    ∷ eqb (number (on (0x02 ∷ 0x01 ∷ 0x0F ∷ 0x00 ∷ 0x00 ∷ 0x00 ∷ 0xEE ∷ []))) 29
+    ∷ []
+
+pub paper-cases : all cases ≡ true
+unfolding first recordIn digitOf allDigits bytesOf stored anyNamed nameAllOf named nameOf total sumOf letterOf spelt
+paper-cases = refl

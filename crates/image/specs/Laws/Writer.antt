@@ -1,0 +1,51 @@
+-- Laws of the writer's characters.
+use Prim.Native.Nat.{ℕ, suc, _+_, _*_, _/_, _%_, _<_}
+use mathlib.Core.Path.{_≡_, refl}
+use mathlib.Core.Bool.{true}
+use mathlib.Core.List.{List, [], _∷_, _++_}
+use native.Mathlib.Omega.{arith}
+use lib.ListN.{length}
+use borrow.Author.Tests.{lt-ltb}
+use Rattle.basis.specs.Lists.{Bytes}
+use Rattle.basis.specs.Laws.Computed.{agree}
+use Rattle.image.specs.Digits.{digitOf, allDigits, bytesOf}
+use Rattle.image.specs.Writer.{letterOf, spelt}
+
+pub length-spelt : (s : List ℕ) → length (spelt s) ≡ 2 * length s
+unfolding spelt
+length-spelt [] = refl
+length-spelt (x ∷ s) = omega (arith, length-spelt s)
+
+pub spelt-append : (s t : List ℕ) → spelt (s ++ t) ≡ spelt s ++ spelt t
+unfolding spelt
+spelt-append [] t = refl
+spelt-append (x ∷ s) t = rw (spelt-append s t)
+
+-- a digit reads back
+pub digit-letter : (d : ℕ) → d < 16 → digitOf (letterOf d) ≡ d
+unfolding digitOf letterOf
+digit-letter d h = agree (λ (d : ℕ). digitOf (letterOf d)) (λ (d : ℕ). d) 16 tt d h
+
+module _ (x : ℕ) (h : x < 256) where
+  pub digit-high : digitOf (letterOf (x / 16)) ≡ x / 16
+  digit-high = digit-letter (x / 16) (omega arith)
+
+  pub digit-low : digitOf (letterOf (x % 16)) ≡ x % 16
+  digit-low = digit-letter (x % 16) (omega arith)
+
+-- what is spelt is all digits, and reads back
+pub spelt-digits : (s : List ℕ) → Bytes s → allDigits (spelt s) ≡ true
+unfolding spelt allDigits
+spelt-digits [] h = refl
+spelt-digits (x ∷ s) h =
+    rw (digit-high x (h 0), lt-ltb (x / 16) 16 (below (h 0)), digit-low x (h 0), lt-ltb (x % 16) 16 (omega arith)) (spelt-digits s (λ k. h (suc k)))
+  where
+    below : x < 256 → x / 16 < 16
+    below l = omega arith
+
+pub spelt-bytes : (s : List ℕ) → Bytes s → bytesOf (spelt s) ≡ s
+unfolding spelt bytesOf
+spelt-bytes [] h = refl
+spelt-bytes (x ∷ s) h =
+    let e : 16 * (x / 16) + x % 16 ≡ x = omega arith in
+    rw (digit-high x (h 0), digit-low x (h 0), e, spelt-bytes s (λ k. h (suc k)))

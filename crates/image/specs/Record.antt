@@ -1,0 +1,102 @@
+-- A record by itself: its parts, and its refusals 22 to 28 as the functions cut them.
+use Prim.Native.Nat.{ℕ, _+_, _*_, _%_}
+use mathlib.Core.List.{List, [], _∷_}
+use mathlib.Core.Bool.{Bool, false, not}
+use lib.Dec.{eqb, ltb}
+use lib.ListN.{length, getD, take, drop}
+use Rattle.basis.specs.Choice.{pick, either}
+use Rattle.basis.specs.Refusals.{Answer, refused, given, _when_, first}
+use Rattle.basis.specs.Sums.{sumOf}
+use Rattle.image.specs.Digits.{allDigits}
+use Rattle.image.specs.declared.record.Refusal.{Refusal}
+use Rattle.image.specs.declared.record.Refusal.the-variants.{Size, Ended, Colon, Length, Digit, Count, Sum, Kind, Shape, Place, Twice, NoEnd, NoData}
+use Rattle.image.specs.declared.record.Check.{Check}
+use Rattle.image.specs.declared.record.Check.the-variants.{Passed, Refused}
+
+-- the paper's number of each refusal
+abbrev pub number : Refusal → ℕ
+number Size = 20
+number Ended = 21
+number Colon = 22
+number Length = 23
+number Digit = 24
+number Count = 25
+number Sum = 26
+number Kind = 27
+number Shape = 28
+number Place = 29
+number Twice = 30
+number NoEnd = 31
+number NoData = 32
+
+abbrev pub paperCheck : Check → Answer Unit
+paperCheck Passed = given tt
+paperCheck (Refused x) = refused (number x)
+
+-- ---- the parts of a record, of its bytes
+
+-- BB
+abbrev pub count : List ℕ → ℕ
+count b = getD b 0 0
+
+-- AAAA
+abbrev pub address : List ℕ → ℕ
+address b = 256 * getD b 1 0 + getD b 2 0
+
+-- TT
+abbrev pub kind : List ℕ → ℕ
+kind b = getD b 3 0
+
+-- the BB bytes
+abbrev pub payload : List ℕ → List ℕ
+payload b = take (count b) (drop 4 b)
+
+-- the value of the two bytes of types 02 to 05
+abbrev pub value : List ℕ → ℕ
+value b = 256 * getD b 4 0 + getD b 5 0
+
+-- ---- the tests
+
+-- no colon or empty
+abbrev pub noColon : List ℕ → Bool
+noColon line = either (eqb (length line) 0) (not (eqb (getD line 0 0) 0x3A))
+
+-- length under 11, over 521 or even
+abbrev pub lengthWrong : List ℕ → Bool
+lengthWrong line = either (ltb (length line) 11) (either (ltb 521 (length line)) (eqb (length line % 2) 0))
+
+-- a character that is no digit
+abbrev pub notDigits : List ℕ → Bool
+notDigits line = not (allDigits (drop 1 line))
+
+-- length not 11 + 2 BB
+abbrev pub countWrong : ℕ → List ℕ → Bool
+countWrong n b = not (eqb n (11 + 2 * count b))
+
+abbrev pub sumWrong : List ℕ → Bool
+sumWrong b = not (eqb (sumOf b) 0)
+
+abbrev pub isData : List ℕ → Bool
+isData b = eqb (kind b) 0
+
+-- type above 05
+abbrev pub kindWrong : List ℕ → Bool
+kindWrong b = ltb 5 (kind b)
+
+-- BB or AAAA wrong for the type: 01 has BB 0, 02 to 05 have BB 2, and all of them AAAA 0
+abbrev pub shapeWrong : List ℕ → Bool
+shapeWrong b = pick (isData b) false (either (not (eqb (address b) 0)) (not (eqb (count b) (pick (eqb (kind b) 1) 0 2))))
+
+-- ---- the cuts
+
+-- of the characters
+unfoldable pub charactersOf : List ℕ → Answer Unit
+charactersOf line = first (22 when noColon line ∷ 23 when lengthWrong line ∷ 24 when notDigits line ∷ []) (given tt)
+
+-- of the bytes of a record of n characters
+unfoldable pub framingOf : ℕ → List ℕ → Answer Unit
+framingOf n b = first (25 when countWrong n b ∷ 26 when sumWrong b ∷ []) (given tt)
+
+-- of type and shape
+unfoldable pub shapeOf : List ℕ → Answer Unit
+shapeOf b = first (27 when kindWrong b ∷ 28 when shapeWrong b ∷ []) (given tt)

@@ -1,0 +1,83 @@
+-- The hex writer: the next record from an address, on a board of `size` bytes.
+use Prim.Native.Nat.{ℕ, _+_, _-_, _/_, _%_}
+use mathlib.Core.List.{List, [], _∷_, _++_}
+use lib.Dec.{ltb, leb}
+use lib.ListN.{length, take, drop}
+use Rattle.basis.specs.Choice.{pick}
+use Rattle.basis.specs.Refusals.{Answer, refused, given, _when_, first}
+use Rattle.basis.specs.Sums.{checksumOf}
+use Rattle.runs.specs.Map.{named}
+use Rattle.runs.specs.Runs.{len, next}
+use Rattle.image.specs.Hex.{sizeWrong}
+use Rattle.image.specs.declared.writer.Written.{Written}
+use Rattle.image.specs.declared.writer.Written.the-variants.{Size, Short, Record}
+
+-- the upper case character of a digit
+unfoldable pub letterOf : ℕ → ℕ
+letterOf d = pick (ltb d 10) (0x30 + d) (0x37 + d)
+
+-- bytes as characters, two a byte, the higher digit first
+unfoldable pub spelt : List ℕ → List ℕ
+spelt [] = []
+spelt (x ∷ s) = letterOf (x / 16) ∷ letterOf (x % 16) ∷ spelt s
+
+-- count, address, type and bytes
+abbrev pub content : ℕ → ℕ → List ℕ → List ℕ
+content address kind s = length s ∷ address / 256 ∷ address % 256 ∷ kind ∷ s
+
+-- a record as the reader takes it: colon, content and checksum
+abbrev pub line : ℕ → ℕ → List ℕ → List ℕ
+line address kind s = 0x3A ∷ spelt (content address kind s ++ (checksumOf (content address kind s) ∷ []))
+
+-- closed by 0A
+unfoldable pub text : ℕ → ℕ → List ℕ → List ℕ
+text address kind s = line address kind s ++ (0x0A ∷ [])
+
+-- what is written, and the address to go on from
+pub record Step : Type 0 where
+  pub text : List ℕ
+  pub next : ℕ
+
+abbrev pub step : List ℕ → ℕ → Step
+step s a = record { text = s; next = a }
+
+-- how much of the run at a goes into its record: up to the next multiple of 16
+abbrev pub runLength : List ℕ → ℕ → ℕ
+runLength map a = len (named map) a (16 - a % 16)
+
+-- the record at a
+abbrev pub runFrom : List ℕ → List ℕ → ℕ → Step
+runFrom image map a = step (text a 0 (take (runLength map a) (drop a image))) (a + runLength map a)
+
+-- the lowest named place from a on, or the board's size
+abbrev pub lowest : ℕ → List ℕ → ℕ → ℕ
+lowest size map a = next (named map) a (size - a)
+
+unfoldable pub stepFrom : ℕ → List ℕ → List ℕ → ℕ → Step
+stepFrom size image map a =
+    pick (ltb size a) (step [] a)
+    (pick (leb size (lowest size map a)) (step (text 0 1 []) (size + 1)) (runFrom image map (lowest size map a)))
+
+-- with a buffer of n bytes
+unfoldable pub writeIn : ℕ → List ℕ → List ℕ → ℕ → ℕ → Answer Step
+writeIn size image map a n =
+    first (20 when sizeWrong size image map ∷ 33 when ltb n 44 ∷ []) (given (stepFrom size image map a))
+
+-- the length of what is written, and the address to go on from
+pub record Told : Type 0 where
+  pub length : ℕ
+  pub next : ℕ
+
+abbrev pub paperWritten : Written → Answer Told
+paperWritten Size = refused 20
+paperWritten Short = refused 33
+paperWritten (Record n a) = given (record { length = n; next = a .0 })
+
+abbrev pub told : Answer Step → Answer Told
+told (refused n) = refused n
+told (given s) = given (record { length = length (s .text); next = s .next })
+
+-- a refusal writes nothing
+abbrev pub textOf : Answer Step → List ℕ
+textOf (refused n) = []
+textOf (given s) = s .text

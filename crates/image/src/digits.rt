@@ -1,0 +1,41 @@
+// The characters of a hex file: a byte is two digits, the higher first.
+ghost use mathlib.Core.Path.{_≡_};
+ghost use mathlib.Core.Bool.{true};
+ghost use Prim.Native.Nat.{_*_, _/_, _%_, _≤_};
+ghost use lib.ListN.{length, take, drop};
+ghost use Rattle.image.specs.Digits.{digitOf, allDigits, bytesOf};
+
+// The value of a digit in either case; 16 for a character that is none.
+pub fn digit(c: u8) -> u8
+    ensures { λ r. ⌜ r ≡ digitOf c ⌝ }
+{
+    match c {
+        b'0'..=b'9' => c - 48,
+        b'A'..=b'F' => c - 55,
+        b'a'..=b'f' => c - 87,
+        _ => 16,
+    }
+}
+
+// The characters after the first, as bytes; false where one is no digit.
+pub fn decode(line: &[u8], bytes: &mut [u8]) -> bool
+    requires { ⌜ (length (now line) % 2 ≡ 1) × (length (now line) / 2 ≤ length (now bytes)) ⌝ }
+    ensures digits { λ r. ⌜ r ≡ allDigits (drop 1 (now (line .entry))) ⌝ }
+    ensures bytes { λ r. ⌜ (r ≡ true → take (length (now (line .entry)) / 2) (now (bytes .exit)) ≡ bytesOf (drop 1 (now (line .entry)))) ⌝ }
+{
+    let n = line.len() / 2;
+    let mut i = 0;
+    while i < n {
+        let high = digit(line[2 * i + 1]);
+        if 16 <= high {
+            return false;
+        }
+        let low = digit(line[2 * i + 2]);
+        if 16 <= low {
+            return false;
+        }
+        bytes[i] = 16 * high + low;
+        i += 1;
+    }
+    true
+}

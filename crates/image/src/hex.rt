@@ -1,0 +1,183 @@
+// The hex reader: record by record into a lent image and a lent map of the places named.
+ghost use mathlib.Core.Path.{_≡_};
+ghost use mathlib.Core.Bool.{false};
+ghost use Prim.Native.Nat.{_+_, _*_, _≤_};
+ghost use lib.ListN.{length, replicate};
+ghost use Rattle.basis.specs.Refusals.{given};
+ghost use Rattle.basis.specs.Board.{flashSize, mapSize};
+ghost use Rattle.image.specs.Record.{count, kind, shapeOf};
+ghost use Rattle.image.specs.Hex.{paperRead, outcome, settled, startIn, recordIn, applyIn, dataIn, toldOf, closeOf};
+use crate::flash::SIZE;
+use crate::flash::copy;
+use crate::places::any_named;
+use crate::places::name_all;
+use crate::record::Check;
+use crate::record::Refusal;
+use crate::record::characters;
+use crate::record::framing;
+use crate::record::shape;
+use crate::record::wide;
+use crate::record::word;
+use basis::board::FLASH;
+use basis::board::MAP;
+use basis::units::Address;
+
+// Both bases, whether the end record came, and whether a data byte was taken.
+// A base fits 32 bits, so no sum of the two, an address and a count wraps in 64.
+pub struct Hex {
+    pub linear: u32,
+    pub segment: u32,
+    pub ended: bool,
+    pub taken: bool,
+}
+
+pub enum Read {
+    Taken(Hex),
+    Refused(Refusal),
+}
+
+impl Hex {
+    // A reader at the start of a file: the image filled with 0xFF, the map with 0.
+    pub fn start(image: &mut [u8], map: &mut [u8]) -> Read
+        ensures { λ r. ⌜ outcome (paperRead r) (now (image .exit)) (now (map .exit)) ≡ settled (startIn flashSize (now (image .entry)) (now (map .entry))) (now (image .entry)) (now (map .entry)) ⌝ }
+    {
+        if image.len() != SIZE {
+            return Read::Refused(Refusal::Size);
+        }
+        if map.len() != MAP {
+            return Read::Refused(Refusal::Size);
+        }
+        fill(image, 0xFF);
+        fill(map, 0);
+        Read::Taken(Hex {
+            linear: 0,
+            segment: 0,
+            ended: false,
+            taken: false,
+        })
+    }
+
+    // One record, its line end removed. A refusal leaves image, map and reader as they stood.
+    pub fn record(self, line: &[u8], image: &mut [u8], map: &mut [u8]) -> Read
+        ensures { λ r. ⌜ outcome (paperRead r) (now (image .exit)) (now (map .exit)) ≡ settled (recordIn flashSize self (now (line .entry)) (now (image .entry)) (now (map .entry))) (now (image .entry)) (now (map .entry)) ⌝ }
+    {
+        if image.len() != SIZE {
+            return Read::Refused(Refusal::Size);
+        }
+        if map.len() != MAP {
+            return Read::Refused(Refusal::Size);
+        }
+        if self.ended {
+            return Read::Refused(Refusal::Ended);
+        }
+        let mut bytes = [0u8; 260];
+        self.take(line, &mut bytes, image, map)
+    }
+
+    // 22 to 30 and what the record does, with room for its bytes.
+    fn take(self, line: &[u8], bytes: &mut [u8], image: &mut [u8], map: &mut [u8]) -> Read
+        requires { ⌜ (length (now bytes) ≡ 260) × (length (now image) ≡ flashSize) × (length (now map) ≡ mapSize) × (self .ended ≡ false) ⌝ }
+        ensures { λ r. ⌜ outcome (paperRead r) (now (image .exit)) (now (map .exit)) ≡ settled (recordIn flashSize self (now (line .entry)) (now (image .entry)) (now (map .entry))) (now (image .entry)) (now (map .entry)) ⌝ }
+    {
+        let spelt = characters(line, bytes);
+        if let Check::Refused(x) = spelt {
+            return Read::Refused(x);
+        }
+        let n = line.len();
+        let half = n / 2;
+        self.apply(n, &bytes[..half], image, map)
+    }
+
+    // 25 to 30 and what the record does, of the bytes of a record of `n` characters.
+    fn apply(self, n: usize, bytes: &[u8], image: &mut [u8], map: &mut [u8]) -> Read
+        requires { ⌜ (n ≡ 2 * length (now bytes) + 1) × (5 ≤ length (now bytes)) × (length (now image) ≡ flashSize) × (length (now map) ≡ mapSize) ⌝ }
+        ensures { λ r. ⌜ outcome (paperRead r) (now (image .exit)) (now (map .exit)) ≡ settled (applyIn flashSize self n (now (bytes .entry)) (now (image .entry)) (now (map .entry))) (now (image .entry)) (now (map .entry)) ⌝ }
+    {
+        let framed = framing(n, bytes);
+        if let Check::Refused(x) = framed {
+            return Read::Refused(x);
+        }
+        let shaped = shape(bytes);
+        if let Check::Refused(x) = shaped {
+            return Read::Refused(x);
+        }
+        if bytes[3] == 0 {
+            return self.data(bytes, image, map);
+        }
+        Read::Taken(self.told(bytes))
+    }
+
+    // 29 and 30, and the data bytes into image and map.
+    fn data(self, bytes: &[u8], image: &mut [u8], map: &mut [u8]) -> Read
+        requires { ⌜ (length (now bytes) ≡ 5 + count (now bytes)) × (length (now image) ≡ flashSize) × (length (now map) ≡ mapSize) ⌝ }
+        ensures { λ r. ⌜ outcome (paperRead r) (now (image .exit)) (now (map .exit)) ≡ settled (dataIn flashSize self (now (bytes .entry)) (now (image .entry)) (now (map .entry))) (now (image .entry)) (now (map .entry)) ⌝ }
+    {
+        let count = wide(bytes[0]);
+        if count == 0 {
+            return Read::Taken(self);
+        }
+        let place = self.linear as u64 + self.segment as u64 + word(bytes[1], bytes[2]) as u64;
+        if (FLASH as u64) < place + count as u64 {
+            return Read::Refused(Refusal::Place);
+        }
+        let at = place as usize;
+        let from = Address(at as u32);
+        if any_named(map, from, count as u32) {
+            return Read::Refused(Refusal::Twice);
+        }
+        let end = 4 + count;
+        copy(image, at, &bytes[4..end]);
+        name_all(map, from, count as u32);
+        Read::Taken(Hex {
+            linear: self.linear,
+            segment: self.segment,
+            ended: self.ended,
+            taken: true,
+        })
+    }
+
+    // The reader after a record that is no data.
+    fn told(mut self, bytes: &[u8]) -> Hex
+        requires { ⌜ (length (now bytes) ≡ 5 + count (now bytes)) × (shapeOf (now bytes) ≡ given tt) × (kind (now bytes) ≡ 0 → ⊥) ⌝ }
+        ensures { λ r. ⌜ r ≡ toldOf self (now (bytes .entry)) ⌝ }
+    {
+        let kind = bytes[3];
+        if kind == 1 {
+            self.ended = true;
+            return self;
+        }
+        let value = word(bytes[4], bytes[5]) as u32;
+        if kind == 2 {
+            self.segment = 16 * value;
+            return self;
+        }
+        if kind == 4 {
+            self.linear = 65536 * value;
+            return self;
+        }
+        self
+    }
+
+    // 31 and 32.
+    pub fn close(self) -> Read
+        ensures { λ r. ⌜ paperRead r ≡ closeOf self ⌝ }
+    {
+        if !self.ended {
+            return Read::Refused(Refusal::NoEnd);
+        }
+        if !self.taken {
+            return Read::Refused(Refusal::NoData);
+        }
+        Read::Taken(self)
+    }
+}
+
+fn fill(bytes: &mut [u8], x: u8)
+    ensures { λ _. ⌜ now (bytes .exit) ≡ replicate (length (now (bytes .entry))) x ⌝ }
+{
+    let mut i = 0;
+    while i < bytes.len() {
+        bytes[i] = x;
+        i += 1;
+    }
+}

@@ -1,0 +1,115 @@
+// A record by itself, judged in the order of the paper: its characters, its bytes, its type and shape.
+ghost use mathlib.Core.Path.{_≡_};
+ghost use Prim.Native.Nat.{_+_, _*_, _/_, _≤_};
+ghost use lib.ListN.{length, take, drop};
+ghost use Rattle.basis.specs.Refusals.{given};
+ghost use Rattle.image.specs.Digits.{bytesOf};
+ghost use Rattle.image.specs.Record.{paperCheck, count, charactersOf, framingOf, shapeOf};
+use crate::digits::decode;
+use basis::sums::sum;
+
+pub enum Refusal {
+    Size,
+    Ended,
+    Colon,
+    Length,
+    Digit,
+    Count,
+    Sum,
+    Kind,
+    Shape,
+    Place,
+    Twice,
+    NoEnd,
+    NoData,
+}
+
+pub enum Check {
+    Passed,
+    Refused(Refusal),
+}
+
+// 22, 23 and 24. Where they pass, the record's bytes are the first of `bytes`.
+pub fn characters(line: &[u8], bytes: &mut [u8]) -> Check
+    requires { ⌜ 260 ≤ length (now bytes) ⌝ }
+    ensures answer { λ r. ⌜ paperCheck r ≡ charactersOf (now (line .entry)) ⌝ }
+    ensures bytes { λ r. ⌜ (paperCheck r ≡ given tt → take (length (now (line .entry)) / 2) (now (bytes .exit)) ≡ bytesOf (drop 1 (now (line .entry)))) ⌝ }
+{
+    let n = line.len();
+    if n == 0 {
+        return Check::Refused(Refusal::Colon);
+    }
+    if line[0] != b':' {
+        return Check::Refused(Refusal::Colon);
+    }
+    if n < 11 {
+        return Check::Refused(Refusal::Length);
+    }
+    if 521 < n {
+        return Check::Refused(Refusal::Length);
+    }
+    if n % 2 == 0 {
+        return Check::Refused(Refusal::Length);
+    }
+    if !decode(line, bytes) {
+        return Check::Refused(Refusal::Digit);
+    }
+    Check::Passed
+}
+
+// 25 and 26, of the bytes of a record of `n` characters.
+pub fn framing(n: usize, bytes: &[u8]) -> Check
+    requires { ⌜ 1 ≤ length (now bytes) ⌝ }
+    ensures { λ r. ⌜ paperCheck r ≡ framingOf n (now (bytes .entry)) ⌝ }
+{
+    let count = wide(bytes[0]);
+    if n != 11 + 2 * count {
+        return Check::Refused(Refusal::Count);
+    }
+    if sum(bytes) != 0 {
+        return Check::Refused(Refusal::Sum);
+    }
+    Check::Passed
+}
+
+// 27 and 28.
+pub fn shape(bytes: &[u8]) -> Check
+    requires { ⌜ 4 ≤ length (now bytes) ⌝ }
+    ensures { λ r. ⌜ paperCheck r ≡ shapeOf (now (bytes .entry)) ⌝ }
+{
+    let count = bytes[0];
+    let at = word(bytes[1], bytes[2]);
+    let kind = bytes[3];
+    if 5 < kind {
+        return Check::Refused(Refusal::Kind);
+    }
+    if kind == 0 {
+        return Check::Passed;
+    }
+    if at != 0 {
+        return Check::Refused(Refusal::Shape);
+    }
+    if kind == 1 {
+        if count != 0 {
+            return Check::Refused(Refusal::Shape);
+        }
+        return Check::Passed;
+    }
+    if count != 2 {
+        return Check::Refused(Refusal::Shape);
+    }
+    Check::Passed
+}
+
+pub fn wide(x: u8) -> usize
+    ensures { λ r. ⌜ (r ≡ x) × (r ≤ 255) ⌝ }
+{
+    x as usize
+}
+
+// Two bytes as one number, the higher first.
+pub fn word(high: u8, low: u8) -> u16
+    ensures { λ r. ⌜ r ≡ 256 * high + low ⌝ }
+{
+    256 * (high as u16) + (low as u16)
+}
