@@ -9,14 +9,14 @@ use Rattle.basis.specs.Refusals.{Answer, refused, given, _when_, first}
 use Rattle.image.specs.Digits.{bytesOf}
 use Rattle.image.specs.Flash.{copyOf}
 use Rattle.image.specs.Places.{anyNamed, nameAllOf}
-use Rattle.image.specs.Record.{number, count, address, kind, payload, value, noColon, lengthWrong, notDigits, countWrong, sumWrong, isData, kindWrong, shapeWrong}
+use Rattle.image.specs.Record.{paperRefusal, count, address, kind, payload, value, noColon, lengthWrong, notDigits, countWrong, sumWrong, isData, kindWrong, shapeWrong}
 use Rattle.image.specs.declared.hex.Hex.{Hex}
 use Rattle.image.specs.declared.hex.Read.{Read}
 use Rattle.image.specs.declared.hex.Read.the-variants.{Taken, Refused}
 
 abbrev pub paperRead : Read → Answer Hex
 paperRead (Taken h) = given h
-paperRead (Refused x) = refused (number x)
+paperRead (Refused x) = refused (paperRefusal x)
 
 -- reader, image and map together
 pub record File : Type 0 where
@@ -55,7 +55,7 @@ started size = file fresh (replicate size 0xFF) (replicate (size / 8) 0)
 unfoldable pub startIn : ℕ → List ℕ → List ℕ → Answer File
 startIn size image map = first (20 when sizeWrong size image map ∷ []) (given (started size))
 
--- the place of the first data byte, as a whole number
+-- the place of the first data byte, as a whole paperRefusal
 abbrev pub place : Hex → List ℕ → ℕ
 place h b = h .linear + h .segment + address b
 

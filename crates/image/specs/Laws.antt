@@ -4,4 +4,4 @@ pub mod Writer
 pub mod Hex
 pub mod RoundTrip
 pub mod Cases
-pub mod Answers
+pub mod Determined

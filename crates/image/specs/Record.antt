@@ -14,24 +14,24 @@ use Rattle.image.specs.declared.record.Check.{Check}
 use Rattle.image.specs.declared.record.Check.the-variants.{Passed, Refused}
 
 -- the paper's number of each refusal
-abbrev pub number : Refusal → ℕ
-number Size = 20
-number Ended = 21
-number Colon = 22
-number Length = 23
-number Digit = 24
-number Count = 25
-number Sum = 26
-number Kind = 27
-number Shape = 28
-number Place = 29
-number Twice = 30
-number NoEnd = 31
-number NoData = 32
+abbrev pub paperRefusal : Refusal → ℕ
+paperRefusal Size = 20
+paperRefusal Ended = 21
+paperRefusal Colon = 22
+paperRefusal Length = 23
+paperRefusal Digit = 24
+paperRefusal Count = 25
+paperRefusal Sum = 26
+paperRefusal Kind = 27
+paperRefusal Shape = 28
+paperRefusal Place = 29
+paperRefusal Twice = 30
+paperRefusal NoEnd = 31
+paperRefusal NoData = 32
 
 abbrev pub paperCheck : Check → Answer Unit
 paperCheck Passed = given tt
-paperCheck (Refused x) = refused (number x)
+paperCheck (Refused x) = refused (paperRefusal x)
 
 -- ---- the parts of a record, of its bytes
 

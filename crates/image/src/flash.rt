@@ -5,9 +5,6 @@ ghost use Prim.Native.Nat.{_+_, _≤_};
 ghost use lib.ListN.{length};
 ghost use Rattle.image.specs.Flash.{eraseOf, storeOf, copyOf};
 
-// How many bytes there are.
-pub const SIZE: usize = 63488;
-
 pub fn erase(flash: &mut [u8], at: usize, count: usize)
     requires { ⌜ at + count ≤ length (now flash) ⌝ }
     ensures { λ _. ⌜ now (flash .exit) ≡ eraseOf (now (flash .entry)) at count ⌝ }

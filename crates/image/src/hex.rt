@@ -7,7 +7,6 @@ ghost use Rattle.basis.specs.Refusals.{given};
 ghost use Rattle.basis.specs.Board.{flashSize, mapSize};
 ghost use Rattle.image.specs.Record.{count, kind, shapeOf};
 ghost use Rattle.image.specs.Hex.{paperRead, outcome, settled, startIn, recordIn, applyIn, dataIn, toldOf, closeOf};
-use crate::flash::SIZE;
 use crate::flash::copy;
 use crate::places::any_named;
 use crate::places::name_all;
@@ -19,6 +18,7 @@ use crate::record::shape;
 use crate::record::wide;
 use crate::record::word;
 use basis::board::FLASH;
+use basis::board::IMAGE;
 use basis::board::MAP;
 use basis::units::Address;
 
@@ -41,7 +41,7 @@ impl Hex {
     pub fn start(image: &mut [u8], map: &mut [u8]) -> Read
         ensures { λ r. ⌜ outcome (paperRead r) (now (image .exit)) (now (map .exit)) ≡ settled (startIn flashSize (now (image .entry)) (now (map .entry))) (now (image .entry)) (now (map .entry)) ⌝ }
     {
-        if image.len() != SIZE {
+        if image.len() != IMAGE {
             return Read::Refused(Refusal::Size);
         }
         if map.len() != MAP {
@@ -61,7 +61,7 @@ impl Hex {
     pub fn record(self, line: &[u8], image: &mut [u8], map: &mut [u8]) -> Read
         ensures { λ r. ⌜ outcome (paperRead r) (now (image .exit)) (now (map .exit)) ≡ settled (recordIn flashSize self (now (line .entry)) (now (image .entry)) (now (map .entry))) (now (image .entry)) (now (map .entry)) ⌝ }
     {
-        if image.len() != SIZE {
+        if image.len() != IMAGE {
             return Read::Refused(Refusal::Size);
         }
         if map.len() != MAP {

@@ -6,8 +6,8 @@ ghost use Rattle.basis.specs.Lists.{overlay};
 ghost use Rattle.basis.specs.Board.{flashSize};
 ghost use Rattle.image.specs.Flash.{copyOf};
 ghost use Rattle.image.specs.Writer.{letterOf, spelt, text, paperWritten, told, textOf, writeIn};
-use crate::flash::SIZE;
 use basis::board::FLASH;
+use basis::board::IMAGE;
 use basis::board::MAP;
 use basis::sums::sum;
 use basis::units::Address;
@@ -26,7 +26,7 @@ pub fn write(image: &[u8], map: &[u8], from: Address, buffer: &mut [u8]) -> Writ
     ensures answer { λ r. ⌜ paperWritten r ≡ told (writeIn flashSize (now (image .entry)) (now (map .entry)) (from .0) (length (now (buffer .entry)))) ⌝ }
     ensures buffer { λ _. ⌜ now (buffer .exit) ≡ overlay (textOf (writeIn flashSize (now (image .entry)) (now (map .entry)) (from .0) (length (now (buffer .entry))))) (now (buffer .entry)) ⌝ }
 {
-    if image.len() != SIZE {
+    if image.len() != IMAGE {
         return Written::Size;
     }
     if map.len() != MAP {

@@ -1,0 +1,90 @@
+-- Two outcomes that a contract permits are equal: the paper's numbers and values tell all cases apart.
+use Prim.Native.Nat.{ℕ}
+use mathlib.Core.List.{List}
+use mathlib.Core.Path.{_≡_, refl, sym, ap, _∙_}
+use native.Mathlib.Omega.{arith}
+use lib.Dec.{eqb}
+use Rattle.basis.specs.Choice.{pick}
+use Rattle.basis.specs.Laws.Refusals.{apart, given-one, refused-one, determined}
+use Rattle.basis.specs.Lists.{overlay}
+use Rattle.basis.specs.Refusals.{Answer}
+use Rattle.image.specs.Hex.{paperRead, Outcome, outcome}
+use Rattle.image.specs.Record.{paperRefusal}
+use Rattle.image.specs.Writer.{Step, paperWritten, told, textOf}
+use Rattle.image.specs.declared.hex.Hex.{Hex}
+use Rattle.image.specs.declared.hex.Read.{Read}
+use Rattle.image.specs.declared.hex.Read.the-variants.{Taken, Refused}
+use Rattle.image.specs.declared.record.Refusal.{Refusal}
+use Rattle.image.specs.declared.record.Refusal.the-variants.{Size, Ended, Colon, Length, Digit, Count, Sum, Kind, Shape, Place, Twice, NoEnd, NoData}
+use Rattle.image.specs.declared.writer.Written.{Written}
+use Rattle.image.specs.declared.writer.Written.the-variants as written
+
+-- the refusal of a number
+refusalBy : ℕ → Refusal
+refusalBy n =
+    pick (eqb n 20) Size
+    (pick (eqb n 21) Ended
+    (pick (eqb n 22) Colon
+    (pick (eqb n 23) Length
+    (pick (eqb n 24) Digit
+    (pick (eqb n 25) Count
+    (pick (eqb n 26) Sum
+    (pick (eqb n 27) Kind
+    (pick (eqb n 28) Shape
+    (pick (eqb n 29) Place
+    (pick (eqb n 30) Twice
+    (pick (eqb n 31) NoEnd NoData)))))))))))
+
+refusal-back : (x : Refusal) → refusalBy (paperRefusal x) ≡ x
+unfolding refusalBy
+refusal-back Size = refl
+refusal-back Ended = refl
+refusal-back Colon = refl
+refusal-back Length = refl
+refusal-back Digit = refl
+refusal-back Count = refl
+refusal-back Sum = refl
+refusal-back Kind = refl
+refusal-back Shape = refl
+refusal-back Place = refl
+refusal-back Twice = refl
+refusal-back NoEnd = refl
+refusal-back NoData = refl
+
+apart-numbers : _≡_ {A = ℕ} 20 33 → ⊥
+apart-numbers e = omega arith
+
+refusal-one : (x y : Refusal) → paperRefusal x ≡ paperRefusal y → x ≡ y
+refusal-one x y e = sym (refusal-back x) ∙ ap refusalBy e ∙ refusal-back y
+
+-- reading
+read-one : (r s : Read) → paperRead r ≡ paperRead s → r ≡ s
+read-one (Taken h) (Taken g) e = ap Taken (given-one e)
+read-one (Taken h) (Refused y) e = absurd (apart (sym e))
+read-one (Refused x) (Taken g) e = absurd (apart e)
+read-one (Refused x) (Refused y) e = ap Refused (refusal-one x y (refused-one e))
+
+-- of start and of a record, with image and map as they leave them
+pub record-determined : {o : Outcome} (r s : Read) (i j m n : List ℕ) → outcome (paperRead r) i m ≡ o → outcome (paperRead s) j n ≡ o → (r ≡ s) × (i ≡ j) × (m ≡ n)
+record-determined r s i j m n p q =
+    let e = p ∙ sym q in
+    (read-one r s (ap (λ (x : Outcome). x .answer) e), ap (λ (x : Outcome). x .image) e, ap (λ (x : Outcome). x .map) e)
+
+pub close-determined : {a : Answer Hex} (r s : Read) → paperRead r ≡ a → paperRead s ≡ a → r ≡ s
+close-determined = determined paperRead read-one
+
+-- writing
+written-one : (r s : Written) → paperWritten r ≡ paperWritten s → r ≡ s
+written-one written.Size written.Size e = refl
+written-one written.Size written.Short e = absurd (apart-numbers (refused-one e))
+written-one written.Size (written.Record n a) e = absurd (apart e)
+written-one written.Short written.Size e = absurd (apart-numbers (sym (refused-one e)))
+written-one written.Short written.Short e = refl
+written-one written.Short (written.Record n a) e = absurd (apart e)
+written-one (written.Record n a) written.Size e = absurd (apart (sym e))
+written-one (written.Record n a) written.Short e = absurd (apart (sym e))
+written-one (written.Record n a) (written.Record m b) e =
+    let g = given-one e in λ i. written.Record (g i .length) (record { 0 = g i .next })
+
+pub write-determined : (a : Answer Step) (r s : Written) (x y old : List ℕ) → (paperWritten r ≡ told a) × (x ≡ overlay (textOf a) old) → (paperWritten s ≡ told a) × (y ≡ overlay (textOf a) old) → (r ≡ s) × (x ≡ y)
+write-determined a r s x y old p q = (determined paperWritten written-one r s (p .0) (q .0), p .1 ∙ sym (q .1))
