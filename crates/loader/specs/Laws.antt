@@ -1,2 +1,6 @@
 pub mod Commands
+pub mod Verify
 pub mod Take
+pub mod Host
+pub mod Protection
+pub mod Determined

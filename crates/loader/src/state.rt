@@ -76,14 +76,14 @@ impl Loader {
         ensures { λ r. ⌜ r ≡ withAdded self added ⌝ }
     {
         let condition = self.condition;
-        let protection = self.protection;
+        let in_force = self.protection;
         Loader {
             condition,
             sequence: Sequence {
                 opened: true,
                 added,
             },
-            protection,
+            protection: in_force,
             key: self.key,
         }
     }

@@ -1,9 +1,9 @@
 -- Laws of the commands.
 use Prim.Native.Nat.{ℕ, _+_, _*_, _≤_, _<_}
-use mathlib.Core.Bool.{Bool, true, false}
+use mathlib.Core.Bool.{Bool, true, false, not}
 use mathlib.Core.List.{List, [], _∷_}
-use mathlib.Core.Path.{_≡_, refl, _∙_}
-use borrow.Author.Tests.{lt-ltb, le-ltb, le-leb, lt-leb, eq-eqb, ne-eqb, ltb-false, leb-false}
+use mathlib.Core.Path.{_≡_, refl, ap, _∙_}
+use borrow.Author.Tests.{lt-ltb, le-ltb, le-leb, lt-leb, eq-eqb, ne-eqb, ltb-false, leb-false, not-false}
 use lib.Dec.{leb, eqb}
 use lib.ListN.{length, getD}
 use Rattle.basis.specs.Choice.{pick}
@@ -13,7 +13,9 @@ use Rattle.basis.specs.Refusals.{Answer, refused, given, Rule, _when_, first}
 use Rattle.basis.specs.Units.{pageOf, startOf}
 use Rattle.image.specs.Flash.{eraseOf}
 use Rattle.loader.specs.Commands.{Effect, Turns, Does, protectedPages, protectedBytes, massErase, eraseRows, erasing, writeRows, writing, verifyRows, protecting, running, keeping, obeyOf}
-use Rattle.loader.specs.State.{clearedOf}
+use Rattle.loader.specs.State.{withCondition, clearedOf}
+use Rattle.loader.specs.Verify.{sameOf}
+use Rattle.loader.specs.declared.state.Condition.the-variants.{Left}
 use Rattle.loader.specs.declared.state.Loader.{Loader}
 
 -- what a function that obeys shows, by its two ways out
@@ -146,3 +148,24 @@ module _ (k : ℕ) (l : Loader) (a : ℕ) (d f : List ℕ) where
   pub obey-run : obeyOf k l 0x52 a d f ≡ keeping f (running l a)
   unfolding obeyOf
   obey-run = refl
+
+-- ---- V: let through exactly when no sequence is open, the range lies in flash, reading is free and the bytes are equal
+
+module _ {A : Type 0} (k : ℕ) (l : Loader) (a : ℕ) (d f : List ℕ) (r : Answer A) where
+  pub verify-passes : l .sequence .opened ≡ false → a + length d ≤ startOf k → l .protection .read ≡ false → sameOf f a d ≡ true → first (verifyRows k l a d f) r ≡ r
+  unfolding verifyRows
+  verify-passes p q s t = skip 9 _ _ r p ∙ skip 7 _ _ r (le-ltb _ _ q) ∙ skip 8 _ _ r s ∙ skip 10 _ _ r (ap not t) ∙ done r
+
+  pub verify-let : {y : A} → first (verifyRows k l a d f) r ≡ given y → (a + length d ≤ startOf k) × (sameOf f a d ≡ true)
+  unfolding verifyRows
+  verify-let e =
+      let p = passed 9 _ _ _ e in
+      let q = passed 7 _ _ _ (p .1) in
+      let s = passed 8 _ _ _ (q .1) in
+      (ltb-false _ _ (q .0), not-false _ (passed 10 _ _ _ (s .1) .0))
+
+-- ---- R
+
+pub run-passes : (l : Loader) (a : ℕ) → l .sequence .opened ≡ false → a ≤ 1 → running l a ≡ given (withCondition l Left)
+unfolding running
+run-passes l a p h = skip 9 _ _ _ p ∙ skip 7 _ _ _ (le-ltb _ _ h) ∙ done _

@@ -37,7 +37,7 @@ command-back Run = refl
 pub command-one : (c d : Command) → paperCommand c ≡ paperCommand d → c ≡ d
 command-one c d e = sym (command-back c) ∙ ap commandBy e ∙ command-back d
 
-refusalBy : ℕ → Refusal
+unfoldable pub refusalBy : ℕ → Refusal
 refusalBy n =
     pick (eqb n 1) Start (pick (eqb n 2) Length (pick (eqb n 3) Count (pick (eqb n 4) Checksum (pick (eqb n 5) Unlisted Shape))))
 

@@ -1,12 +1,12 @@
 -- Laws of the packet: its length, what building gives, and what reading gives.
 use Prim.Native.Nat.{ℕ, _+_, _-_, _*_, _/_, _%_, _^_, _≤_, _<_}
-use mathlib.Core.Bool.{true, not}
+use mathlib.Core.Bool.{true, false, not}
 use mathlib.Core.List.{List, [], _∷_, map}
 use mathlib.Core.Path.{_≡_, refl, ap, sym, _∙_}
 use native.Mathlib.Nat.{div-div-eq-div-mul, div-add-mod', mod-eq-of-lt}
 use native.Mathlib.Omega.{arith}
 use borrow.Author.Tests.{le-leb, lt-leb, lt-ltb, le-ltb, ltb-false, eq-eqb, eqb-true, not-false}
-use lib.Dec.{leb}
+use lib.Dec.{leb, eqb}
 use lib.ListN.{length, getD, take, drop, length-append, length-map}
 use lib.Seq.{take-at}
 use Rattle.basis.specs.Laws.Choice.{both-second}
@@ -143,3 +143,8 @@ data-within s p e =
     let a : p .place ≡ 8 = sym (ap (λ (x : Parts). x .place) (r .says)) in
     let b : p .size ≡ count s - 5 = sym (ap (λ (x : Parts). x .size) (r .says)) in
     omega arith
+
+-- every command but V carries its data as they are
+pub carried-plainly : (c : ℕ) (d : List ℕ) → eqb c 0x56 ≡ false → map (carriedOf c) d ≡ d
+carried-plainly c [] e = refl
+carried-plainly c (x ∷ d) e = simp (e, carried-plainly c d e)

@@ -18,7 +18,7 @@ use Rattle.basis.specs.Refusals.{given}
 use Rattle.basis.specs.Sums.{sumOf, checksumOf}
 use Rattle.packet.specs.Laws.Packet.{packet-data, build-table, read-packet, Accepted, accepted}
 use Rattle.packet.specs.Laws.Table.{table-passes, table-holds, kind-counts}
-use Rattle.packet.specs.Laws.Turn.{restored-turned, turned-restored}
+use Rattle.packet.specs.Laws.Turn.{restored-turned, turned-restored, undone}
 use Rattle.packet.specs.Packet.{addressBytes, carriedOf, plain, summed, packet, buildOf, count, command, kind, joined, address, Parts, parts, said, dataOf, readOf}
 use Rattle.packet.specs.Table.{inShape}
 use Rattle.packet.specs.Turn.{turnedOf, restoredOf}
@@ -37,11 +37,6 @@ carried-plain c b h = go (eqb c 0x56)
     go : (t : Bool) → pick t (turnedOf (pick t (restoredOf b) b)) (pick t (restoredOf b) b) ≡ b
     go true = turned-restored b h
     go false = refl
-
--- and so do lists of bytes
-undone : (f g : ℕ → ℕ) → ((b : ℕ) → b < 256 → f (g b) ≡ b) → (s : List ℕ) → Bytes s → map f (map g s) ≡ s
-undone f g e [] h = refl
-undone f g e (b ∷ s) h = rw (e b (h 0), undone f g e s (λ k. h (suc k)))
 
 -- what the builder accepts, the reader reads back to the same command, address and data
 pub read-built : (room c a : ℕ) (d s : List ℕ) → Bytes d → a < 2 ^ 32 → buildOf room c a d ≡ given s → (readOf s ≡ given (said c a d)) × (dataOf (said c a d) s ≡ d)
