@@ -1,0 +1,1 @@
+// The packet of a phase, built into the caller's buffer.
