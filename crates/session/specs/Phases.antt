@@ -73,6 +73,15 @@ afterOf m (Phase.Verify a) = pick (ltb (nextPiece m (a .0)) flashSize) (verifyin
 afterOf m Phase.Run = Phase.Ended Outcome.Valid
 afterOf m (Phase.Ended o) = Phase.Ended o
 
+-- the cursor stands where a run of pages or a piece starts
+abbrev pub atStart : List ℕ → Phase → Bool
+atStart m Phase.Greeting = true
+atStart m (Phase.Erase p) = runStarts m (p .0)
+atStart m (Phase.Write a) = pieceStarts m (a .0)
+atStart m (Phase.Verify a) = pieceStarts m (a .0)
+atStart m Phase.Run = true
+atStart m (Phase.Ended o) = true
+
 -- the place is a start, and the k-th from base on
 abbrev pub ranked : (ℕ → Bool) → ℕ → ℕ → ℕ → Bool
 ranked starts base a k = both (starts a) (eqb (base + count starts a) k)

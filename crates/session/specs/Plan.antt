@@ -2,9 +2,10 @@
 use Prim.Native.Nat.{ℕ, zero, suc, _+_, _*_}
 use mathlib.Core.Bool.{Bool}
 use mathlib.Core.List.{List, [], _∷_, _++_, map}
+use lib.Dec.{eqb}
 use lib.ListN.{take, drop}
 use Rattle.basis.specs.Board.{pages, flashSize}
-use Rattle.basis.specs.Choice.{pick}
+use Rattle.basis.specs.Choice.{pick, either}
 use Rattle.basis.specs.Units.{startOf}
 use Rattle.packet.specs.Packet.{packet}
 use Rattle.runs.specs.Pieces.{pieceStarts, pieceLen, runStarts, runLen, runCount, pieceCount}
@@ -18,6 +19,10 @@ pieceBytes image m a = take (pieceLen m a) (drop a image)
 abbrev pub runAddress : RunKind → ℕ
 runAddress RunKind.Reset = 1
 runAddress RunKind.Jump = 0
+
+-- W and V carry a piece
+abbrev pub carriesPiece : ℕ → Bool
+carriesPiece c = either (eqb c 0x57) (eqb c 0x56)
 
 -- E for the run of pages at q, W and V for the piece at a, and R
 abbrev pub erasePacket : List ℕ → ℕ → List ℕ
