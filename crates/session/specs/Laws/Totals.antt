@@ -4,14 +4,18 @@ use mathlib.Core.Bool.{Bool, true, false}
 use mathlib.Core.List.{List}
 use mathlib.Core.Path.{_≡_, sym, _∙_}
 use native.Mathlib.Omega.{arith}
-use Rattle.basis.specs.Board.{flashSize}
+use lib.ListN.{length}
+use Rattle.basis.specs.Board.{pages, flashSize, mapSize}
 use Rattle.basis.specs.Laws.Choice.{decide, true-false}
-use Rattle.runs.specs.Laws.Pieces.{starts-inside, starts-off, off-more}
-use Rattle.runs.specs.Laws.Runs.{count-zero, count-yes, count-no, count-le}
+use Rattle.runs.specs.Laws.Files.{bytes-past, pages-past}
+use Rattle.runs.specs.Laws.Pieces.{starts-inside, starts-off, off-more, first-starts}
+use Rattle.runs.specs.Laws.Runs.{count-zero, count-yes, count-no, count-le, rank-below}
 use Rattle.runs.specs.Map.{named}
-use Rattle.runs.specs.Pieces.{pieceMost, pieceStarts, pieceCount, namedCount}
+use Rattle.runs.specs.Pages.{touched}
+use Rattle.runs.specs.Pieces.{pieceMost, pieceStarts, runStarts, pieceCount, namedCount}
 use Rattle.runs.specs.Runs.{count, starts}
-use Rattle.session.specs.Laws.Starts.{runs-most}
+use Rattle.session.specs.Laws.Starts.{runs-most, first-piece-below, first-run-below}
+use Rattle.session.specs.Phases.{firstRun, firstPiece}
 use Rattle.session.specs.Plan.{total}
 
 -- of numbers that never pass side by side at most every second does
@@ -37,3 +41,12 @@ total-fits m = omega (arith, pieces-half m, runs-most m)
 
 pub named-fits : (m : List ℕ) → namedCount m ≤ flashSize
 named-fits m = count-le (named m) flashSize
+
+-- a file with a named byte has a run and a piece, so four packets at least
+pub total-least : (m : List ℕ) → length m ≡ mapSize → 0 < namedCount m → 4 ≤ total m
+total-least m long some =
+    let a = first-piece-below m long some in
+    let q = first-run-below m long some in
+    let p = rank-below (pieceStarts m) flashSize (firstPiece m) a (first-starts (named m) pieceMost flashSize (omega arith) (bytes-past m long) a) in
+    let r = rank-below (runStarts m) pages (firstRun m) q (first-starts (touched m) pages pages (omega arith) (pages-past m long) q) in
+    omega arith
