@@ -1,0 +1,85 @@
+-- `write` meets its contract: each test is a row of the table, in its order, and what passes is written.
+use mathlib.Core.Path.{refl, sym, _∙_}
+use borrow.Author.Needs.{needs}
+use borrow.Author.Tests.{not-true, not-false}
+use Rattle.basis.specs.Laws.Refusals.{leaves, writes}
+use Rattle.service_log.specs.Laws.Log.{write-unfinished, write-wide, write-false, write-small, write-given}
+use Rattle.service_log.proofs.write.write.Statement.{statement}
+use Rattle.service_log.proofs.write.write.Tie as tie
+
+ended-requires : tie.Need-ended-requires
+ended-requires c κs = search needs
+
+returns : tie.Need-returns
+returns c = leaves _ (write-unfinished _ _ (sym (c .before .ended .ensures) ∙ not-true _ (c .if1 .taken)))
+
+outcome-in-requires : tie.Need-outcome-in-requires
+outcome-in-requires c κs = search needs
+
+fit-two-requires : tie.Need-fit-two-requires
+fit-two-requires c κs = search needs
+
+returns-2 : tie.Need-returns-2
+returns-2 c = leaves _ (write-wide _ _ (sym (c .before .before .before .before .ended .ensures) ∙ not-false _ (c .before .before .before .if1 .left)) (sym (c .before .fit-two .ensures) ∙ not-true _ (c .if2 .taken)))
+
+is-false-requires : tie.Need-is-false-requires
+is-false-requires c κs = search needs
+
+returns-3 : tie.Need-returns-3
+returns-3 c = leaves _ (write-false _ _ (sym (c .before .before .before .before .before .before .ended .ensures) ∙ not-false _ (c .before .before .before .before .before .if1 .left)) (sym (c .before .before .before .fit-two .ensures) ∙ not-false _ (c .before .before .if2 .left)) _ (c .before .before .before .before .outcome-in .ensures) (sym (c .before .is-false .ensures) ∙ c .if3 .taken))
+
+returns-4 : tie.Need-returns-4
+returns-4 c = leaves _ (write-small _ _ (sym (c .before .before .before .before .before .before .before .ended .ensures) ∙ not-false _ (c .before .before .before .before .before .before .if1 .left)) (sym (c .before .before .before .before .fit-two .ensures) ∙ not-false _ (c .before .before .before .if2 .left)) _ (c .before .before .before .before .before .outcome-in .ensures) (sym (c .before .before .is-false .ensures) ∙ c .before .if3 .left) (c .if4 .taken))
+
+cast-t15 : tie.Need-cast-t15
+cast-t15 c = search needs
+
+cast-t17 : tie.Need-cast-t17
+cast-t17 c = search needs
+
+cast-t20 : tie.Need-cast-t20
+cast-t20 c = search needs
+
+cast-t22 : tie.Need-cast-t22
+cast-t22 c = search needs
+
+cast-t25 : tie.Need-cast-t25
+cast-t25 c = search needs
+
+cast-t27 : tie.Need-cast-t27
+cast-t27 c = search needs
+
+slice-aggregate-write : tie.Need-slice-aggregate-write
+slice-aggregate-write c = search needs
+
+write-requires : tie.Need-write-requires
+write-requires c κs = search needs
+
+same-length : tie.Need-same-length
+same-length c = search needs
+
+returns-5 : tie.Need-returns-5
+returns-5 c = writes _ _ (write-given _ _ (sym (c .before .before .before .before .before .before .before .before .before .before .before .before .ended .ensures) ∙ not-false _ (c .before .before .before .before .before .before .before .before .before .before .before .if1 .left)) (sym (c .before .before .before .before .before .before .before .before .before .fit-two .ensures) ∙ not-false _ (c .before .before .before .before .before .before .before .before .if2 .left)) _ (c .before .before .before .before .before .before .before .before .before .before .outcome-in .ensures) (sym (c .before .before .before .before .before .before .before .is-false .ensures) ∙ c .before .before .before .before .before .before .if3 .left) (c .before .before .before .before .before .if4 .left)) refl (c .before .before .write .ensures)
+
+pub write-spec : {M : Type 1} → statement M
+write-spec =
+    tie.close
+    (tie.spec
+    ended-requires
+    returns
+    outcome-in-requires
+    fit-two-requires
+    returns-2
+    is-false-requires
+    returns-3
+    returns-4
+    cast-t15
+    cast-t17
+    cast-t20
+    cast-t22
+    cast-t25
+    cast-t27
+    slice-aggregate-write
+    write-requires
+    same-length
+    returns-5)

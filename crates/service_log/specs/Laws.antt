@@ -1,0 +1,4 @@
+pub mod FalseRecords
+pub mod Log
+pub mod Sessions
+pub mod Determined

@@ -1,0 +1,62 @@
+// The reader: what a record says, or why it is none.
+ghost use mathlib.Core.Path.{_≡_};
+ghost use Prim.Native.Nat.{_+_, _*_};
+ghost use Rattle.service_log.specs.Log.{readOf};
+ghost use Rattle.service_log.specs.Paper.{paperReading};
+use crate::truth::is_false;
+
+// What a session came to: `acknowledged` of `total` packets, over a file of so many bytes.
+pub struct Record {
+    pub version: u8,
+    pub outcome: u8,
+    pub acknowledged: u32,
+    pub total: u32,
+    pub bytes: u32,
+}
+
+pub enum Reading {
+    Record(Record),
+    Short,
+    Length,
+    Version,
+    False,
+}
+
+pub fn read(input: &[u8]) -> Reading
+    ensures { λ r. ⌜ paperReading r ≡ readOf (now (input .entry)) ⌝ }
+{
+    if input.len() < 10 {
+        return Reading::Short;
+    }
+    if joined(input[0], input[1]) != 8 {
+        return Reading::Length;
+    }
+    if 10 < input.len() {
+        return Reading::Length;
+    }
+    let version = input[2];
+    if version != 1 {
+        return Reading::Version;
+    }
+    let outcome = input[3];
+    let acknowledged = joined(input[4], input[5]);
+    let total = joined(input[6], input[7]);
+    let bytes = joined(input[8], input[9]);
+    if is_false(outcome, acknowledged, total, bytes) {
+        return Reading::False;
+    }
+    Reading::Record(Record {
+        version,
+        outcome,
+        acknowledged,
+        total,
+        bytes,
+    })
+}
+
+// Two bytes as one number, the more significant first.
+fn joined(high: u8, low: u8) -> u32
+    ensures { λ r. ⌜ r ≡ high * 256 + low ⌝ }
+{
+    (high as u32) * 256 + (low as u32)
+}

@@ -1,0 +1,46 @@
+// What no record may say: the writer refuses it of a session, the reader of its input.
+ghost use mathlib.Core.Path.{_≡_};
+ghost use Rattle.service_log.specs.Log.{known, isFalseOf};
+use basis::board::FLASH;
+
+pub fn is_false(outcome: u8, acknowledged: u32, total: u32, bytes: u32) -> bool
+    ensures { λ r. ⌜ r ≡ isFalseOf outcome acknowledged total bytes ⌝ }
+{
+    if !is_known(outcome) {
+        return true;
+    }
+    if total < 4 {
+        return true;
+    }
+    if bytes == 0 {
+        return true;
+    }
+    if FLASH < bytes {
+        return true;
+    }
+    if total < acknowledged {
+        return true;
+    }
+    if outcome == 0 {
+        return acknowledged != total;
+    }
+    if acknowledged == total {
+        return true;
+    }
+    if outcome != 42 {
+        return false;
+    }
+    0 < acknowledged
+}
+
+fn is_known(outcome: u8) -> bool
+    ensures { λ r. ⌜ r ≡ known outcome ⌝ }
+{
+    if outcome == 0 {
+        return true;
+    }
+    if outcome < 40 {
+        return false;
+    }
+    outcome <= 43
+}

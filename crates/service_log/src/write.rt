@@ -1,0 +1,87 @@
+// The writer: a session that has ended, as ten bytes in the caller's buffer.
+ghost use mathlib.Core.Path.{_≡_};
+ghost use lib.ListN.{length};
+ghost use Rattle.basis.specs.Lists.{overlay};
+ghost use Rattle.basis.specs.Refusals.{counted, written};
+ghost use Rattle.service_log.specs.Log.{outcomeIn, fitTwo, writeOf};
+ghost use Rattle.service_log.specs.Paper.{paperWritten};
+use crate::truth::is_false;
+use basis::buffers::write as put;
+use session::phase::Phase;
+use session::phase::ended;
+use session::phase::number;
+use session::session::Session;
+
+pub enum Written {
+    Record,
+    // The session is unfinished, or its counts make no record.
+    Unfit,
+    // The buffer is under ten bytes.
+    NoRoom,
+}
+
+pub fn write(session: Session, buffer: &mut [u8]) -> Written
+    ensures { λ r. ⌜
+        (let b = writeOf (length (now (buffer .entry))) session in
+        (paperWritten r ≡ counted b) × (now (buffer .exit) ≡ overlay (written b) (now (buffer .entry))))
+        ⌝ }
+{
+    let phase = session.phase;
+    if !ended(phase) {
+        return Written::Unfit;
+    }
+    let outcome = outcome_in(phase);
+    let acknowledged = session.acknowledged;
+    let total = session.total;
+    let bytes = session.named;
+    if !fit_two(acknowledged, total, bytes) {
+        return Written::Unfit;
+    }
+    if is_false(outcome, acknowledged, total, bytes) {
+        return Written::Unfit;
+    }
+    if buffer.len() < 10 {
+        return Written::NoRoom;
+    }
+    let record = [
+        0x00,
+        0x08,
+        0x01,
+        outcome,
+        (acknowledged / 256 % 256) as u8,
+        (acknowledged % 256) as u8,
+        (total / 256 % 256) as u8,
+        (total % 256) as u8,
+        (bytes / 256 % 256) as u8,
+        (bytes % 256) as u8,
+    ];
+    put(buffer, &record);
+    Written::Record
+}
+
+// The outcome's number; 0 where there is none yet.
+fn outcome_in(phase: Phase) -> u8
+    ensures { λ r. ⌜ r ≡ outcomeIn phase ⌝ }
+{
+    match phase {
+        Phase::Greeting => 0,
+        Phase::Erase(_) => 0,
+        Phase::Write(_) => 0,
+        Phase::Verify(_) => 0,
+        Phase::Run => 0,
+        Phase::Ended(outcome) => number(outcome),
+    }
+}
+
+// Whether the counts fit two bytes each.
+fn fit_two(acknowledged: u32, total: u32, bytes: u32) -> bool
+    ensures { λ r. ⌜ r ≡ fitTwo acknowledged total bytes ⌝ }
+{
+    if 65536 <= acknowledged {
+        return false;
+    }
+    if 65536 <= total {
+        return false;
+    }
+    bytes < 65536
+}

@@ -1,0 +1,108 @@
+-- Each test of `fits` decides what the definition decides.
+use Prim.Native.Nat.{ℕ, _+_, _*_, _/_, _≤_, _<_}
+use mathlib.Core.Bool.{Bool, true, false}
+use mathlib.Core.List.{List}
+use mathlib.Core.Path.{_≡_, refl, sym, ap, _∙_}
+use native.Mathlib.Omega.{arith}
+use native.Mathlib.Nat.{zero-add}
+use borrow.Author.Tests.{eq-eqb, ne-eqb, lt-ltb, le-ltb, lt-leb, le-leb, leb-true, leb-false}
+use lib.Dec.{eqb, leb, ltb}
+use lib.ListN.{length}
+use Rattle.basis.specs.Board.{pages, flashSize, mapSize}
+use Rattle.basis.specs.Choice.{pick, both}
+use Rattle.basis.specs.Laws.Choice.{decide, true-false, both-false}
+use Rattle.basis.specs.Units.{pageOf, startOf}
+use Rattle.runs.specs.Laws.Files.{bytes-past, pages-past}
+use Rattle.runs.specs.Laws.Pieces.{starts-fail}
+use Rattle.runs.specs.Map.{named}
+use Rattle.runs.specs.Pages.{touched}
+use Rattle.runs.specs.Pieces.{pieceMost, pieceStarts, runStarts, runCount, pieceCount, namedCount}
+use Rattle.runs.specs.Runs.{count}
+use Rattle.runs.specs.Survey.{surveyOf}
+use Rattle.runs.specs.declared.survey.Surveyed.{Surveyed}
+use Rattle.session.specs.Phases.{placeOf, ranked, standsOf}
+use Rattle.session.specs.Plan.{total}
+use Rattle.session.specs.Session.{fitsOf}
+use Rattle.session.specs.declared.phase.Phase.{Phase}
+use Rattle.session.specs.declared.session.Session.{Session}
+use Rattle.session.proofs.Surveys.{Told, told}
+
+-- a cursor past the board stands nowhere
+module _ (m : List ℕ) (long : length m ≡ mapSize) where
+  past-stands : (ph : Phase) (k : ℕ) → flashSize ≤ placeOf ph → standsOf m ph k ≡ false
+  unfolding placeOf standsOf
+  past-stands Phase.Greeting k l = absurd (omega arith)
+  past-stands (Phase.Erase p) k l =
+      decide (leb pages (p .0))
+      (λ d. both-false _ _ (starts-fail (touched m) pages (p .0) (pages-past m long (p .0) (leb-true _ _ d))))
+      (λ d. absurd (omega (arith, leb-false pages (p .0) d, rw d at l)))
+  past-stands (Phase.Write a) k l = both-false _ _ (starts-fail (named m) pieceMost (a .0) (bytes-past m long (a .0) l))
+  past-stands (Phase.Verify a) k l = both-false _ _ (starts-fail (named m) pieceMost (a .0) (bytes-past m long (a .0) l))
+  past-stands Phase.Run k l = absurd (omega arith)
+  past-stands (Phase.Ended o) k l = refl
+
+  pub fits-past : (s : Session) → flashSize ≤ placeOf (s .phase) → false ≡ fitsOf m s
+  unfolding fitsOf
+  fits-past s l = sym (last (ltb 0 (namedCount m)) (eqb (s .named) (namedCount m)) (eqb (s .total) (total m)) (past-stands (s .phase) (s .acknowledged) l))
+    where
+      last : (a b c : Bool) {d : Bool} → d ≡ false → both a (both b (both c d)) ≡ false
+      last true true true e = e
+      last true true false e = refl
+      last true false c e = refl
+      last false b c e = refl
+
+-- what the survey says of a phase
+abbrev pub standsBy : Surveyed → Phase → ℕ → Bool
+standsBy f Phase.Greeting k = eqb k 0
+standsBy f (Phase.Erase p) k = both (f .run) (eqb (f .below .runs) k)
+standsBy f (Phase.Write a) k = both (f .piece) (eqb (f .all .runs + f .below .pieces) k)
+standsBy f (Phase.Verify a) k = both (f .piece) (eqb (f .all .runs + f .all .pieces + f .below .pieces) k)
+standsBy f Phase.Run k = eqb (f .all .runs + 2 * f .all .pieces) k
+standsBy f (Phase.Ended o) k = false
+
+module _ (m : List ℕ) {f : Surveyed} (k : ℕ) where
+  -- is what the file says of it
+  told-stands : (ph : Phase) → f ≡ surveyOf m (placeOf ph) → placeOf ph < flashSize → standsBy f ph k ≡ standsOf m ph k
+  unfolding placeOf standsOf
+  told-stands Phase.Greeting e l = refl
+  told-stands (Phase.Erase p) e l =
+      decide (leb pages (p .0))
+      (λ d. absurd (omega (arith, rw d at l)))
+      (λ d. let t = told m (startOf (p .0)) (rw d at e) in
+      let q : pageOf (startOf (p .0)) ≡ p .0 = omega arith in
+      rw (t .run, t .runs-below, q, zero-add))
+  told-stands (Phase.Write a) e l = let t = told m (a .0) e in rw (t .piece, t .runs, t .pieces-below)
+  told-stands (Phase.Verify a) e l = let t = told m (a .0) e in rw (t .piece, t .runs, t .pieces, t .pieces-below)
+  told-stands Phase.Run e l = let t = told m 0 e in rw (t .runs, t .pieces)
+  told-stands (Phase.Ended o) e l = refl
+
+-- the tests of the counts, in their order
+module _ (m : List ℕ) (s : Session) {f : Surveyed} (e : f ≡ surveyOf m (placeOf (s .phase))) where
+  t : Told m (placeOf (s .phase)) f
+  t = told m (placeOf (s .phase)) e
+
+  pub fits-empty : f .all .named ≡ 0 → false ≡ fitsOf m s
+  unfolding fitsOf
+  fits-empty h = let l : namedCount m ≤ 0 = omega (arith, t .bytes) in rw (le-ltb _ _ l)
+
+  module _ (some : f .all .named ≡ 0 → ⊥) where
+    l : 0 < namedCount m
+    l = omega (arith, t .bytes)
+
+    pub fits-named : (s .named ≡ f .all .named → ⊥) → false ≡ fitsOf m s
+    unfolding fitsOf
+    fits-named h = rw (lt-ltb _ _ l, ne-eqb (s .named) (namedCount m) (λ q. h (q ∙ sym (t .bytes))))
+
+    module _ (same : s .named ≡ f .all .named) where
+      pub fits-total : (n : ℕ) → n ≡ f .all .runs + 2 * f .all .pieces + 1 → (s .total ≡ n → ⊥) → false ≡ fitsOf m s
+      unfolding fitsOf
+      fits-total n g h =
+          rw (lt-ltb _ _ l, eq-eqb (s .named) (namedCount m) (same ∙ t .bytes), ne-eqb (s .total) (total m) (λ q. h (omega (arith, t .runs, t .pieces))))
+
+      -- all counts are the file's, so the phase decides
+      pub fits-place : (n : ℕ) → n ≡ f .all .runs + 2 * f .all .pieces + 1 → s .total ≡ n → placeOf (s .phase) < flashSize
+          → (ph : Phase) → s .phase ≡ ph → standsBy f ph (s .acknowledged) ≡ fitsOf m s
+      unfolding fitsOf
+      fits-place n g h b ph q =
+          rw (lt-ltb _ _ l, eq-eqb (s .named) (namedCount m) (same ∙ t .bytes), eq-eqb (s .total) (total m) (omega (arith, t .runs, t .pieces)))
+          (ap (λ (x : Phase). standsBy f x (s .acknowledged)) (sym q) ∙ told-stands m (s .acknowledged) (s .phase) e b)

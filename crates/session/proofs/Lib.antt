@@ -1,0 +1,5 @@
+pub mod Building
+pub mod Surveys
+pub mod Fits
+pub mod Marks
+pub mod Handing

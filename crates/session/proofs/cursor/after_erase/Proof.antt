@@ -1,0 +1,23 @@
+-- `after_erase` meets its contract: the next run, or the first piece to write.
+use borrow.Author.Needs.{needs}
+use borrow.Author.Tests.{lt-ltb, le-ltb}
+use Rattle.session.specs.Phases.{afterOf}
+use Rattle.session.proofs.cursor.after_erase.Statement.{statement}
+use Rattle.session.proofs.cursor.after_erase.Tie as tie
+
+next-run-requires : tie.Need-next-run-requires
+next-run-requires c κs = search needs
+
+returns : tie.Need-returns
+unfolding afterOf
+returns c = simp (← c .before .before .next-run .ensures, lt-ltb _ _ (c .if1 .taken))
+
+first-piece-requires : tie.Need-first-piece-requires
+first-piece-requires c κs = search needs
+
+returns-2 : tie.Need-returns-2
+unfolding afterOf
+returns-2 c = simp (← c .before .before .before .next-run .ensures, ← c .first-piece .ensures, le-ltb _ _ (c .before .if1 .left))
+
+pub after-erase-spec : {M : Type 1} → statement M
+after-erase-spec = tie.close (tie.spec next-run-requires returns first-piece-requires returns-2)

@@ -1,0 +1,56 @@
+-- `classify` meets its contract: each test is one of the definition's, in its order.
+use mathlib.Core.Path.{sym, _∙_}
+use borrow.Author.Needs.{needs}
+use Rattle.session.specs.Events.{classifyOf}
+use Rattle.session.proofs.event.classify.Statement.{statement}
+use Rattle.session.proofs.event.classify.Tie as tie
+
+returns : tie.Need-returns
+unfolding classifyOf
+returns c = rw (c .if1 .taken)
+
+greets-requires : tie.Need-greets-requires
+greets-requires c κs = search needs
+
+returns-2 : tie.Need-returns-2
+unfolding classifyOf
+returns-2 c = rw (c .before .before .if1 .left, sym (c .before .greets .ensures) ∙ c .if2 .taken)
+
+slice-aggregate-same : tie.Need-slice-aggregate-same
+slice-aggregate-same c = search needs
+
+same-requires : tie.Need-same-requires
+same-requires c κs = search needs
+
+returns-3 : tie.Need-returns-3
+unfolding classifyOf
+returns-3 c = rw (c .before .before .before .before .before .if1 .left, sym (c .before .before .before .before .greets .ensures) ∙ c .before .before .before .if2 .left, sym (c .before .same .ensures) ∙ c .if3 .taken)
+
+slice-aggregate-same-2 : tie.Need-slice-aggregate-same-2
+slice-aggregate-same-2 c = search needs
+
+same-requires-2 : tie.Need-same-requires-2
+same-requires-2 c κs = search needs
+
+returns-4 : tie.Need-returns-4
+unfolding classifyOf
+returns-4 c = rw (c .before .before .before .before .before .before .before .before .if1 .left, sym (c .before .before .before .before .before .before .before .greets .ensures) ∙ c .before .before .before .before .before .before .if2 .left, sym (c .before .before .before .before .same .ensures) ∙ c .before .before .before .if3 .left, sym (c .before .same2 .ensures) ∙ c .if4 .taken)
+
+returns-5 : tie.Need-returns-5
+unfolding classifyOf
+returns-5 c = rw (c .before .before .before .before .before .before .before .before .if1 .left, sym (c .before .before .before .before .before .before .before .greets .ensures) ∙ c .before .before .before .before .before .before .if2 .left, sym (c .before .before .before .before .same .ensures) ∙ c .before .before .before .if3 .left, sym (c .before .same2 .ensures) ∙ c .if4 .left)
+
+pub classify-spec : {M : Type 1} → statement M
+classify-spec =
+    tie.close
+    (tie.spec
+    returns
+    greets-requires
+    returns-2
+    slice-aggregate-same
+    same-requires
+    returns-3
+    slice-aggregate-same-2
+    same-requires-2
+    returns-4
+    returns-5)

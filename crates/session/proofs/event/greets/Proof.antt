@@ -1,0 +1,67 @@
+-- `greets` meets its contract: each test is one of the definition's, in its order.
+use Prim.Native.Nat.{ℕ, _-_, _≤_}
+use mathlib.Core.List.{List}
+use mathlib.Core.Path.{sym, ap, _∙_}
+use native.Mathlib.Omega.{arith}
+use borrow.Author.Needs.{needs}
+use borrow.Author.Tests.{eq-eqb, ne-eqb, not-true, not-false}
+use lib.ListN.{length, drop, length-drop}
+use lib.Seq.{length-take-le, take-all}
+use Rattle.basis.specs.Laws.Choice.{both-second, both-false}
+use Rattle.session.specs.Events.{sameOf, greeting, greetsOf}
+use Rattle.session.proofs.event.greets.Statement.{statement}
+use Rattle.session.proofs.event.greets.Tie as tie
+
+returns : tie.Need-returns
+unfolding greetsOf
+returns c = sym (both-false _ _ (ne-eqb _ _ (c .if1 .taken)))
+
+slice-aggregate-same : tie.Need-slice-aggregate-same
+slice-aggregate-same c = sym (length-take-le 15 (c .before .before .before .args .answer .now) (omega arith))
+
+slice-aggregate-same-2 : tie.Need-slice-aggregate-same-2
+slice-aggregate-same-2 c = search needs
+
+same-requires : tie.Need-same-requires
+same-requires c κs = search needs
+
+returns-2 : tie.Need-returns-2
+unfolding greetsOf
+returns-2 c = sym (both-second _ _ (eq-eqb _ _ (c .before .before .before .before .if1 .left)) ∙ both-false _ _ (sym (c .before .same .ensures) ∙ not-true _ (c .if2 .taken)))
+
+sub-same : tie.Need-sub-same
+sub-same c = search needs
+
+part-same-start : tie.Need-part-same-start
+part-same-start c = search needs
+
+part-same-end : tie.Need-part-same-end
+part-same-end c = search needs
+
+slice-aggregate-same-3 : tie.Need-slice-aggregate-same-3
+slice-aggregate-same-3 c = search needs
+
+same-requires-2 : tie.Need-same-requires-2
+same-requires-2 c κs = search needs
+
+returns-3 : tie.Need-returns-3
+unfolding greetsOf
+returns-3 c = let s = c .before .before .before .before .before .before .before .before .before .args .answer .now in
+    let h : length (drop 22 s) ≤ length s - 22 = simp length-drop (omega arith) in
+    c .same2 .ensures ∙ ap (λ (p : List ℕ). sameOf p (drop 22 greeting)) (take-all (length s - 22) (drop 22 s) h) ∙ sym (both-second _ _ (eq-eqb _ _ (c .before .before .before .before .before .before .before .if1 .left)) ∙ both-second _ _ (sym (c .before .before .before .before .same .ensures) ∙ not-false _ (c .before .before .before .if2 .left)))
+
+pub greets-spec : {M : Type 1} → statement M
+greets-spec =
+    tie.close
+    (tie.spec
+    returns
+    slice-aggregate-same
+    slice-aggregate-same-2
+    same-requires
+    returns-2
+    sub-same
+    part-same-start
+    part-same-end
+    slice-aggregate-same-3
+    same-requires-2
+    returns-3)

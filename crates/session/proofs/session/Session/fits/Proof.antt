@@ -1,0 +1,136 @@
+-- `fits` meets its contract: each test is one of the definition's, and the survey tells the rank of the cursor.
+use mathlib.Core.Path.{_≡_, ap, _∙_}
+use native.Mathlib.Omega.{arith}
+use borrow.Author.Needs.{needs}
+use Rattle.runs.specs.Survey.{surveyOf}
+use Rattle.session.specs.Session.{fitsOf}
+use Rattle.session.specs.declared.phase.Phase.{Phase}
+use Rattle.session.proofs.Fits.{standsBy, fits-past, fits-empty, fits-named, fits-total, fits-place}
+use Rattle.session.proofs.Surveys.{Told, told}
+use Rattle.session.proofs.session.Session.fits.Statement.{statement}
+use Rattle.session.proofs.session.Session.fits.Tie as tie
+
+-- past the tests of the counts the phase decides, by what the survey says of it
+decided : (c : tie.Else4) (ph : Phase) → c .before .before .before .before .before .before .before .before .before .before .before .before .before .before .before .args .self .phase ≡ ph
+    → standsBy (c .before .before .before .before .before .before .before .before .before .before .survey .result) ph (c .before .before .before .before .before .before .before .before .before .before .before .before .before .before .before .args .self .acknowledged) ≡ fitsOf (c .before .before .before .before .before .before .before .before .before .before .before .before .before .before .before .args .map .now) (c .before .before .before .before .before .before .before .before .before .before .before .before .before .before .before .args .self)
+decided c ph q =
+    let s = c .before .before .before .before .before .before .before .before .before .before .before .before .before .before .before .args in
+    fits-place (s .map .now) (s .self) (c .before .before .before .before .before .before .before .before .before .before .survey .ensures ∙ ap (surveyOf (s .map .now)) (c .before .before .before .before .before .before .before .before .before .before .before .before .before .place .ensures))
+    (c .before .before .before .before .before .before .if2 .left) (c .before .before .before .if3 .left) _ (c .before .before .total .ensures) (c .if4 .left) (omega (arith, c .before .before .before .before .before .before .before .before .before .before .before .before .before .place .ensures, c .before .before .before .before .before .before .before .before .before .before .before .if1 .left)) ph q
+
+-- what is summed there fits
+few : (c : tie.Else4) → Told (c .before .before .before .before .before .before .before .before .before .before .before .before .before .before .before .args .map .now) (c .before .before .before .before .before .before .before .before .before .before .before .before .before .place .result .0) (c .before .before .before .before .before .before .before .before .before .before .survey .result)
+few c = told (c .before .before .before .before .before .before .before .before .before .before .before .before .before .before .before .args .map .now) (c .before .before .before .before .before .before .before .before .before .before .before .before .before .place .result .0) (c .before .before .before .before .before .before .before .before .before .before .survey .ensures)
+
+place-requires : tie.Need-place-requires
+place-requires c κs = search needs
+
+returns : tie.Need-returns
+returns c = let s = c .before .before .before .before in fits-past (s .args .map .now) (s .pre) (s .args .self) (omega (arith, c .before .before .place .ensures))
+
+survey-requires : tie.Need-survey-requires
+survey-requires c κs = search needs
+
+returns-2 : tie.Need-returns-2
+returns-2 c = let s = c .before .before .before .before .before .before .before .before .before .args in fits-empty (s .map .now) (s .self) (c .before .before .before .before .survey .ensures ∙ ap (surveyOf (s .map .now)) (c .before .before .before .before .before .before .before .place .ensures)) (c .if2 .taken)
+
+returns-3 : tie.Need-returns-3
+returns-3 c = let s = c .before .before .before .before .before .before .before .before .before .before .before .before .args in fits-named (s .map .now) (s .self) (c .before .before .before .before .before .before .before .survey .ensures ∙ ap (surveyOf (s .map .now)) (c .before .before .before .before .before .before .before .before .before .before .place .ensures)) (c .before .before .before .if2 .left) (c .if3 .taken)
+
+total-requires : tie.Need-total-requires
+total-requires c κs = let s = c .before .before .before .before .before .before .before .before .before .before .before .before .args in let t = told (s .map .now) _ (c .before .before .before .before .before .before .before .survey .ensures) in (t .runs-few, t .pieces-few)
+
+returns-4 : tie.Need-returns-4
+returns-4 c = let s = c .before .before .before .before .before .before .before .before .before .before .before .before .before .before .before .args in fits-total (s .map .now) (s .self) (c .before .before .before .before .before .before .before .before .before .before .survey .ensures ∙ ap (surveyOf (s .map .now)) (c .before .before .before .before .before .before .before .before .before .before .before .before .before .place .ensures)) (c .before .before .before .before .before .before .if2 .left) (c .before .before .before .if3 .left) _ (c .before .before .total .ensures) (c .if4 .taken)
+
+enum-told : tie.Need-enum-told
+enum-told c = search needs
+
+enum-told-2 : tie.Need-enum-told-2
+enum-told-2 c = search needs
+
+ranked-requires : tie.Need-ranked-requires
+ranked-requires c κs = search needs
+
+enum-told-3 : tie.Need-enum-told-3
+enum-told-3 c = search needs
+
+add-ranked : tie.Need-add-ranked
+add-ranked c = omega (arith, few (c .before .before .before .before), c .before .before .before .before .before .before .before .before .before .before .before .before .before .before .before .if1 .left)
+
+ranked-requires-2 : tie.Need-ranked-requires-2
+ranked-requires-2 c κs = search needs
+
+enum-told-4 : tie.Need-enum-told-4
+enum-told-4 c = search needs
+
+add-ranked-2 : tie.Need-add-ranked-2
+add-ranked-2 c = search needs
+
+add-ranked-3 : tie.Need-add-ranked-3
+add-ranked-3 c = omega (arith, few (c .before .before .before .before), c .before .before .before .before .before .before .before .before .before .before .before .before .before .before .before .if1 .left)
+
+ranked-requires-3 : tie.Need-ranked-requires-3
+ranked-requires-3 c κs = search needs
+
+enum-told-5 : tie.Need-enum-told-5
+enum-told-5 c = search needs
+
+mul-result : tie.Need-mul-result
+mul-result c = search needs
+
+add-result : tie.Need-add-result
+add-result c = search needs
+
+enum-told-6 : tie.Need-enum-told-6
+enum-told-6 c = search needs
+
+returns-5 : tie.Need-returns-5
+returns-5 c = decided (c .before .before) _ (c .enum-told .given .1)
+
+returns-6 : tie.Need-returns-6
+returns-6 c = c .ranked .ensures ∙ decided (c .before .before .before) _ (c .before .enum-told2 .given .1)
+
+returns-7 : tie.Need-returns-7
+returns-7 c = c .ranked2 .ensures ∙ decided (c .before .before .before .before .before) _ (c .before .before .before .enum-told3 .given .1)
+
+returns-8 : tie.Need-returns-8
+returns-8 c = c .ranked3 .ensures ∙ decided (c .before .before .before .before .before) _ (c .before .before .before .enum-told4 .given .1)
+
+returns-9 : tie.Need-returns-9
+returns-9 c = decided (c .before .before .before .before) _ (c .before .before .enum-told5 .given .1)
+
+returns-10 : tie.Need-returns-10
+returns-10 c = decided (c .before .before) _ (c .enum-told6 .given .1)
+
+pub fits-spec : {M : Type 1} → statement M
+fits-spec =
+    tie.close
+    (tie.spec
+    place-requires
+    returns
+    survey-requires
+    returns-2
+    returns-3
+    total-requires
+    returns-4
+    enum-told
+    enum-told-2
+    ranked-requires
+    enum-told-3
+    add-ranked
+    ranked-requires-2
+    enum-told-4
+    add-ranked-2
+    add-ranked-3
+    ranked-requires-3
+    enum-told-5
+    mul-result
+    add-result
+    enum-told-6
+    returns-5
+    returns-6
+    returns-7
+    returns-8
+    returns-9
+    returns-10)

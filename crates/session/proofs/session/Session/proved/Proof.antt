@@ -1,0 +1,58 @@
+-- `proved` meets its contract: the survey ranks the byte's piece among those verified.
+use mathlib.Core.Path.{sym, _∙_}
+use native.Mathlib.Omega.{arith}
+use borrow.Author.Needs.{needs}
+use borrow.Author.Tests.{not-true, not-false}
+use Rattle.session.proofs.Marks.{mark-size, mark-past, mark-unnamed, mark-open, mark-proved, few}
+use Rattle.session.proofs.Surveys.{told}
+use Rattle.session.proofs.session.Session.proved.Statement.{statement}
+use Rattle.session.proofs.session.Session.proved.Tie as tie
+
+returns : tie.Need-returns
+returns c = mark-size _ _ _ (c .if1 .taken)
+
+returns-2 : tie.Need-returns-2
+returns-2 c = mark-past _ _ _ (c .before .before .if1 .left) (c .if2 .taken)
+
+named-requires : tie.Need-named-requires
+named-requires c κs = search needs
+
+returns-3 : tie.Need-returns-3
+returns-3 c = mark-unnamed _ _ _ (c .before .before .before .before .if1 .left) (sym (c .before .named .ensures) ∙ not-true _ (c .if3 .taken))
+
+survey-requires : tie.Need-survey-requires
+survey-requires c κs = search needs
+
+one-requires : tie.Need-one-requires
+one-requires c κs = search needs
+
+add-pieces : tie.Need-add-pieces
+add-pieces c = let s = c .before .before .before .before .before .before .before .before .before .before .before .args in omega (arith, few (s .map .now) (s .address .0) (c .before .before .before .before .survey .ensures) (c .before .one .ensures) (c .before .before .before .before .before .before .before .if2 .left))
+
+add-if4 : tie.Need-add-if4
+add-if4 c = let s = c .before .before .before .before .before .before .before .before .before .before .before .before .args in omega (arith, told (s .map .now) (s .address .0) (c .before .before .before .before .before .survey .ensures))
+
+add-if4-2 : tie.Need-add-if4-2
+add-if4-2 c = let s = c .before .before .before .before .before .before .before .before .before .before .before .before .args in omega (arith, told (s .map .now) (s .address .0) (c .before .before .before .before .before .survey .ensures), few (s .map .now) (s .address .0) (c .before .before .before .before .before .survey .ensures) (c .before .before .one .ensures) (c .before .before .before .before .before .before .before .before .if2 .left))
+
+returns-4 : tie.Need-returns-4
+returns-4 c = mark-open _ _ _ (c .before .before .before .before .before .before .before .before .before .before .before .before .if1 .left) (c .before .before .before .before .before .before .before .survey .ensures) (c .before .before .before .before .one .ensures) (sym (c .before .before .before .before .before .before .before .before .before .named .ensures) ∙ not-false _ (c .before .before .before .before .before .before .before .before .if3 .left)) (c .if4 .taken)
+
+returns-5 : tie.Need-returns-5
+returns-5 c = mark-proved _ _ _ (c .before .before .before .before .before .before .before .before .before .before .before .before .if1 .left) (c .before .before .before .before .before .before .before .survey .ensures) (c .before .before .before .before .one .ensures) (sym (c .before .before .before .before .before .before .before .before .before .named .ensures) ∙ not-false _ (c .before .before .before .before .before .before .before .before .if3 .left)) (c .if4 .left)
+
+pub proved-spec : {M : Type 1} → statement M
+proved-spec =
+    tie.close
+    (tie.spec
+    returns
+    returns-2
+    named-requires
+    returns-3
+    survey-requires
+    one-requires
+    add-pieces
+    add-if4
+    add-if4-2
+    returns-4
+    returns-5)

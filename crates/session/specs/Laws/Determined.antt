@@ -1,0 +1,72 @@
+-- Two outcomes that a contract permits are equal: the paper's numbers and values tell all cases apart.
+use Prim.Native.Nat.{ℕ}
+use mathlib.Core.Bool.{Bool, true, false}
+use mathlib.Core.List.{List}
+use mathlib.Core.Path.{_≡_, refl, ap, sym, _∙_}
+use native.Mathlib.Omega.{arith}
+use lib.Dec.{eqb}
+use Rattle.basis.specs.Choice.{pick}
+use Rattle.basis.specs.Laws.Choice.{true-false}
+use Rattle.basis.specs.Laws.Refusals.{apart, given-one, refused-one, determined}
+use Rattle.basis.specs.Lists.{overlay}
+use Rattle.basis.specs.Refusals.{Answer}
+use Rattle.session.specs.Paper.{paperOutcome, paperRefusal, paperStepped, paperMark}
+use Rattle.session.specs.Session.{Sent, measured, sentBytes}
+use Rattle.session.specs.declared.phase.Outcome.{Outcome}
+use Rattle.session.specs.declared.session.Mark.{Mark}
+use Rattle.session.specs.declared.session.Refusal.{Refusal}
+use Rattle.session.specs.declared.session.Stepped.{Stepped}
+
+-- the outcome and the refusal of a number
+outcomeBy : ℕ → Outcome
+outcomeBy n = pick (eqb n 0) Outcome.Valid (pick (eqb n 40) Outcome.Silence (pick (eqb n 41) Outcome.Bel (pick (eqb n 42) Outcome.NoGreeting Outcome.Other)))
+
+outcome-back : (o : Outcome) → outcomeBy (paperOutcome o) ≡ o
+unfolding outcomeBy
+outcome-back Outcome.Valid = refl
+outcome-back Outcome.Silence = refl
+outcome-back Outcome.Bel = refl
+outcome-back Outcome.NoGreeting = refl
+outcome-back Outcome.Other = refl
+
+pub outcome-one : (o p : Outcome) → paperOutcome o ≡ paperOutcome p → o ≡ p
+outcome-one o p e = sym (outcome-back o) ∙ ap outcomeBy e ∙ outcome-back p
+
+refusalBy : ℕ → Refusal
+refusalBy n = pick (eqb n 20) Refusal.Size (pick (eqb n 32) Refusal.Empty (pick (eqb n 44) Refusal.Ended Refusal.Foreign))
+
+refusal-back : (x : Refusal) → refusalBy (paperRefusal x) ≡ x
+unfolding refusalBy
+refusal-back Refusal.Size = refl
+refusal-back Refusal.Empty = refl
+refusal-back Refusal.Ended = refl
+refusal-back Refusal.Foreign = refl
+
+refusal-one : (x y : Refusal) → paperRefusal x ≡ paperRefusal y → x ≡ y
+refusal-one x y e = sym (refusal-back x) ∙ ap refusalBy e ∙ refusal-back y
+
+-- starting and stepping
+stepped-one : (r s : Stepped) → paperStepped r ≡ paperStepped s → r ≡ s
+stepped-one (Stepped.Next x) (Stepped.Next y) e = ap Stepped.Next (given-one e)
+stepped-one (Stepped.Next x) (Stepped.Refused y) e = absurd (apart (sym e))
+stepped-one (Stepped.Refused x) (Stepped.Next y) e = absurd (apart e)
+stepped-one (Stepped.Refused x) (Stepped.Refused y) e = ap Stepped.Refused (refusal-one x y (refused-one e))
+
+pub step-determined : (a : Answer Sent) (r s : Stepped) (x y old : List ℕ) → (paperStepped r ≡ measured a) × (x ≡ overlay (sentBytes a) old)
+    → (paperStepped s ≡ measured a) × (y ≡ overlay (sentBytes a) old) → (r ≡ s) × (x ≡ y)
+step-determined a r s x y old p q = (determined paperStepped stepped-one r s (p .0) (q .0), p .1 ∙ sym (q .1))
+
+-- asking for a mark
+mark-one : (r s : Mark) → paperMark r ≡ paperMark s → r ≡ s
+mark-one Mark.Proved Mark.Proved e = refl
+mark-one Mark.Proved Mark.Open e = absurd (true-false (given-one e))
+mark-one Mark.Proved Mark.Size e = absurd (apart (sym e))
+mark-one Mark.Open Mark.Proved e = absurd (true-false (sym (given-one e)))
+mark-one Mark.Open Mark.Open e = refl
+mark-one Mark.Open Mark.Size e = absurd (apart (sym e))
+mark-one Mark.Size Mark.Proved e = absurd (apart e)
+mark-one Mark.Size Mark.Open e = absurd (apart e)
+mark-one Mark.Size Mark.Size e = refl
+
+pub proved-determined : {a : Answer Bool} (r s : Mark) → paperMark r ≡ a → paperMark s ≡ a → r ≡ s
+proved-determined = determined paperMark mark-one

@@ -1,0 +1,60 @@
+-- Laws of 46: what it is that a session fits a file.
+use Prim.Native.Nat.{ℕ, _+_, _≤_, _<_}
+use mathlib.Core.Bool.{Bool, true, false}
+use mathlib.Core.List.{List}
+use mathlib.Core.Path.{_≡_, refl, sym, ap, _∙_}
+use native.Mathlib.Omega.{arith}
+use borrow.Author.Tests.{eq-eqb, eqb-true, ltb-true, lt-ltb, leb-true}
+use lib.Dec.{eqb, leb, ltb}
+use lib.ListN.{length}
+use Rattle.basis.specs.Board.{flashSize, mapSize}
+use Rattle.basis.specs.Laws.Choice.{both-true}
+use Rattle.runs.specs.Pieces.{namedCount}
+use Rattle.session.specs.Laws.Phases.{stands-start, after-start}
+use Rattle.session.specs.Phases.{afterOf, atStart, standsOf}
+use Rattle.session.specs.Plan.{total}
+use Rattle.session.specs.Session.{rightSizes, judgeOf, heardOf, tookOf, fitsOf}
+use Rattle.session.specs.declared.event.Event.{Event}
+use Rattle.session.specs.declared.phase.Phase.{Phase}
+use Rattle.session.specs.declared.session.Session.{Session}
+use Rattle.session.specs.declared.session.Verdict.{Verdict}
+
+-- what right sizes are
+pub sizes-right : (i m p : ℕ) → rightSizes i m p ≡ true → (i ≡ flashSize) × (m ≡ mapSize) × (259 ≤ p)
+sizes-right i m p e =
+    let a = both-true (eqb i flashSize) _ e in
+    let b = both-true (eqb m mapSize) (leb 259 p) (a .1) in
+    (eqb-true i flashSize (a .0), eqb-true m mapSize (b .0), leb-true 259 p (b .1))
+
+-- the file has a named byte, the session's counts are the file's, and its phase stands in the file
+pub record Fitting (m : List ℕ) (s : Session) : Type 0 where
+  pub some : 0 < namedCount m
+  pub named-is : s .named ≡ namedCount m
+  pub total-is : s .total ≡ total m
+  pub stands : standsOf m (s .phase) (s .acknowledged) ≡ true
+
+pub fitting : (m : List ℕ) (s : Session) → fitsOf m s ≡ true → Fitting m s
+unfolding fitsOf
+fitting m s h =
+    let a = both-true (ltb 0 (namedCount m)) _ h in
+    let b = both-true (eqb (s .named) (namedCount m)) _ (a .1) in
+    let d = both-true (eqb (s .total) (total m)) _ (b .1) in
+    record { some = ltb-true _ _ (a .0); named-is = eqb-true _ _ (b .0); total-is = eqb-true _ _ (d .0); stands = d .1 }
+
+pub fits-by : (m : List ℕ) (s : Session) → Fitting m s → fitsOf m s ≡ true
+unfolding fitsOf
+fits-by m s f =
+    rw (lt-ltb 0 (namedCount m) (f .some), eq-eqb (s .named) (namedCount m) (f .named-is), eq-eqb (s .total) (total m) (f .total-is)) (f .stands)
+
+-- after any event the cursor stands at a start
+pub took-start : (m : List ℕ) → length m ≡ mapSize → (s : Session) (e : Event) → fitsOf m s ≡ true → atStart m (tookOf m s e .phase) ≡ true
+unfolding tookOf
+took-start m long s e h = go (judgeOf (s .phase) e)
+  where
+    f : Fitting m s
+    f = fitting m s h
+
+    go : (v : Verdict) → atStart m (heardOf m s v .phase) ≡ true
+    go Verdict.Greeted = after-start m long (f .some) (s .phase) (s .acknowledged) (f .stands)
+    go Verdict.Acknowledged = after-start m long (f .some) (s .phase) (s .acknowledged) (f .stands)
+    go (Verdict.Over o) = refl

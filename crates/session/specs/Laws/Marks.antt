@@ -1,0 +1,110 @@
+-- Laws of marks: a byte is marked by the ACK to the V that holds it, and R is out only when every named byte is.
+use Prim.Native.Nat.{ℕ, suc, _+_, _-_, _*_, _≤_, _<_}
+use mathlib.Core.Bool.{Bool, true, false}
+use mathlib.Core.List.{List}
+use mathlib.Core.Path.{_≡_, refl, sym, ap, _∙_}
+use native.Mathlib.Omega.{arith}
+use borrow.Author.Tests.{le-leb, leb-true}
+use lib.Dec.{leb}
+use lib.ListN.{length, getD}
+use Rattle.basis.specs.Board.{flashSize, mapSize}
+use Rattle.basis.specs.Laws.Choice.{decide, both-true, both-second, both-false}
+use Rattle.runs.specs.Laws.Files.{bytes-past}
+use Rattle.runs.specs.Laws.Pieces.{starts-inside, piece-place, piece-passes, in-piece, passes-below}
+use Rattle.runs.specs.Laws.Runs.{count-yes, count-skip, count-mono}
+use Rattle.runs.specs.Map.{named}
+use Rattle.runs.specs.Pieces.{pieceMost, pieceStarts, pieceLen, runCount, pieceCount}
+use Rattle.runs.specs.Runs.{count, starts, len, home}
+use Rattle.session.specs.Laws.Fits.{fitting}
+use Rattle.session.specs.Laws.Phases.{ranked-is, ranked-by, stands-below, stands-at, at-stands}
+use Rattle.session.specs.Laws.Plan.{plan-at}
+use Rattle.session.specs.Laws.States.{stands-run}
+use Rattle.session.specs.Phases.{packetOut, verifying, phaseAt, standsOf}
+use Rattle.session.specs.Plan.{verifyPacket, plan, total}
+use Rattle.session.specs.Session.{fitsOf, marked}
+use Rattle.session.specs.declared.phase.Phase.{Phase}
+use Rattle.session.specs.declared.phase.RunKind.{RunKind}
+use Rattle.session.specs.declared.session.Session.{Session}
+
+-- up to a number in the piece at s, as many pieces start as up to s
+rank-in : (p : ℕ → Bool) (cap s a : ℕ) → starts p cap s ≡ true → s ≤ a → a < s + len p s cap → count (starts p cap) (a + 1) ≡ suc (count (starts p cap) s)
+rank-in p cap s a h g l =
+    let k : suc s + (a - s) ≡ a + 1 = omega arith in
+    sym (ap (count (starts p cap)) k)
+    ∙ count-skip (starts p cap) (suc s) (a - s) (λ i u v. starts-inside p cap i (λ e. omega (arith, piece-place p cap s i h (omega arith) (omega arith))))
+    ∙ count-yes (starts p cap) s h
+
+-- the packet after j acknowledgements is the V of the piece at s, which holds the byte at a
+pub record Held (m : List ℕ) (j s a : ℕ) : Type 0 where
+  pub planned : j < total m
+  pub phase : phaseAt m j ≡ verifying s
+  pub from : s ≤ a
+  pub below : a < s + pieceLen m s
+
+module _ (m : List ℕ) where
+  -- the ACK to it marks the byte
+  pub held-marked : (j k s a : ℕ) → Held m j s a → j < k → marked m k a ≡ true
+  unfolding marked standsOf
+  held-marked j k s a h l =
+      let t = ranked-is (pieceStarts m) (runCount m + pieceCount m) s j (sym (ap (λ (ph : Phase). standsOf m ph j) (h .phase)) ∙ at-stands m j (h .planned)) in
+      let r : runCount m + pieceCount m + count (pieceStarts m) (a + 1) ≤ k = omega (arith, rank-in (named m) pieceMost s a (t .0) (h .from) (h .below)) in
+      both-second _ _ (piece-passes (named m) pieceMost s a (h .from) (h .below)) ∙ le-leb _ _ r
+
+  -- a mark stays, and only what is named is marked
+  pub marked-kept : (j k a : ℕ) → j ≤ k → marked m j a ≡ true → marked m k a ≡ true
+  unfolding marked
+  marked-kept j k a l h =
+      let b = both-true (named m a) _ h in
+      let r : runCount m + pieceCount m + count (pieceStarts m) (a + 1) ≤ k = omega (arith, leb-true (runCount m + pieceCount m + count (pieceStarts m) (a + 1)) j (b .1)) in
+      both-second _ _ (b .0) ∙ le-leb _ _ r
+
+  pub marked-named : (k a : ℕ) → marked m k a ≡ true → named m a ≡ true
+  unfolding marked
+  marked-named k a h = both-true (named m a) _ h .0
+
+module _ (m : List ℕ) (long : length m ≡ mapSize) where
+  -- every named byte is in the piece of one V of the plan, behind every E and W
+  pub named-held : (a : ℕ) → named m a ≡ true → (j : ℕ) × (s : ℕ) × (Held m j s a) × (j + 1 ≡ runCount m + pieceCount m + count (pieceStarts m) (a + 1))
+  unfolding standsOf
+  named-held a t =
+      let i = in-piece (named m) pieceMost (omega arith) a t in
+      let s : ℕ = home (named m) pieceMost a in
+      let j : ℕ = runCount m + pieceCount m + count (pieceStarts m) s in
+      let h : standsOf m (verifying s) j ≡ true = ranked-by (pieceStarts m) (runCount m + pieceCount m) s j (i .0) refl in (
+        j,
+        s,
+        record { planned = stands-below m long (verifying s) j h; phase = sym (stands-at m long (verifying s) j refl h); from = i .1; below = i .2 },
+        omega (arith, rank-in (named m) pieceMost s a (i .0) (i .1) (i .2)),
+      )
+
+  -- a marked byte was held by the V of an acknowledged packet
+  pub marked-held : (k a : ℕ) → marked m k a ≡ true → (j : ℕ) × (s : ℕ) × (j < k) × (Held m j s a)
+  unfolding marked
+  marked-held k a h =
+      let b = both-true (named m a) _ h in
+      let v = named-held a (b .0) in
+      (v .0, v .1, omega (arith, v .3, leb-true (runCount m + pieceCount m + count (pieceStarts m) (a + 1)) k (b .1)), v .2)
+
+  -- once every V is acknowledged every named byte is marked
+  pub all-marked : (k a : ℕ) → runCount m + 2 * pieceCount m ≤ k → marked m k a ≡ named m a
+  unfolding marked
+  all-marked k a l =
+      decide (named m a)
+      (λ t. let b = passes-below (named m) pieceMost flashSize (omega arith) (bytes-past m long) a t in
+      let r : runCount m + pieceCount m + count (pieceStarts m) (a + 1) ≤ k = omega (arith, count-mono (pieceStarts m) flashSize (a + 1) (omega arith)) in
+      both-second _ _ t ∙ le-leb _ _ r ∙ sym t)
+      (λ t. both-false _ _ t ∙ sym t)
+
+  -- so R is out only when every named byte is marked
+  pub run-marked : (s : Session) (a : ℕ) → fitsOf m s ≡ true → s .phase ≡ Phase.Run → marked m (s .acknowledged) a ≡ named m a
+  run-marked s a h e =
+      all-marked (s .acknowledged) a
+      (omega (arith, stands-run m (s .acknowledged) (sym (ap (λ (ph : Phase). standsOf m ph (s .acknowledged)) e) ∙ fitting m s h .stands)))
+
+  -- in the plan's own terms
+  pub named-verified : (image : List ℕ) (kind : RunKind) (a : ℕ) (d : List ℕ) → named m a ≡ true
+      → (j : ℕ) × (s : ℕ) × (j < total m) × (getD (plan image m kind) j d ≡ verifyPacket image m s) × (s ≤ a) × (a < s + pieceLen m s)
+  named-verified image kind a d t =
+      let v = named-held a t in
+      let h = v .2 in
+      (v .0, v .1, h .planned, plan-at image m kind (v .0) d (h .planned) ∙ ap (packetOut image m kind) (h .phase), h .from, h .below)

@@ -1,0 +1,185 @@
+-- Laws of phases: those that stand in a file are the phases after its acknowledgements, and each leads to the next.
+use Prim.Native.Nat.{ℕ, suc, _+_, _-_, _*_, _≤_, _<_}
+use mathlib.Core.Bool.{Bool, true, false}
+use mathlib.Core.List.{List}
+use mathlib.Core.Path.{_≡_, refl, sym, ap, subst, _∙_}
+use native.Mathlib.Omega.{arith}
+use borrow.Author.Tests.{eq-eqb, eqb-true, ltb-true, ltb-false, lt-ltb, le-ltb}
+use lib.Dec.{eqb, ltb}
+use lib.ListN.{length}
+use Rattle.basis.specs.Board.{pages, flashSize, mapSize}
+use Rattle.basis.specs.Choice.{pick, both}
+use Rattle.basis.specs.Laws.Choice.{decide, both-true, true-false}
+use Rattle.runs.specs.Laws.Files.{bytes-past, pages-past}
+use Rattle.runs.specs.Laws.Pieces.{starts-below, first-starts, first-rank, follow-starts, follow-rank}
+use Rattle.runs.specs.Laws.Runs.{count-mono, rank-below, select-at, select-kth}
+use Rattle.runs.specs.Map.{named}
+use Rattle.runs.specs.Pages.{touched}
+use Rattle.runs.specs.Pieces.{pieceMost, pieceStarts, runStarts, runCount, pieceCount, namedCount}
+use Rattle.runs.specs.Runs.{count, starts, next, select, follow}
+use Rattle.session.specs.Laws.Starts.{run-below, piece-below, first-piece-below, first-run-below}
+use Rattle.session.specs.Phases.{ended, erasing, writing, verifying, phaseAt, firstRun, firstPiece, nextRun, nextPiece, afterOf, atStart, ranked, standsOf}
+use Rattle.session.specs.Plan.{total}
+use Rattle.session.specs.declared.phase.Phase.{Phase}
+
+-- ---- ranks
+
+module _ (q : ℕ → Bool) (base a k : ℕ) where
+  pub ranked-is : ranked q base a k ≡ true → (q a ≡ true) × (base + count q a ≡ k)
+  ranked-is h = let b = both-true (q a) (eqb (base + count q a) k) h in (b .0, eqb-true _ _ (b .1))
+
+  pub ranked-by : q a ≡ true → base + count q a ≡ k → ranked q base a k ≡ true
+  ranked-by t e = rw t (eq-eqb _ _ e)
+
+-- the first piece has rank 0, the one after a piece the next rank, and behind the last there are as many as there are
+module _ (p : ℕ → Bool) (cap n : ℕ) (z : 0 < cap) (past : (a : ℕ) → n ≤ a → p a ≡ false) (base : ℕ) where
+  first-ranked : next p 0 (n - 0) < n → ranked (starts p cap) base (next p 0 (n - 0)) base ≡ true
+  first-ranked l = ranked-by (starts p cap) base _ base (first-starts p cap n z past l) (omega (arith, first-rank p cap n z past))
+
+  module _ (s k : ℕ) (h : ranked (starts p cap) base s k ≡ true) where
+    follow-ranked : follow p cap n s < n → ranked (starts p cap) base (follow p cap n s) (k + 1) ≡ true
+    follow-ranked l =
+        let t = ranked-is (starts p cap) base s k h in
+        ranked-by (starts p cap) base _ (k + 1) (follow-starts p cap n z past s (t .0) l) (omega (arith, follow-rank p cap n z past s (t .0)))
+
+    follow-last : n ≤ follow p cap n s → base + count (starts p cap) n ≡ k + 1
+    follow-last l =
+        let t = ranked-is (starts p cap) base s k h in
+        let b = rank-below (starts p cap) n s (starts-below p cap n z past s (t .0)) (t .0) in
+        omega (arith, follow-rank p cap n z past s (t .0), count-mono (starts p cap) (follow p cap n s) n l)
+
+-- ---- phases that stand in the file
+
+module _ (m : List ℕ) (long : length m ≡ mapSize) where
+  run-rank : (q k : ℕ) → ranked (runStarts m) 0 q k ≡ true → k < runCount m
+  run-rank q k h =
+      let t = ranked-is (runStarts m) 0 q k h in
+      omega (arith, rank-below (runStarts m) pages q (run-below m long q (t .0)) (t .0))
+
+  piece-rank : (base a k : ℕ) → ranked (pieceStarts m) base a k ≡ true → k < base + pieceCount m
+  piece-rank base a k h =
+      let t = ranked-is (pieceStarts m) base a k h in
+      omega (arith, rank-below (pieceStarts m) flashSize a (piece-below m long a (t .0)) (t .0))
+
+  -- fewer packets are acknowledged than there are
+  pub stands-below : (ph : Phase) (k : ℕ) → standsOf m ph k ≡ true → k < total m
+  unfolding standsOf
+  stands-below Phase.Greeting k h = omega (arith, eqb-true k 0 h)
+  stands-below (Phase.Erase p) k h = omega (arith, run-rank (p .0) k h)
+  stands-below (Phase.Write a) k h = omega (arith, piece-rank (runCount m) (a .0) k h)
+  stands-below (Phase.Verify a) k h = omega (arith, piece-rank (runCount m + pieceCount m) (a .0) k h)
+  stands-below Phase.Run k h = omega (arith, eqb-true (runCount m + 2 * pieceCount m) k h)
+  stands-below (Phase.Ended o) k h = absurd (true-false (sym h))
+
+  -- the cursor stands at a start
+  pub stands-start : (ph : Phase) (k : ℕ) → standsOf m ph k ≡ true → atStart m ph ≡ true
+  unfolding standsOf
+  stands-start Phase.Greeting k h = refl
+  stands-start (Phase.Erase p) k h = ranked-is (runStarts m) 0 (p .0) k h .0
+  stands-start (Phase.Write a) k h = ranked-is (pieceStarts m) (runCount m) (a .0) k h .0
+  stands-start (Phase.Verify a) k h = ranked-is (pieceStarts m) (runCount m + pieceCount m) (a .0) k h .0
+  stands-start Phase.Run k h = refl
+  stands-start (Phase.Ended o) k h = refl
+
+-- past the greeting
+abbrev pub greeted : Phase → Bool
+greeted Phase.Greeting = false
+greeted (Phase.Erase p) = true
+greeted (Phase.Write a) = true
+greeted (Phase.Verify a) = true
+greeted Phase.Run = true
+greeted (Phase.Ended o) = true
+
+module _ (m : List ℕ) (long : length m ≡ mapSize) where
+  -- a phase that stands after k acknowledgements is the one after k
+  pub stands-at : (ph : Phase) (k : ℕ) → greeted ph ≡ true → standsOf m ph k ≡ true → ph ≡ phaseAt m k
+  unfolding phaseAt standsOf
+  stands-at Phase.Greeting k g h = absurd (true-false (sym g))
+  stands-at (Phase.Erase p) k g h =
+      let t = ranked-is (runStarts m) 0 (p .0) k h in
+      let c : count (runStarts m) (p .0) ≡ k = omega arith in
+      rw (lt-ltb _ _ (run-rank m long (p .0) k h))
+      (ap erasing (sym (select-at (runStarts m) pages (p .0) (run-below m long (p .0) (t .0)) (t .0)) ∙ ap (λ (x : ℕ). select (runStarts m) x pages) c))
+  stands-at (Phase.Write a) k g h =
+      let t = ranked-is (pieceStarts m) (runCount m) (a .0) k h in
+      let c : count (pieceStarts m) (a .0) ≡ k - runCount m = omega arith in
+      let d : runCount m ≤ k = omega arith in
+      rw (le-ltb _ _ d, lt-ltb _ _ (piece-rank m long (runCount m) (a .0) k h))
+      (ap writing (sym (select-at (pieceStarts m) flashSize (a .0) (piece-below m long (a .0) (t .0)) (t .0)) ∙ ap (λ (x : ℕ). select (pieceStarts m) x flashSize) c))
+  stands-at (Phase.Verify a) k g h =
+      let t = ranked-is (pieceStarts m) (runCount m + pieceCount m) (a .0) k h in
+      let c : count (pieceStarts m) (a .0) ≡ k - (runCount m + pieceCount m) = omega arith in
+      let b : k < runCount m + 2 * pieceCount m = omega (arith, piece-rank m long (runCount m + pieceCount m) (a .0) k h) in
+      let d : runCount m ≤ k = omega arith in
+      let f : runCount m + pieceCount m ≤ k = omega arith in
+      rw (le-ltb _ _ d, le-ltb _ _ f, lt-ltb _ _ b)
+      (ap verifying (sym (select-at (pieceStarts m) flashSize (a .0) (piece-below m long (a .0) (t .0)) (t .0)) ∙ ap (λ (x : ℕ). select (pieceStarts m) x flashSize) c))
+  stands-at Phase.Run k g h =
+      let e : runCount m + 2 * pieceCount m ≡ k = eqb-true _ _ h in
+      let d : runCount m ≤ k = omega arith in
+      let f : runCount m + pieceCount m ≤ k = omega arith in
+      let b : runCount m + 2 * pieceCount m ≤ k = omega arith in
+      rw (le-ltb _ _ d, le-ltb _ _ f, le-ltb _ _ b)
+  stands-at (Phase.Ended o) k g h = absurd (true-false (sym h))
+
+-- and the phase after k stands after k
+pub at-stands : (m : List ℕ) (k : ℕ) → k < total m → standsOf m (phaseAt m k) k ≡ true
+unfolding phaseAt standsOf
+at-stands m k l =
+    decide (ltb k (runCount m))
+    (λ d. let s = select-kth (runStarts m) pages k (ltb-true _ _ d) in rw d (ranked-by (runStarts m) 0 _ k (s .passes) (omega (arith, s .rank))))
+    (λ d. decide (ltb k (runCount m + pieceCount m))
+    (λ f. let g : runCount m ≤ k = ltb-false _ _ d in
+    let s = select-kth (pieceStarts m) flashSize (k - runCount m) (omega (arith, ltb-true k (runCount m + pieceCount m) f)) in
+    rw (d, f) (ranked-by (pieceStarts m) (runCount m) _ k (s .passes) (omega (arith, s .rank))))
+    (λ f. decide (ltb k (runCount m + 2 * pieceCount m))
+    (λ b. let g : runCount m + pieceCount m ≤ k = ltb-false _ _ f in
+    let s = select-kth (pieceStarts m) flashSize (k - (runCount m + pieceCount m)) (omega (arith, ltb-true k (runCount m + 2 * pieceCount m) b)) in
+    rw (d, f, b) (ranked-by (pieceStarts m) (runCount m + pieceCount m) _ k (s .passes) (omega (arith, s .rank))))
+    (λ b. rw (d, f, b) (eq-eqb (runCount m + 2 * pieceCount m) k (omega (arith, ltb-false k (runCount m + 2 * pieceCount m) b))))))
+
+-- ---- from phase to phase
+
+module _ (m : List ℕ) (long : length m ≡ mapSize) (some : 0 < namedCount m) where
+  first-piece-ranked : (base : ℕ) → ranked (pieceStarts m) base (firstPiece m) base ≡ true
+  first-piece-ranked base = first-ranked (named m) pieceMost flashSize (omega arith) (bytes-past m long) base (first-piece-below m long some)
+
+  pub greeting-stands : standsOf m (afterOf m Phase.Greeting) 0 ≡ true
+  unfolding afterOf standsOf
+  greeting-stands = first-ranked (touched m) pages pages (omega arith) (pages-past m long) 0 (first-run-below m long some)
+
+  pub erase-stands : (q k : ℕ) → standsOf m (erasing q) k ≡ true → standsOf m (afterOf m (erasing q)) (k + 1) ≡ true
+  unfolding afterOf standsOf
+  erase-stands q k h =
+      decide (ltb (nextRun m q) pages)
+      (λ d. rw d (follow-ranked (touched m) pages pages (omega arith) (pages-past m long) 0 q k h (ltb-true _ _ d)))
+      (λ d. rw d (subst (λ (j : ℕ). ranked (pieceStarts m) (runCount m) (firstPiece m) j ≡ true)
+      (omega (arith, follow-last (touched m) pages pages (omega arith) (pages-past m long) 0 q k h (ltb-false _ _ d)))
+      (first-piece-ranked (runCount m))))
+
+  pub write-stands : (a k : ℕ) → standsOf m (writing a) k ≡ true → standsOf m (afterOf m (writing a)) (k + 1) ≡ true
+  unfolding afterOf standsOf
+  write-stands a k h =
+      decide (ltb (nextPiece m a) flashSize)
+      (λ d. rw d (follow-ranked (named m) pieceMost flashSize (omega arith) (bytes-past m long) (runCount m) a k h (ltb-true _ _ d)))
+      (λ d. rw d (subst (λ (j : ℕ). ranked (pieceStarts m) (runCount m + pieceCount m) (firstPiece m) j ≡ true)
+      (follow-last (named m) pieceMost flashSize (omega arith) (bytes-past m long) (runCount m) a k h (ltb-false _ _ d))
+      (first-piece-ranked (runCount m + pieceCount m))))
+
+  pub verify-stands : (a k : ℕ) → standsOf m (verifying a) k ≡ true → standsOf m (afterOf m (verifying a)) (k + 1) ≡ true
+  unfolding afterOf standsOf
+  verify-stands a k h =
+      decide (ltb (nextPiece m a) flashSize)
+      (λ d. rw d (follow-ranked (named m) pieceMost flashSize (omega arith) (bytes-past m long) (runCount m + pieceCount m) a k h (ltb-true _ _ d)))
+      (λ d. rw d (eq-eqb (runCount m + 2 * pieceCount m) (k + 1)
+      (omega (arith, follow-last (named m) pieceMost flashSize (omega arith) (bytes-past m long) (runCount m + pieceCount m) a k h (ltb-false _ _ d)))))
+
+  -- a cursor that moves on stands at a start
+  pub after-start : (ph : Phase) (k : ℕ) → standsOf m ph k ≡ true → atStart m (afterOf m ph) ≡ true
+  unfolding afterOf
+  after-start Phase.Greeting k h = stands-start m long _ 0 greeting-stands
+  after-start (Phase.Erase p) k h = stands-start m long _ (k + 1) (erase-stands (p .0) k h)
+  after-start (Phase.Write a) k h = stands-start m long _ (k + 1) (write-stands (a .0) k h)
+  after-start (Phase.Verify a) k h = stands-start m long _ (k + 1) (verify-stands (a .0) k h)
+  after-start Phase.Run k h = refl
+  after-start (Phase.Ended o) k h = refl

@@ -1,0 +1,76 @@
+-- Where runs and pieces start on the board, and what their packets carry.
+use Prim.Native.Nat.{ℕ, _+_, _*_, _/_, _≤_, _<_}
+use mathlib.Core.Bool.{Bool, true, false}
+use mathlib.Core.List.{List}
+use mathlib.Core.Path.{_≡_, refl, sym, ap, _∙_}
+use native.Mathlib.Omega.{arith}
+use borrow.Author.Tests.{eqb-true, ltb-true, ltb-false, le-leb}
+use lib.Dec.{eqb, leb, ltb}
+use lib.ListN.{length, getD, drop, length-drop}
+use lib.Seq.{length-take-le}
+use Rattle.basis.specs.Board.{pages, flashSize, mapSize}
+use Rattle.basis.specs.Laws.Choice.{decide, true-false, both-second}
+use Rattle.packet.specs.Table.{listed, inShape, dataCount}
+use Rattle.runs.specs.Laws.Files.{bytes-past, pages-past, file-piece, file-run}
+use Rattle.runs.specs.Laws.Pages.{named-touched}
+use Rattle.runs.specs.Laws.Pieces.{starts-below, piece-some, piece-most}
+use Rattle.runs.specs.Laws.Runs.{count-zero, count-le, count-skip, next-pass, next-skip}
+use Rattle.runs.specs.Map.{named}
+use Rattle.runs.specs.Pages.{touched}
+use Rattle.runs.specs.Pieces.{pieceMost, pieceStarts, pieceLen, runStarts, runLen, runCount, pieceCount, namedCount}
+use Rattle.runs.specs.Runs.{count, next}
+use Rattle.session.specs.Phases.{firstRun, firstPiece}
+use Rattle.session.specs.Plan.{carriesPiece, pieceBytes}
+
+-- e and w are small
+pub runs-most : (m : List ℕ) → runCount m ≤ pages
+runs-most m = count-le (runStarts m) pages
+
+pub pieces-most : (m : List ℕ) → pieceCount m ≤ flashSize
+pieces-most m = count-le (pieceStarts m) flashSize
+
+module _ (m : List ℕ) (long : length m ≡ mapSize) where
+  -- runs and pieces start on the board
+  pub run-below : (q : ℕ) → runStarts m q ≡ true → q < pages
+  run-below = starts-below (touched m) pages pages (omega arith) (pages-past m long)
+
+  pub piece-below : (a : ℕ) → pieceStarts m a ≡ true → a < flashSize
+  piece-below = starts-below (named m) pieceMost flashSize (omega arith) (bytes-past m long)
+
+  -- a file with a named byte has a first piece and a first run
+  pub first-piece-below : 0 < namedCount m → firstPiece m < flashSize
+  first-piece-below some =
+      decide (ltb (firstPiece m) flashSize) (λ d. ltb-true _ _ d)
+      (λ d. absurd (omega (arith, none d, count-zero (named m))))
+    where
+      none : ltb (firstPiece m) flashSize ≡ false → count (named m) (0 + flashSize) ≡ count (named m) 0
+      none d = count-skip (named m) 0 flashSize (λ i u v. next-skip (named m) flashSize 0 i u (omega (arith, ltb-false (firstPiece m) flashSize d)))
+
+  pub first-run-below : 0 < namedCount m → firstRun m < pages
+  first-run-below some =
+      let l = first-piece-below some in
+      decide (ltb (firstRun m) pages) (λ d. ltb-true _ _ d)
+      (λ d. absurd (true-false (sym (named-touched m (firstPiece m) (next-pass (named m) flashSize 0 (omega arith)))
+      ∙ next-skip (touched m) pages 0 (firstPiece m / 512) (omega arith) (omega (arith, ltb-false (firstRun m) pages d)))))
+
+  -- a piece has 1 to 250 bytes, all in the image
+  pub piece-carried : (image : List ℕ) (a : ℕ) → length image ≡ flashSize → pieceStarts m a ≡ true
+      → (length (pieceBytes image m a) ≡ pieceLen m a) × (0 < pieceLen m a) × (pieceLen m a ≤ 250)
+  piece-carried image a e h =
+      let l = file-piece m long a h in
+      let k : pieceLen m a ≤ length (drop a image) = simp length-drop (omega arith) in
+      (length-take-le (pieceLen m a) (drop a image) k, piece-some (named m) pieceMost (omega arith) a h, piece-most (named m) pieceMost a)
+
+-- W and V with 1 to 250 bytes stand in the table
+pub carries-listed : (c : ℕ) → carriesPiece c ≡ true → listed c ≡ true
+carries-listed c e =
+    decide (eqb c 0x57)
+    (λ d. rw (eqb-true c 0x57 d))
+    (λ d. rw (eqb-true c 0x56 (rw d at e)))
+
+pub carries-shape : (c n t : ℕ) → carriesPiece c ≡ true → 6 ≤ n → n ≤ 255 → inShape c n t ≡ true
+carries-shape c n t e l h =
+    let f : dataCount n ≡ true = both-second (leb 6 n) (leb n 255) (le-leb 6 n l) ∙ le-leb n 255 h in
+    decide (eqb c 0x57)
+    (λ d. rw (eqb-true c 0x57 d) f)
+    (λ d. rw (eqb-true c 0x56 (rw d at e)) f)

@@ -1,0 +1,48 @@
+-- Laws of the start and of a step: each row of their tables, and what is given where no row holds.
+use Prim.Native.Nat.{ℕ}
+use mathlib.Core.Bool.{Bool, true, false, not}
+use mathlib.Core.List.{List, [], _∷_}
+use mathlib.Core.Path.{_≡_, ap, _∙_}
+use borrow.Author.Tests.{eq-eqb, ne-eqb}
+use lib.ListN.{length}
+use Rattle.basis.specs.Laws.Refusals.{skip, stop, done}
+use Rattle.basis.specs.Refusals.{refused, given}
+use Rattle.runs.specs.Pieces.{namedCount}
+use Rattle.session.specs.Phases.{ended}
+use Rattle.session.specs.Session.{waiting, rightSizes, started, sent, fitsOf, stepOf}
+use Rattle.session.specs.declared.event.Event.{Event}
+use Rattle.session.specs.declared.phase.RunKind.{RunKind}
+use Rattle.session.specs.declared.session.Session.{Session}
+
+module _ (image m : List ℕ) (room : ℕ) (kind : RunKind) where
+  pub start-size : rightSizes (length image) (length m) room ≡ false → started image m room kind ≡ refused 20
+  unfolding started
+  start-size h = stop 20 _ _ _ (ap not h)
+
+  module _ (h : rightSizes (length image) (length m) room ≡ true) where
+    pub start-empty : namedCount m ≡ 0 → started image m room kind ≡ refused 32
+    unfolding started
+    start-empty e = skip 20 _ _ _ (ap not h) ∙ stop 32 _ _ _ (eq-eqb _ _ e)
+
+    pub start-given : (namedCount m ≡ 0 → ⊥) → started image m room kind ≡ given (record { session = waiting m kind; packet = 0x08 ∷ [] })
+    unfolding started
+    start-given n = skip 20 _ _ _ (ap not h) ∙ skip 32 _ _ _ (ne-eqb _ _ n) ∙ done _
+
+module _ (image m : List ℕ) (room : ℕ) (s : Session) (e : Event) where
+  pub step-size : rightSizes (length image) (length m) room ≡ false → stepOf image m room s e ≡ refused 20
+  unfolding stepOf
+  step-size h = stop 20 _ _ _ (ap not h)
+
+  module _ (h : rightSizes (length image) (length m) room ≡ true) where
+    pub step-ended : ended (s .phase) ≡ true → stepOf image m room s e ≡ refused 44
+    unfolding stepOf
+    step-ended f = skip 20 _ _ _ (ap not h) ∙ stop 44 _ _ _ f
+
+    module _ (f : ended (s .phase) ≡ false) where
+      pub step-foreign : fitsOf m s ≡ false → stepOf image m room s e ≡ refused 46
+      unfolding stepOf
+      step-foreign g = skip 20 _ _ _ (ap not h) ∙ skip 44 _ _ _ f ∙ stop 46 _ _ _ (ap not g)
+
+      pub step-taken : fitsOf m s ≡ true → stepOf image m room s e ≡ given (sent image m s e)
+      unfolding stepOf
+      step-taken g = skip 20 _ _ _ (ap not h) ∙ skip 44 _ _ _ f ∙ skip 46 _ _ _ (ap not g) ∙ done _

@@ -1,0 +1,35 @@
+-- The paper's numbers and values for each case of the code's answers.
+use Prim.Native.Nat.{ℕ}
+use mathlib.Core.Bool.{Bool, true, false}
+use Rattle.basis.specs.Refusals.{Answer, refused, given}
+use Rattle.session.specs.declared.phase.Outcome.{Outcome}
+use Rattle.session.specs.declared.session.Mark.{Mark}
+use Rattle.session.specs.declared.session.Next.{Next}
+use Rattle.session.specs.declared.session.Refusal.{Refusal}
+use Rattle.session.specs.declared.session.Stepped.{Stepped}
+
+-- 0 valid; 40 silence, 41 BEL, 42 no greeting, 43 other bytes or none
+abbrev pub paperOutcome : Outcome → ℕ
+paperOutcome Outcome.Valid = 0
+paperOutcome Outcome.Silence = 40
+paperOutcome Outcome.Bel = 41
+paperOutcome Outcome.NoGreeting = 42
+paperOutcome Outcome.Other = 43
+
+-- the refusal's number
+abbrev pub paperRefusal : Refusal → ℕ
+paperRefusal Refusal.Size = 20
+paperRefusal Refusal.Empty = 32
+paperRefusal Refusal.Ended = 44
+paperRefusal Refusal.Foreign = 46
+
+-- the next session with the packet's length, or the refusal
+abbrev pub paperStepped : Stepped → Answer Next
+paperStepped (Stepped.Next x) = given x
+paperStepped (Stepped.Refused x) = refused (paperRefusal x)
+
+-- the byte is marked or not, or the refusal
+abbrev pub paperMark : Mark → Answer Bool
+paperMark Mark.Proved = given true
+paperMark Mark.Open = given false
+paperMark Mark.Size = refused 20

@@ -1,0 +1,105 @@
+-- Where a session stands in the file, and what it does next.
+use Prim.Native.Nat.{ℕ, _+_, _-_, _*_}
+use mathlib.Core.Bool.{Bool, true, false}
+use mathlib.Core.List.{List, []}
+use lib.Dec.{eqb, leb, ltb}
+use Rattle.basis.specs.Board.{pages, flashSize}
+use Rattle.basis.specs.Choice.{pick, both}
+use Rattle.basis.specs.Units.{startOf}
+use Rattle.runs.specs.Map.{named}
+use Rattle.runs.specs.Pages.{touched}
+use Rattle.runs.specs.Pieces.{pieceMost, pieceStarts, runStarts, runCount, pieceCount}
+use Rattle.runs.specs.Runs.{count, next, select, follow}
+use Rattle.session.specs.Plan.{erasePacket, writePacket, verifyPacket, runPacket}
+use Rattle.session.specs.declared.phase.Outcome.{Outcome}
+use Rattle.session.specs.declared.phase.Phase.{Phase}
+use Rattle.session.specs.declared.phase.RunKind.{RunKind}
+
+abbrev pub ended : Phase → Bool
+ended Phase.Greeting = false
+ended (Phase.Erase p) = false
+ended (Phase.Write a) = false
+ended (Phase.Verify a) = false
+ended Phase.Run = false
+ended (Phase.Ended o) = true
+
+-- the packet that is out for its answer; an ending has none
+abbrev pub packetOut : List ℕ → List ℕ → RunKind → Phase → List ℕ
+packetOut image m kind Phase.Greeting = []
+packetOut image m kind (Phase.Erase p) = erasePacket m (p .0)
+packetOut image m kind (Phase.Write a) = writePacket image m (a .0)
+packetOut image m kind (Phase.Verify a) = verifyPacket image m (a .0)
+packetOut image m kind Phase.Run = runPacket kind
+packetOut image m kind (Phase.Ended o) = []
+
+-- the phases at a page and at an address
+abbrev pub erasing : ℕ → Phase
+erasing q = Phase.Erase (record { 0 = q })
+
+abbrev pub writing : ℕ → Phase
+writing a = Phase.Write (record { 0 = a })
+
+abbrev pub verifying : ℕ → Phase
+verifying a = Phase.Verify (record { 0 = a })
+
+-- the phase after k acknowledgements: its packet is the k-th of the plan, counted from 0
+unfoldable pub phaseAt : List ℕ → ℕ → Phase
+phaseAt m k =
+    pick (ltb k (runCount m)) (erasing (select (runStarts m) k pages))
+    (pick (ltb k (runCount m + pieceCount m)) (writing (select (pieceStarts m) (k - runCount m) flashSize))
+    (pick (ltb k (runCount m + 2 * pieceCount m)) (verifying (select (pieceStarts m) (k - (runCount m + pieceCount m)) flashSize))
+    Phase.Run))
+
+-- the first touched page and the first named byte
+abbrev pub firstRun : List ℕ → ℕ
+firstRun m = next (touched m) 0 pages
+
+abbrev pub firstPiece : List ℕ → ℕ
+firstPiece m = next (named m) 0 flashSize
+
+-- where the run after the one at q, and the piece after the one at a, start; the board's end where there is none
+abbrev pub nextRun : List ℕ → ℕ → ℕ
+nextRun m q = follow (touched m) pages pages q
+
+abbrev pub nextPiece : List ℕ → ℕ → ℕ
+nextPiece m a = follow (named m) pieceMost flashSize a
+
+-- the phase that follows when the answer is the right one
+unfoldable pub afterOf : List ℕ → Phase → Phase
+afterOf m Phase.Greeting = erasing (firstRun m)
+afterOf m (Phase.Erase p) = pick (ltb (nextRun m (p .0)) pages) (erasing (nextRun m (p .0))) (writing (firstPiece m))
+afterOf m (Phase.Write a) = pick (ltb (nextPiece m (a .0)) flashSize) (writing (nextPiece m (a .0))) (verifying (firstPiece m))
+afterOf m (Phase.Verify a) = pick (ltb (nextPiece m (a .0)) flashSize) (verifying (nextPiece m (a .0))) Phase.Run
+afterOf m Phase.Run = Phase.Ended Outcome.Valid
+afterOf m (Phase.Ended o) = Phase.Ended o
+
+-- the cursor stands where a run of pages or a piece starts
+abbrev pub atStart : List ℕ → Phase → Bool
+atStart m Phase.Greeting = true
+atStart m (Phase.Erase p) = runStarts m (p .0)
+atStart m (Phase.Write a) = pieceStarts m (a .0)
+atStart m (Phase.Verify a) = pieceStarts m (a .0)
+atStart m Phase.Run = true
+atStart m (Phase.Ended o) = true
+
+-- the place is a start, and the k-th from base on
+abbrev pub ranked : (ℕ → Bool) → ℕ → ℕ → ℕ → Bool
+ranked starts base a k = both (starts a) (eqb (base + count starts a) k)
+
+-- the phase has the k-th packet of the file out, or waits for the greeting with none acknowledged
+unfoldable pub standsOf : List ℕ → Phase → ℕ → Bool
+standsOf m Phase.Greeting k = eqb k 0
+standsOf m (Phase.Erase p) k = ranked (runStarts m) 0 (p .0) k
+standsOf m (Phase.Write a) k = ranked (pieceStarts m) (runCount m) (a .0) k
+standsOf m (Phase.Verify a) k = ranked (pieceStarts m) (runCount m + pieceCount m) (a .0) k
+standsOf m Phase.Run k = eqb (runCount m + 2 * pieceCount m) k
+standsOf m (Phase.Ended o) k = false
+
+-- the address that a phase's cursor names, or the board's end where it names none
+unfoldable pub placeOf : Phase → ℕ
+placeOf Phase.Greeting = 0
+placeOf (Phase.Erase p) = pick (leb pages (p .0)) flashSize (startOf (p .0))
+placeOf (Phase.Write a) = a .0
+placeOf (Phase.Verify a) = a .0
+placeOf Phase.Run = 0
+placeOf (Phase.Ended o) = 0

@@ -1,0 +1,55 @@
+-- The packets of a file, in order: one E for each maximal run of touched pages, one W for each piece, the same pieces by V, one R.
+use Prim.Native.Nat.{ℕ, zero, suc, _+_, _*_}
+use mathlib.Core.Bool.{Bool}
+use mathlib.Core.List.{List, [], _∷_, _++_, map}
+use lib.Dec.{eqb}
+use lib.ListN.{take, drop}
+use Rattle.basis.specs.Board.{pages, flashSize}
+use Rattle.basis.specs.Choice.{pick, either}
+use Rattle.basis.specs.Units.{startOf}
+use Rattle.packet.specs.Packet.{packet}
+use Rattle.runs.specs.Pieces.{pieceStarts, pieceLen, runStarts, runLen, runCount, pieceCount}
+use Rattle.session.specs.declared.phase.RunKind.{RunKind}
+
+-- the bytes of the piece at an address
+abbrev pub pieceBytes : List ℕ → List ℕ → ℕ → List ℕ
+pieceBytes image m a = take (pieceLen m a) (drop a image)
+
+-- R has address 1 (reset) or 0 (jump)
+abbrev pub runAddress : RunKind → ℕ
+runAddress RunKind.Reset = 1
+runAddress RunKind.Jump = 0
+
+-- W and V carry a piece
+abbrev pub carriesPiece : ℕ → Bool
+carriesPiece c = either (eqb c 0x57) (eqb c 0x56)
+
+-- E for the run of pages at q, W and V for the piece at a, and R
+abbrev pub erasePacket : List ℕ → ℕ → List ℕ
+erasePacket m q = packet 0x45 (startOf q) (runLen m q ∷ [])
+
+abbrev pub writePacket : List ℕ → List ℕ → ℕ → List ℕ
+writePacket image m a = packet 0x57 a (pieceBytes image m a)
+
+abbrev pub verifyPacket : List ℕ → List ℕ → ℕ → List ℕ
+verifyPacket image m a = packet 0x56 a (pieceBytes image m a)
+
+abbrev pub runPacket : RunKind → List ℕ
+runPacket kind = packet 0x52 (runAddress kind) []
+
+-- the numbers below n that pass, ascending
+unfoldable pub places : (ℕ → Bool) → ℕ → List ℕ
+places p zero = []
+places p (suc n) = pick (p n) (places p n ++ (n ∷ [])) (places p n)
+
+-- all packets of the file
+unfoldable pub plan : List ℕ → List ℕ → RunKind → List (List ℕ)
+plan image m kind =
+    map (erasePacket m) (places (runStarts m) pages)
+    ++ (map (writePacket image m) (places (pieceStarts m) flashSize)
+    ++ (map (verifyPacket image m) (places (pieceStarts m) flashSize)
+    ++ (runPacket kind ∷ [])))
+
+-- with e erases and w pieces the total is e + 2w + 1
+abbrev pub total : List ℕ → ℕ
+total m = runCount m + 2 * pieceCount m + 1

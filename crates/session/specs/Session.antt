@@ -1,0 +1,132 @@
+-- The session: its start, its steps, and what they have proved.
+use Prim.Native.Nat.{ℕ, _+_}
+use mathlib.Core.Bool.{Bool, not}
+use mathlib.Core.List.{List, [], _∷_}
+use lib.Dec.{eqb, leb, ltb}
+use lib.ListN.{length}
+use Rattle.basis.specs.Board.{flashSize, mapSize}
+use Rattle.basis.specs.Choice.{pick, both}
+use Rattle.basis.specs.Refusals.{Answer, refused, given, _when_, first}
+use Rattle.runs.specs.Map.{named}
+use Rattle.runs.specs.Pieces.{pieceStarts, runCount, pieceCount, namedCount}
+use Rattle.runs.specs.Runs.{count}
+use Rattle.session.specs.Phases.{ended, packetOut, phaseAt, afterOf, standsOf}
+use Rattle.session.specs.Plan.{total}
+use Rattle.session.specs.declared.event.Event.{Event}
+use Rattle.session.specs.declared.phase.Outcome.{Outcome}
+use Rattle.session.specs.declared.phase.Phase.{Phase}
+use Rattle.session.specs.declared.phase.RunKind.{RunKind}
+use Rattle.session.specs.declared.session.Next.{Next}
+use Rattle.session.specs.declared.session.Session.{Session}
+use Rattle.session.specs.declared.session.Verdict.{Verdict}
+
+-- a session over a file, in a phase and with so many packets acknowledged
+abbrev pub sessionIn : List ℕ → RunKind → Phase → ℕ → Session
+sessionIn m kind phase k = record { kind = kind; phase = phase; acknowledged = k; total = total m; named = namedCount m }
+
+-- it waits for the greeting; or k packets are acknowledged; or all are
+abbrev pub waiting : List ℕ → RunKind → Session
+waiting m kind = sessionIn m kind Phase.Greeting 0
+
+abbrev pub stateAt : List ℕ → RunKind → ℕ → Session
+stateAt m kind k = sessionIn m kind (phaseAt m k) k
+
+abbrev pub valid : List ℕ → RunKind → Session
+valid m kind = sessionIn m kind (Phase.Ended Outcome.Valid) (total m)
+
+-- a session, and the packet that it sends
+pub record Sent : Type 0 where
+  pub session : Session
+  pub packet : List ℕ
+
+-- how long the packet is, and which bytes are written
+abbrev pub measured : Answer Sent → Answer Next
+measured (refused n) = refused n
+measured (given x) = given (record { session = x .session; len = length (x .packet) })
+
+abbrev pub sentBytes : Answer Sent → List ℕ
+sentBytes (refused n) = []
+sentBytes (given x) = x .packet
+
+-- an image of 63,488 bytes, a map of 7,936, a packet buffer of at least 259
+abbrev pub rightSizes : ℕ → ℕ → ℕ → Bool
+rightSizes image m packet = both (eqb image flashSize) (both (eqb m mapSize) (leb 259 packet))
+
+-- start: 20, 32 for an empty map, else the single byte 08 and the session that waits for the greeting
+unfoldable pub started : List ℕ → List ℕ → ℕ → RunKind → Answer Sent
+started image m room kind =
+    first
+    (20 when not (rightSizes (length image) (length m) room)
+    ∷ 32 when eqb (namedCount m) 0 ∷ [])
+    (given (record { session = waiting m kind; packet = 0x08 ∷ [] }))
+
+-- first the greeting, else 42; silence is 40 everywhere
+abbrev pub judgedFirst : Event → Verdict
+judgedFirst Event.Greeting = Verdict.Greeted
+judgedFirst Event.Ack = Verdict.Over Outcome.NoGreeting
+judgedFirst Event.Bel = Verdict.Over Outcome.NoGreeting
+judgedFirst Event.Other = Verdict.Over Outcome.NoGreeting
+judgedFirst Event.Silence = Verdict.Over Outcome.Silence
+
+-- later the single byte 06 goes on, the single byte 07 ends with 41, other bytes or none with 43
+abbrev pub judgedLater : Event → Verdict
+judgedLater Event.Greeting = Verdict.Over Outcome.Other
+judgedLater Event.Ack = Verdict.Acknowledged
+judgedLater Event.Bel = Verdict.Over Outcome.Bel
+judgedLater Event.Other = Verdict.Over Outcome.Other
+judgedLater Event.Silence = Verdict.Over Outcome.Silence
+
+abbrev pub judgeOf : Phase → Event → Verdict
+judgeOf Phase.Greeting e = judgedFirst e
+judgeOf (Phase.Erase p) e = judgedLater e
+judgeOf (Phase.Write a) e = judgedLater e
+judgeOf (Phase.Verify a) e = judgedLater e
+judgeOf Phase.Run e = judgedLater e
+judgeOf (Phase.Ended o) e = judgedLater e
+
+-- the session in another phase, with so many more acknowledged
+abbrev pub movedOf : Session → Phase → ℕ → Session
+movedOf s phase n = record { kind = s .kind; phase = phase; acknowledged = s .acknowledged + n; total = s .total; named = s .named }
+
+-- a greeting and an acknowledgement go on along the file, all else ends the session; the greeting acknowledges no packet
+abbrev pub heardOf : List ℕ → Session → Verdict → Session
+heardOf m s Verdict.Greeted = movedOf s (afterOf m (s .phase)) 0
+heardOf m s Verdict.Acknowledged = movedOf s (afterOf m (s .phase)) 1
+heardOf m s (Verdict.Over o) = movedOf s (Phase.Ended o) 0
+
+-- the session after an event, and with the packet that it sends
+unfoldable pub tookOf : List ℕ → Session → Event → Session
+tookOf m s e = heardOf m s (judgeOf (s .phase) e)
+
+abbrev pub sent : List ℕ → List ℕ → Session → Event → Sent
+sent image m s e = record { session = tookOf m s e; packet = packetOut image m (s .kind) (tookOf m s e .phase) }
+
+-- some start and acknowledgements over this file lead to such a session: its counts are the file's, and its cursor stands where they lead
+unfoldable pub fitsOf : List ℕ → Session → Bool
+fitsOf m s =
+    both (ltb 0 (namedCount m))
+    (both (eqb (s .named) (namedCount m))
+    (both (eqb (s .total) (total m))
+    (standsOf m (s .phase) (s .acknowledged))))
+
+-- a step: 20, 44 after the end, 46 for a file that is not the session's, else the event is taken
+unfoldable pub stepOf : List ℕ → List ℕ → ℕ → Session → Event → Answer Sent
+stepOf image m room s e =
+    first
+    (20 when not (rightSizes (length image) (length m) room)
+    ∷ 44 when ended (s .phase)
+    ∷ 46 when not (fitsOf m s) ∷ [])
+    (given (sent image m s e))
+
+-- a series of events over one file; one after the end changes nothing
+unfoldable pub series : List ℕ → Session → List Event → Session
+series m s [] = s
+series m s (e ∷ es) = series m (pick (ended (s .phase)) s (tookOf m s e)) es
+
+-- after k acknowledgements a byte is marked: it is named, and the V of its piece is among the packets acknowledged
+unfoldable pub marked : List ℕ → ℕ → ℕ → Bool
+marked m k a = both (named m a) (leb (runCount m + pieceCount m + count (pieceStarts m) (a + 1)) k)
+
+-- asking for a mark: 20 for a map of another size
+unfoldable pub provedOf : List ℕ → Session → ℕ → Answer Bool
+provedOf m s a = first (20 when not (eqb (length m) mapSize) ∷ []) (given (marked m (s .acknowledged) a))

@@ -1,0 +1,60 @@
+// What comes back from the board, as an event: an answer's bytes, or silence.
+ghost use mathlib.Core.Path.{_≡_};
+ghost use Rattle.session.specs.Events.{sameOf, greetsOf, classifyOf};
+
+pub enum Event {
+    Greeting,
+    Ack,
+    Bel,
+    // Any other bytes, or none.
+    Other,
+    Silence,
+}
+
+// Where `silent` no answer came, and `answer` counts for nothing.
+pub fn classify(silent: bool, answer: &[u8]) -> Event
+    ensures { λ r. ⌜ r ≡ classifyOf silent (now (answer .entry)) ⌝ }
+{
+    if silent {
+        return Event::Silence;
+    }
+    if greets(answer) {
+        return Event::Greeting;
+    }
+    if same(answer, b"\x06") {
+        return Event::Ack;
+    }
+    if same(answer, b"\x07") {
+        return Event::Bel;
+    }
+    Event::Other
+}
+
+// Between its first fifteen bytes and its last two a greeting is free: boards differ there.
+pub fn greets(answer: &[u8]) -> bool
+    ensures { λ r. ⌜ r ≡ greetsOf (now (answer .entry)) ⌝ }
+{
+    if answer.len() != 24 {
+        return false;
+    }
+    if !same(&answer[..15], b"ADuC702x   -62 ") {
+        return false;
+    }
+    same(&answer[22..], b"\n\r")
+}
+
+fn same(a: &[u8], b: &[u8]) -> bool
+    ensures { λ r. ⌜ r ≡ sameOf (now (a .entry)) (now (b .entry)) ⌝ }
+{
+    if a.len() != b.len() {
+        return false;
+    }
+    let mut i = 0;
+    while i < a.len() {
+        if a[i] != b[i] {
+            return false;
+        }
+        i += 1;
+    }
+    true
+}

@@ -1,0 +1,101 @@
+// The packet of a phase, built into the caller's buffer.
+ghost use mathlib.Core.Path.{_≡_};
+ghost use mathlib.Core.Bool.{true};
+ghost use Prim.Native.Nat.{_+_, _<_, _≤_};
+ghost use lib.ListN.{length, getD};
+ghost use Rattle.basis.specs.Board.{flashSize, mapSize};
+ghost use Rattle.basis.specs.Lists.{overlay};
+ghost use Rattle.packet.specs.Packet.{packet};
+ghost use Rattle.packet.specs.Table.{listed, inShape};
+ghost use Rattle.runs.specs.Pieces.{pieceStarts, runStarts};
+ghost use Rattle.session.specs.Phases.{atStart, packetOut};
+ghost use Rattle.session.specs.Plan.{carriesPiece, pieceBytes, runAddress, erasePacket, runPacket};
+use crate::phase::Phase;
+use crate::phase::RunKind;
+use basis::board::PAGES;
+use basis::units::Address;
+use basis::units::Page;
+use packet::build::Built;
+use packet::build::build;
+use runs::pages::page_run_len;
+use runs::places::PIECE;
+use runs::places::run_len;
+
+// Gives the packet's length; the greeting is not answered by one, and an ending sends none.
+pub fn send(image: &[u8], map: &[u8], kind: RunKind, phase: Phase, buffer: &mut [u8]) -> usize
+    requires { ⌜ (length (now image) ≡ flashSize) × (length (now map) ≡ mapSize) × (259 ≤ length (now buffer)) × (atStart (now map) phase ≡ true) ⌝ }
+    ensures { λ r. ⌜
+        (let p = packetOut (now (image .entry)) (now (map .entry)) kind phase in
+        (r ≡ length p) × (now (buffer .exit) ≡ overlay p (now (buffer .entry))))
+        ⌝ }
+{
+    match phase {
+        Phase::Greeting => 0,
+        Phase::Erase(page) => send_erase(map, page, buffer),
+        Phase::Write(address) => send_piece(image, map, 0x57, address, buffer),
+        Phase::Verify(address) => send_piece(image, map, 0x56, address, buffer),
+        Phase::Run => send_run(kind, buffer),
+        Phase::Ended(_) => 0,
+    }
+}
+
+fn send_erase(map: &[u8], page: Page, buffer: &mut [u8]) -> usize
+    requires { ⌜ (length (now map) ≡ mapSize) × (259 ≤ length (now buffer)) × (runStarts (now map) (page .0) ≡ true) ⌝ }
+    ensures { λ r. ⌜
+        (let p = erasePacket (now (map .entry)) (page .0) in
+        (r ≡ length p) × (now (buffer .exit) ≡ overlay p (now (buffer .entry))))
+        ⌝ }
+{
+    let count = [page_run_len(map, page, PAGES) as u8];
+    put(buffer, 0x45, page.start(), &count)
+}
+
+// W or V.
+fn send_piece(image: &[u8], map: &[u8], command: u8, address: Address, buffer: &mut [u8]) -> usize
+    requires { ⌜
+        (length (now image) ≡ flashSize) × (length (now map) ≡ mapSize) × (259 ≤ length (now buffer))
+        × (carriesPiece command ≡ true) × (pieceStarts (now map) (address .0) ≡ true)
+        ⌝ }
+    ensures { λ r. ⌜
+        (let p = packet command (address .0) (pieceBytes (now (image .entry)) (now (map .entry)) (address .0)) in
+        (r ≡ length p) × (now (buffer .exit) ≡ overlay p (now (buffer .entry))))
+        ⌝ }
+{
+    let from = address.0 as usize;
+    let end = from + run_len(map, address, PIECE) as usize;
+    put(buffer, command, address, &image[from..end])
+}
+
+fn send_run(kind: RunKind, buffer: &mut [u8]) -> usize
+    requires { ⌜ 259 ≤ length (now buffer) ⌝ }
+    ensures { λ r. ⌜ (r ≡ length (runPacket kind)) × (now (buffer .exit) ≡ overlay (runPacket kind) (now (buffer .entry))) ⌝ }
+{
+    put(buffer, 0x52, run_address(kind), b"")
+}
+
+fn run_address(kind: RunKind) -> Address
+    ensures { λ r. ⌜ r .0 ≡ runAddress kind ⌝ }
+{
+    match kind {
+        RunKind::Reset => Address(1),
+        RunKind::Jump => Address(0),
+    }
+}
+
+// A packet that stands in the table, into a buffer that has room for any.
+fn put(buffer: &mut [u8], command: u8, address: Address, plain: &[u8]) -> usize
+    requires { ⌜
+        (259 ≤ length (now buffer)) × (listed command ≡ true)
+        × (inShape command (length (now plain) + 5) (getD (now plain) 0 0) ≡ true)
+        ⌝ }
+    ensures { λ r. ⌜
+        (let p = packet command (address .0) (now (plain .entry)) in
+        (r ≡ length p) × (now (buffer .exit) ≡ overlay p (now (buffer .entry))))
+        ⌝ }
+{
+    match build(buffer, command, address, plain) {
+        Built::Packet(len) => len,
+        Built::NoRoom => 0,
+        Built::Refused(_) => 0,
+    }
+}

@@ -1,0 +1,312 @@
+// The session: its start, its steps, and what they have proved.
+ghost use mathlib.Core.Path.{_≡_};
+ghost use mathlib.Core.Bool.{true};
+ghost use Prim.Native.Nat.{_+_, _*_, _^_, _<_, _≤_};
+ghost use lib.Dec.{eqb};
+ghost use lib.ListN.{length};
+ghost use Rattle.basis.specs.Board.{flashSize, mapSize};
+ghost use Rattle.basis.specs.Choice.{pick, both};
+ghost use Rattle.basis.specs.Lists.{overlay};
+ghost use Rattle.session.specs.Events.{classifyOf};
+ghost use Rattle.session.specs.Paper.{paperStepped, paperMark};
+ghost use Rattle.session.specs.Phases.{atStart};
+ghost use Rattle.session.specs.Session.{measured, sentBytes, rightSizes, started, judgedFirst, judgedLater, judgeOf, movedOf, heardOf, tookOf, sent, fitsOf, stepOf, provedOf};
+use crate::cursor::after;
+use crate::cursor::place;
+use crate::event::Event;
+use crate::event::classify;
+use crate::phase::Outcome;
+use crate::phase::Phase;
+use crate::phase::RunKind;
+use crate::phase::ended;
+use crate::sending::send;
+use basis::board::FLASH;
+use basis::board::MAP;
+use basis::units::Address;
+use runs::map::named;
+use runs::survey::Counts;
+use runs::survey::survey;
+
+// `acknowledged` of `total` packets are; `named` is how many bytes the file has.
+pub struct Session {
+    pub kind: RunKind,
+    pub phase: Phase,
+    pub acknowledged: u32,
+    pub total: u32,
+    pub named: u32,
+}
+
+// The next state, with the length of the packet that now stands in the buffer; an ending has none.
+pub struct Next {
+    pub session: Session,
+    pub len: usize,
+}
+
+pub enum Refusal {
+    // The image, the map or the packet buffer has the wrong size.
+    Size,
+    // The map names nothing.
+    Empty,
+    Ended,
+    // The file is not the one that the session came from.
+    Foreign,
+}
+
+pub enum Stepped {
+    Next(Next),
+    Refused(Refusal),
+}
+
+pub enum Mark {
+    Proved,
+    Open,
+    // The map has the wrong size.
+    Size,
+}
+
+// What an event means to a session.
+enum Verdict {
+    Greeted,
+    Acknowledged,
+    Over(Outcome),
+}
+
+impl Session {
+    // Writes the byte that opens the board, and waits for its greeting.
+    pub fn start(kind: RunKind, image: &[u8], map: &[u8], buffer: &mut [u8]) -> Stepped
+        ensures { λ r. ⌜
+            (let a = started (now (image .entry)) (now (map .entry)) (length (now (buffer .entry))) kind in
+            (paperStepped r ≡ measured a) × (now (buffer .exit) ≡ overlay (sentBytes a) (now (buffer .entry))))
+            ⌝ }
+    {
+        if !right_sizes(image.len(), map.len(), buffer.len()) {
+            return Stepped::Refused(Refusal::Size);
+        }
+        let found = survey(map, Address(0));
+        let all = found.all;
+        if all.named == 0 {
+            return Stepped::Refused(Refusal::Empty);
+        }
+        buffer[0] = 0x08;
+        let session = Session {
+            kind,
+            phase: Phase::Greeting,
+            acknowledged: 0,
+            total: total(all),
+            named: all.named,
+        };
+        Stepped::Next(Next { session, len: 1 })
+    }
+
+    // One event: the next state with its packet. Where `silent` no answer came.
+    pub fn step(
+        self,
+        silent: bool,
+        answer: &[u8],
+        image: &[u8],
+        map: &[u8],
+        buffer: &mut [u8],
+    ) -> Stepped
+        ensures { λ r. ⌜
+            (let a = stepOf (now (image .entry)) (now (map .entry)) (length (now (buffer .entry))) self (classifyOf silent (now (answer .entry))) in
+            (paperStepped r ≡ measured a) × (now (buffer .exit) ≡ overlay (sentBytes a) (now (buffer .entry))))
+            ⌝ }
+    {
+        if !right_sizes(image.len(), map.len(), buffer.len()) {
+            return Stepped::Refused(Refusal::Size);
+        }
+        let phase = self.phase;
+        if ended(phase) {
+            return Stepped::Refused(Refusal::Ended);
+        }
+        if !self.fits(map) {
+            return Stepped::Refused(Refusal::Foreign);
+        }
+        let event = classify(silent, answer);
+        Stepped::Next(self.take(event, image, map, buffer))
+    }
+
+    // Whether the byte is marked: the V of its piece is among the packets acknowledged.
+    pub fn proved(self, map: &[u8], address: Address) -> Mark
+        ensures { λ r. ⌜ paperMark r ≡ provedOf (now (map .entry)) self (address .0) ⌝ }
+    {
+        if map.len() != MAP {
+            return Mark::Size;
+        }
+        if FLASH <= address.0 {
+            return Mark::Open;
+        }
+        if !named(map, address) {
+            return Mark::Open;
+        }
+        let found = survey(map, address);
+        let all = found.all;
+        let below = found.below;
+        let pieces = below.pieces + one(found.piece);
+        if self.acknowledged < all.runs + all.pieces + pieces {
+            return Mark::Open;
+        }
+        Mark::Proved
+    }
+
+    // Whether some start and acknowledgements over this file lead here; one pass tells.
+    fn fits(self, map: &[u8]) -> bool
+        requires { ⌜ length (now map) ≡ mapSize ⌝ }
+        ensures { λ r. ⌜ r ≡ fitsOf (now (map .entry)) self ⌝ }
+    {
+        let phase = self.phase;
+        let at = place(phase);
+        if FLASH <= at.0 {
+            return false;
+        }
+        let found = survey(map, at);
+        let all = found.all;
+        let below = found.below;
+        if all.named == 0 {
+            return false;
+        }
+        if self.named != all.named {
+            return false;
+        }
+        if self.total != total(all) {
+            return false;
+        }
+        let k = self.acknowledged;
+        match phase {
+            Phase::Greeting => k == 0,
+            Phase::Erase(_) => ranked(found.run, below.runs, k),
+            Phase::Write(_) => ranked(found.piece, all.runs + below.pieces, k),
+            Phase::Verify(_) => ranked(found.piece, all.runs + all.pieces + below.pieces, k),
+            Phase::Run => all.runs + 2 * all.pieces == k,
+            Phase::Ended(_) => false,
+        }
+    }
+
+    // An event that is not refused.
+    fn take(self, event: Event, image: &[u8], map: &[u8], buffer: &mut [u8]) -> Next
+        requires { ⌜ (length (now image) ≡ flashSize) × (length (now map) ≡ mapSize) × (259 ≤ length (now buffer)) × (fitsOf (now map) self ≡ true) ⌝ }
+        ensures { λ r. ⌜
+            (let a = sent (now (image .entry)) (now (map .entry)) self event in
+            (r .session ≡ a .session) × (r .len ≡ length (a .packet)) × (now (buffer .exit) ≡ overlay (a .packet) (now (buffer .entry))))
+            ⌝ }
+    {
+        let session = self.took(event, map);
+        let kind = self.kind;
+        let phase = session.phase;
+        let len = send(image, map, kind, phase, buffer);
+        Next { session, len }
+    }
+
+    fn took(self, event: Event, map: &[u8]) -> Session
+        requires { ⌜ (length (now map) ≡ mapSize) × (atStart (now map) (self .phase) ≡ true) × (self .acknowledged < 2 ^ 31) ⌝ }
+        ensures { λ r. ⌜ r ≡ tookOf (now (map .entry)) self event ⌝ }
+    {
+        let phase = self.phase;
+        let verdict = judge(phase, event);
+        self.heard(verdict, map)
+    }
+
+    // On along the file, or over.
+    fn heard(self, verdict: Verdict, map: &[u8]) -> Session
+        requires { ⌜ (length (now map) ≡ mapSize) × (atStart (now map) (self .phase) ≡ true) × (self .acknowledged < 2 ^ 31) ⌝ }
+        ensures { λ r. ⌜ r ≡ heardOf (now (map .entry)) self verdict ⌝ }
+    {
+        let phase = self.phase;
+        match verdict {
+            Verdict::Greeted => self.moved(after(map, phase), 0),
+            Verdict::Acknowledged => self.moved(after(map, phase), 1),
+            Verdict::Over(outcome) => self.moved(Phase::Ended(outcome), 0),
+        }
+    }
+
+    fn moved(self, phase: Phase, more: u32) -> Session
+        requires { ⌜ self .acknowledged + more < 2 ^ 32 ⌝ }
+        ensures { λ r. ⌜ r ≡ movedOf self phase more ⌝ }
+    {
+        let kind = self.kind;
+        Session {
+            kind,
+            phase,
+            acknowledged: self.acknowledged + more,
+            total: self.total,
+            named: self.named,
+        }
+    }
+}
+
+fn judge(phase: Phase, event: Event) -> Verdict
+    ensures { λ r. ⌜ r ≡ judgeOf phase event ⌝ }
+{
+    match phase {
+        Phase::Greeting => judge_first(event),
+        Phase::Erase(_) => judge_later(event),
+        Phase::Write(_) => judge_later(event),
+        Phase::Verify(_) => judge_later(event),
+        Phase::Run => judge_later(event),
+        Phase::Ended(_) => judge_later(event),
+    }
+}
+
+// The greeting is awaited; all else ends the session.
+fn judge_first(event: Event) -> Verdict
+    ensures { λ r. ⌜ r ≡ judgedFirst event ⌝ }
+{
+    match event {
+        Event::Greeting => Verdict::Greeted,
+        Event::Ack => Verdict::Over(Outcome::NoGreeting),
+        Event::Bel => Verdict::Over(Outcome::NoGreeting),
+        Event::Other => Verdict::Over(Outcome::NoGreeting),
+        Event::Silence => Verdict::Over(Outcome::Silence),
+    }
+}
+
+// An acknowledgement is awaited; all else ends the session.
+fn judge_later(event: Event) -> Verdict
+    ensures { λ r. ⌜ r ≡ judgedLater event ⌝ }
+{
+    match event {
+        Event::Greeting => Verdict::Over(Outcome::Other),
+        Event::Ack => Verdict::Acknowledged,
+        Event::Bel => Verdict::Over(Outcome::Bel),
+        Event::Other => Verdict::Over(Outcome::Other),
+        Event::Silence => Verdict::Over(Outcome::Silence),
+    }
+}
+
+fn right_sizes(image: usize, map: usize, packet: usize) -> bool
+    ensures { λ r. ⌜ r ≡ rightSizes image map packet ⌝ }
+{
+    if image != FLASH as usize {
+        return false;
+    }
+    if map != MAP {
+        return false;
+    }
+    259 <= packet
+}
+
+// Each run once, each piece twice, and R.
+fn total(all: Counts) -> u32
+    requires { ⌜ (all .runs < 2 ^ 16) × (all .pieces < 2 ^ 16) ⌝ }
+    ensures { λ r. ⌜ r ≡ all .runs + 2 * all .pieces + 1 ⌝ }
+{
+    all.runs + 2 * all.pieces + 1
+}
+
+fn ranked(starts: bool, rank: u32, k: u32) -> bool
+    ensures { λ r. ⌜ r ≡ both starts (eqb rank k) ⌝ }
+{
+    if !starts {
+        return false;
+    }
+    rank == k
+}
+
+fn one(counts: bool) -> u32
+    ensures { λ r. ⌜ r ≡ pick counts 1 0 ⌝ }
+{
+    if counts {
+        return 1;
+    }
+    0
+}
