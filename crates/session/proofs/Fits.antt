@@ -1,26 +1,25 @@
 -- Each test of `fits` decides what the definition decides.
-use Prim.Native.Nat.{ℕ, _+_, _*_, _/_, _≤_, _<_}
+use Prim.Native.Nat.{ℕ, _+_, _*_, _≤_, _<_}
 use mathlib.Core.Bool.{Bool, true, false}
 use mathlib.Core.List.{List}
 use mathlib.Core.Path.{_≡_, refl, sym, ap, _∙_}
 use native.Mathlib.Omega.{arith}
 use native.Mathlib.Nat.{zero-add}
-use borrow.Author.Tests.{eq-eqb, ne-eqb, lt-ltb, le-ltb, lt-leb, le-leb, leb-true, leb-false}
+use borrow.Author.Tests.{eq-eqb, ne-eqb, lt-ltb, le-ltb, leb-true, leb-false}
 use lib.Dec.{eqb, leb, ltb}
 use lib.ListN.{length}
 use Rattle.basis.specs.Board.{pages, flashSize, mapSize}
-use Rattle.basis.specs.Choice.{pick, both}
-use Rattle.basis.specs.Laws.Choice.{decide, true-false, both-false}
+use Rattle.basis.specs.Choice.{both}
+use Rattle.basis.specs.Laws.Choice.{decide, both-false}
 use Rattle.basis.specs.Units.{pageOf, startOf}
 use Rattle.runs.specs.Laws.Files.{bytes-past, pages-past}
 use Rattle.runs.specs.Laws.Pieces.{starts-fail}
 use Rattle.runs.specs.Map.{named}
 use Rattle.runs.specs.Pages.{touched}
-use Rattle.runs.specs.Pieces.{pieceMost, pieceStarts, runStarts, runCount, pieceCount, namedCount}
-use Rattle.runs.specs.Runs.{count}
+use Rattle.runs.specs.Pieces.{pieceMost, namedCount}
 use Rattle.runs.specs.Survey.{surveyOf}
 use Rattle.runs.specs.declared.survey.Surveyed.{Surveyed}
-use Rattle.session.specs.Phases.{placeOf, ranked, standsOf}
+use Rattle.session.specs.Phases.{placeOf, standsOf}
 use Rattle.session.specs.Plan.{total}
 use Rattle.session.specs.Session.{fitsOf}
 use Rattle.session.specs.declared.phase.Phase.{Phase}

@@ -1,7 +1,7 @@
 -- What a start and a step hand back: a refusal leaves the buffer, and else it has the packet.
 use Prim.Native.Nat.{ℕ, _+_, _*_}
 use mathlib.Core.List.{List}
-use mathlib.Core.Path.{_≡_, refl, sym, ap, _∙_}
+use mathlib.Core.Path.{_≡_, refl, ap}
 use native.Mathlib.Omega.{arith}
 use lib.ListN.{length}
 use Rattle.basis.specs.Lists.{overlay}
@@ -13,7 +13,6 @@ use Rattle.session.specs.Session.{Sent, measured, sentBytes, waiting}
 use Rattle.session.specs.declared.phase.Phase.{Phase}
 use Rattle.session.specs.declared.phase.RunKind.{RunKind}
 use Rattle.session.specs.declared.session.Next.{Next}
-use Rattle.session.specs.declared.session.Session.{Session}
 use Rattle.session.proofs.Surveys.{told}
 
 pub kept : {a : Answer Sent} {n : ℕ} (old : List ℕ) → a ≡ refused n → (refused n ≡ measured a) × (old ≡ overlay (sentBytes a) old)

@@ -1,12 +1,11 @@
 -- Each test of `proved` decides what the definition decides.
-use Prim.Native.Nat.{ℕ, suc, _+_, _≤_, _<_}
+use Prim.Native.Nat.{ℕ, _+_, _≤_, _<_}
 use mathlib.Core.Bool.{Bool, true, false, not}
 use mathlib.Core.List.{List}
-use mathlib.Core.Path.{_≡_, refl, sym, ap, _∙_}
+use mathlib.Core.Path.{_≡_, sym, ap, _∙_}
 use native.Mathlib.Numerals.{add-one}
 use native.Mathlib.Omega.{arith}
 use borrow.Author.Tests.{eq-eqb, ne-eqb, le-leb, lt-leb}
-use lib.Dec.{eqb, leb}
 use lib.ListN.{length}
 use Rattle.basis.specs.Board.{flashSize, mapSize}
 use Rattle.basis.specs.Choice.{pick}
@@ -22,7 +21,7 @@ use Rattle.runs.specs.Survey.{surveyOf}
 use Rattle.runs.specs.declared.survey.Surveyed.{Surveyed}
 use Rattle.session.specs.Session.{marked, provedOf}
 use Rattle.session.specs.declared.session.Session.{Session}
-use Rattle.session.proofs.Surveys.{Told, told}
+use Rattle.session.proofs.Surveys.{told}
 
 module _ (m : List ℕ) (s : Session) (a : ℕ) where
   pub mark-size : (length m ≡ mapSize → ⊥) → refused 20 ≡ provedOf m s a

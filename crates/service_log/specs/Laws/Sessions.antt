@@ -1,10 +1,10 @@
 -- What is written reads back, a record that reads as valid says that all is acknowledged, and the log of a session tells its file's own counts.
-use Prim.Native.Nat.{ℕ, _+_, _*_, _/_, _%_, _^_, _≤_, _<_}
+use Prim.Native.Nat.{ℕ, _+_, _≤_, _<_}
 use mathlib.Core.Bool.{Bool, true, false, not}
 use mathlib.Core.List.{List}
 use mathlib.Core.Path.{_≡_, refl, sym, ap, _∙_}
 use native.Mathlib.Omega.{arith}
-use borrow.Author.Tests.{eq-eqb, eqb-true, ltb-true, ltb-false, lt-ltb, le-ltb, not-true, not-false}
+use borrow.Author.Tests.{eq-eqb, eqb-true, ltb-true, lt-ltb, le-ltb, not-false}
 use lib.Dec.{eqb, ltb}
 use lib.ListN.{length, getD}
 use Rattle.basis.specs.Board.{flashSize, mapSize}
@@ -25,7 +25,7 @@ use Rattle.session.specs.declared.phase.Phase.{Phase}
 use Rattle.session.specs.declared.phase.RunKind.{RunKind}
 use Rattle.session.specs.declared.session.Session.{Session}
 use Rattle.service_log.specs.Laws.FalseRecords.{valid, greeted, ungreeted}
-use Rattle.service_log.specs.Laws.Log.{write-small, write-given, read-given}
+use Rattle.service_log.specs.Laws.Log.{write-given, read-given}
 use Rattle.service_log.specs.Log.{known, isFalseOf, outcomeIn, twoBytes, fitTwo, recordBytes, writeOf, recordIn, pairAt, readOf}
 use Rattle.service_log.specs.declared.read.Record.{Record}
 

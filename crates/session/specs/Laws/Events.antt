@@ -1,8 +1,8 @@
 -- Laws of events.
-use Prim.Native.Nat.{ℕ, suc, _+_, _≤_, _<_}
+use Prim.Native.Nat.{ℕ, _+_, _≤_, _<_}
 use mathlib.Core.Bool.{Bool, true, false}
 use mathlib.Core.List.{List, [], _∷_}
-use mathlib.Core.Path.{_≡_, refl, sym, ap, ap₂, _∙_}
+use mathlib.Core.Path.{_≡_, refl, sym, ap₂}
 use native.Mathlib.Numerals.{add-one}
 use native.Mathlib.Omega.{arith}
 use borrow.Author.Tests.{eq-eqb, ne-eqb, eqb-true}
@@ -11,7 +11,8 @@ use lib.ListN.{length, getD, drop, drop-of-length-le}
 use lib.Seq.{drop-cons}
 use Rattle.basis.specs.Choice.{both}
 use Rattle.basis.specs.Laws.Choice.{both-true, true-false}
-use Rattle.session.specs.Events.{sameOf}
+use Rattle.session.specs.Events.{sameOf, greeting, greetsOf, classifyOf}
+use Rattle.session.specs.declared.event.Event.{Event}
 
 -- the same are equal, and equal lists the same
 pub same-equal : (s t : List ℕ) → sameOf s t ≡ true → s ≡ t
@@ -56,3 +57,21 @@ module _ (s t : List ℕ) (i : ℕ) (e : length s ≡ length t) where
   same-end l =
       let m : length t ≤ i = omega arith in
       rw (drop-of-length-le s l, drop-of-length-le t m)
+
+-- ---- what the answers of a board are
+
+pub greeting-heard : classifyOf false greeting ≡ Event.Greeting
+unfolding classifyOf greetsOf sameOf
+greeting-heard = refl
+
+pub ack-heard : classifyOf false (0x06 ∷ []) ≡ Event.Ack
+unfolding classifyOf greetsOf sameOf
+ack-heard = refl
+
+pub bel-heard : classifyOf false (0x07 ∷ []) ≡ Event.Bel
+unfolding classifyOf greetsOf sameOf
+bel-heard = refl
+
+pub silence-heard : (b : List ℕ) → classifyOf true b ≡ Event.Silence
+unfolding classifyOf
+silence-heard b = refl

@@ -1,21 +1,19 @@
 -- Laws of 46: what it is that a session fits a file.
-use Prim.Native.Nat.{ℕ, _+_, _≤_, _<_}
-use mathlib.Core.Bool.{Bool, true, false}
+use Prim.Native.Nat.{ℕ, _≤_, _<_}
+use mathlib.Core.Bool.{true}
 use mathlib.Core.List.{List}
-use mathlib.Core.Path.{_≡_, refl, sym, ap, _∙_}
-use native.Mathlib.Omega.{arith}
+use mathlib.Core.Path.{_≡_, refl}
 use borrow.Author.Tests.{eq-eqb, eqb-true, ltb-true, lt-ltb, leb-true}
 use lib.Dec.{eqb, leb, ltb}
 use lib.ListN.{length}
 use Rattle.basis.specs.Board.{flashSize, mapSize}
 use Rattle.basis.specs.Laws.Choice.{both-true}
 use Rattle.runs.specs.Pieces.{namedCount}
-use Rattle.session.specs.Laws.Phases.{stands-start, after-start}
-use Rattle.session.specs.Phases.{afterOf, atStart, standsOf}
+use Rattle.session.specs.Laws.Phases.{after-start}
+use Rattle.session.specs.Phases.{atStart, standsOf}
 use Rattle.session.specs.Plan.{total}
 use Rattle.session.specs.Session.{rightSizes, judgeOf, heardOf, tookOf, fitsOf}
 use Rattle.session.specs.declared.event.Event.{Event}
-use Rattle.session.specs.declared.phase.Phase.{Phase}
 use Rattle.session.specs.declared.session.Session.{Session}
 use Rattle.session.specs.declared.session.Verdict.{Verdict}
 

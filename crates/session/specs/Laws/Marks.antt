@@ -1,11 +1,10 @@
 -- Laws of marks: a byte is marked by the ACK to the V that holds it, and R is out only when every named byte is.
 use Prim.Native.Nat.{ℕ, suc, _+_, _-_, _*_, _≤_, _<_}
-use mathlib.Core.Bool.{Bool, true, false}
+use mathlib.Core.Bool.{Bool, true}
 use mathlib.Core.List.{List}
 use mathlib.Core.Path.{_≡_, refl, sym, ap, _∙_}
 use native.Mathlib.Omega.{arith}
 use borrow.Author.Tests.{le-leb, leb-true}
-use lib.Dec.{leb}
 use lib.ListN.{length, getD}
 use Rattle.basis.specs.Board.{flashSize, mapSize}
 use Rattle.basis.specs.Laws.Choice.{decide, both-true, both-second, both-false}

@@ -1,5 +1,5 @@
 -- Laws of phases: those that stand in a file are the phases after its acknowledgements, and each leads to the next.
-use Prim.Native.Nat.{ℕ, suc, _+_, _-_, _*_, _≤_, _<_}
+use Prim.Native.Nat.{ℕ, _+_, _-_, _*_, _≤_, _<_}
 use mathlib.Core.Bool.{Bool, true, false}
 use mathlib.Core.List.{List}
 use mathlib.Core.Path.{_≡_, refl, sym, ap, subst, _∙_}
@@ -8,7 +8,6 @@ use borrow.Author.Tests.{eq-eqb, eqb-true, ltb-true, ltb-false, lt-ltb, le-ltb}
 use lib.Dec.{eqb, ltb}
 use lib.ListN.{length}
 use Rattle.basis.specs.Board.{pages, flashSize, mapSize}
-use Rattle.basis.specs.Choice.{pick, both}
 use Rattle.basis.specs.Laws.Choice.{decide, both-true, true-false}
 use Rattle.runs.specs.Laws.Files.{bytes-past, pages-past}
 use Rattle.runs.specs.Laws.Pieces.{starts-below, first-starts, first-rank, follow-starts, follow-rank}
@@ -18,7 +17,7 @@ use Rattle.runs.specs.Pages.{touched}
 use Rattle.runs.specs.Pieces.{pieceMost, pieceStarts, runStarts, runCount, pieceCount, namedCount}
 use Rattle.runs.specs.Runs.{count, starts, next, select, follow}
 use Rattle.session.specs.Laws.Starts.{run-below, piece-below, first-piece-below, first-run-below}
-use Rattle.session.specs.Phases.{ended, erasing, writing, verifying, phaseAt, firstRun, firstPiece, nextRun, nextPiece, afterOf, atStart, ranked, standsOf}
+use Rattle.session.specs.Phases.{erasing, writing, verifying, phaseAt, firstPiece, nextRun, nextPiece, afterOf, atStart, ranked, standsOf}
 use Rattle.session.specs.Plan.{total}
 use Rattle.session.specs.declared.phase.Phase.{Phase}
 

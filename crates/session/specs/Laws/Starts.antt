@@ -1,24 +1,24 @@
 -- Where runs and pieces start on the board, and what their packets carry.
-use Prim.Native.Nat.{ℕ, _+_, _*_, _/_, _≤_, _<_}
-use mathlib.Core.Bool.{Bool, true, false}
+use Prim.Native.Nat.{ℕ, _+_, _/_, _≤_, _<_}
+use mathlib.Core.Bool.{true, false}
 use mathlib.Core.List.{List}
-use mathlib.Core.Path.{_≡_, refl, sym, ap, _∙_}
+use mathlib.Core.Path.{_≡_, sym, _∙_}
 use native.Mathlib.Omega.{arith}
 use borrow.Author.Tests.{eqb-true, ltb-true, ltb-false, le-leb}
 use lib.Dec.{eqb, leb, ltb}
-use lib.ListN.{length, getD, drop, length-drop}
+use lib.ListN.{length, drop, length-drop}
 use lib.Seq.{length-take-le}
 use Rattle.basis.specs.Board.{pages, flashSize, mapSize}
 use Rattle.basis.specs.Laws.Choice.{decide, true-false, both-second}
 use Rattle.packet.specs.Table.{listed, inShape, dataCount}
-use Rattle.runs.specs.Laws.Files.{bytes-past, pages-past, file-piece, file-run}
+use Rattle.runs.specs.Laws.Files.{bytes-past, pages-past, file-piece}
 use Rattle.runs.specs.Laws.Pages.{named-touched}
 use Rattle.runs.specs.Laws.Pieces.{starts-below, piece-some, piece-most}
 use Rattle.runs.specs.Laws.Runs.{count-zero, count-le, count-skip, next-pass, next-skip}
 use Rattle.runs.specs.Map.{named}
 use Rattle.runs.specs.Pages.{touched}
-use Rattle.runs.specs.Pieces.{pieceMost, pieceStarts, pieceLen, runStarts, runLen, runCount, pieceCount, namedCount}
-use Rattle.runs.specs.Runs.{count, next}
+use Rattle.runs.specs.Pieces.{pieceMost, pieceStarts, pieceLen, runStarts, runCount, pieceCount, namedCount}
+use Rattle.runs.specs.Runs.{count}
 use Rattle.session.specs.Phases.{firstRun, firstPiece}
 use Rattle.session.specs.Plan.{carriesPiece, pieceBytes}
 

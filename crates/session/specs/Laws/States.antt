@@ -1,13 +1,12 @@
 -- Laws of states: the state after k acknowledgements, what leads from one to the next, and that exactly these fit a file.
 use Prim.Native.Nat.{ℕ, _+_, _*_, _≤_, _<_}
-use native.Mathlib.Nat.{add-zero}
 use mathlib.Core.Bool.{Bool, true, false}
 use mathlib.Core.List.{List, []}
 use mathlib.Core.Path.{_≡_, refl, sym, ap, _∙_}
 use mathlib.Core.Logic.{_⊎_, inl, inr}
 use native.Mathlib.Omega.{arith}
-use borrow.Author.Tests.{eq-eqb, eqb-true, le-ltb}
-use lib.Dec.{eqb, ltb}
+use borrow.Author.Tests.{eqb-true, le-ltb}
+use lib.Dec.{ltb}
 use lib.ListN.{length, getD}
 use Rattle.basis.specs.Board.{mapSize}
 use Rattle.basis.specs.Choice.{pick}
@@ -20,7 +19,7 @@ use Rattle.session.specs.Laws.Plan.{plan-at}
 use Rattle.session.specs.Laws.Steps.{step-taken}
 use Rattle.session.specs.Phases.{ended, packetOut, erasing, writing, verifying, phaseAt, nextRun, nextPiece, afterOf, standsOf}
 use Rattle.session.specs.Plan.{plan, total}
-use Rattle.session.specs.Session.{sessionIn, waiting, stateAt, valid, Sent, rightSizes, judgedLater, judgeOf, heardOf, tookOf, sent, fitsOf, stepOf}
+use Rattle.session.specs.Session.{sessionIn, waiting, stateAt, valid, Sent, rightSizes, judgedLater, judgeOf, tookOf, sent, fitsOf, stepOf}
 use Rattle.session.specs.declared.event.Event.{Event}
 use Rattle.session.specs.declared.phase.Outcome.{Outcome}
 use Rattle.session.specs.declared.phase.Phase.{Phase}
