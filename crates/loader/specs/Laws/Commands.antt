@@ -169,3 +169,9 @@ module _ {A : Type 0} (k : ℕ) (l : Loader) (a : ℕ) (d f : List ℕ) (r : Ans
 pub run-passes : (l : Loader) (a : ℕ) → l .sequence .opened ≡ false → a ≤ 1 → running l a ≡ given (withCondition l Left)
 unfolding running
 run-passes l a p h = skip 9 _ _ _ p ∙ skip 7 _ _ _ (le-ltb _ _ h) ∙ done _
+
+pub run-let : {m : Loader} (l : Loader) (a : ℕ) → running l a ≡ given m → (l .sequence .opened ≡ false) × (a ≤ 1)
+unfolding running
+run-let l a e =
+    let p = passed 9 _ _ _ e in
+    (p .0, ltb-false _ _ (passed 7 _ _ _ (p .1) .0))
