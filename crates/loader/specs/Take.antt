@@ -5,6 +5,7 @@ use mathlib.Core.List.{List, [], _∷_}
 use mathlib.Core.Path.{_≡_}
 use lib.Dec.{ltb, eqb}
 use lib.ListN.{length, getD, take, drop}
+use Rattle.basis.specs.Board.{greeting}
 use Rattle.basis.specs.Choice.{pick, both, either}
 use Rattle.basis.specs.Lists.{overlay}
 use Rattle.basis.specs.Refusals.{Answer, refused, given, _when_, first, bare}
@@ -49,18 +50,6 @@ heardOf k l s f =
 unfoldable pub takeOf : ℕ → Loader → List ℕ → List ℕ → ℕ → Answer Effect
 takeOf k l s f room =
     first (20 when either (not (eqb (length f) (startOf k))) (ltb room 24) ∷ []) (heardOf k l s f)
-
--- "ADuC702x", three spaces, "-62", one space, "I31", four spaces, 0A 0D
-abbrev pub greeting : List ℕ
-greeting =
-    0x41 ∷ 0x44 ∷ 0x75 ∷ 0x43 ∷ 0x37 ∷ 0x30 ∷ 0x32 ∷ 0x78
-    ∷ 0x20 ∷ 0x20 ∷ 0x20
-    ∷ 0x2D ∷ 0x36 ∷ 0x32
-    ∷ 0x20
-    ∷ 0x49 ∷ 0x33 ∷ 0x31
-    ∷ 0x20 ∷ 0x20 ∷ 0x20 ∷ 0x20
-    ∷ 0x0A ∷ 0x0D
-    ∷ []
 
 -- 20, 11, 1 and 2 are not answered
 abbrev pub quiet : ℕ → Bool

@@ -15,11 +15,10 @@ use crate::verdict::Acted;
 use crate::verdict::Refusal;
 use crate::verdict::Verdict;
 use basis::board::FLASH;
+use basis::board::GREETING;
 use basis::buffers::write;
 use packet::read::Reading;
 use packet::read::read;
-
-const GREETING: [u8; 24] = *b"ADuC702x   -62 I31    \n\r";
 
 // The next loader, the verdict, and how many answer bytes were written.
 pub struct Taken {

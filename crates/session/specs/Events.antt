@@ -4,6 +4,7 @@ use mathlib.Core.Bool.{Bool, true, false}
 use mathlib.Core.List.{List, [], _∷_}
 use lib.Dec.{eqb}
 use lib.ListN.{length, take, drop}
+use Rattle.basis.specs.Board.{greeting}
 use Rattle.basis.specs.Choice.{pick, both}
 use Rattle.session.specs.declared.event.Event.{Event}
 
@@ -13,17 +14,6 @@ sameOf [] [] = true
 sameOf [] (y ∷ t) = false
 sameOf (x ∷ s) [] = false
 sameOf (x ∷ s) (y ∷ t) = both (eqb x y) (sameOf s t)
-
--- the greeting: "ADuC702x", three spaces, "-62", one space, "I31", four spaces, 0A 0D
-abbrev pub greeting : List ℕ
-greeting =
-    0x41 ∷ 0x44 ∷ 0x75 ∷ 0x43 ∷ 0x37 ∷ 0x30 ∷ 0x32 ∷ 0x78
-    ∷ 0x20 ∷ 0x20 ∷ 0x20
-    ∷ 0x2D ∷ 0x36 ∷ 0x32
-    ∷ 0x20
-    ∷ 0x49 ∷ 0x33 ∷ 0x31
-    ∷ 0x20 ∷ 0x20 ∷ 0x20 ∷ 0x20
-    ∷ 0x0A ∷ 0x0D ∷ []
 
 -- 24 bytes: bytes 0 to 14 and the last two exact, the rest free
 unfoldable pub greetsOf : List ℕ → Bool

@@ -9,9 +9,10 @@ use borrow.Author.Tests.{eq-eqb, ne-eqb, eqb-true}
 use lib.Dec.{eqb}
 use lib.ListN.{length, getD, drop, drop-of-length-le}
 use lib.Seq.{drop-cons}
+use Rattle.basis.specs.Board.{greeting}
 use Rattle.basis.specs.Choice.{both}
 use Rattle.basis.specs.Laws.Choice.{both-true, true-false}
-use Rattle.session.specs.Events.{sameOf, greeting, greetsOf, classifyOf}
+use Rattle.session.specs.Events.{sameOf, greetsOf, classifyOf}
 use Rattle.session.specs.declared.event.Event.{Event}
 
 -- the same are equal, and equal lists the same

@@ -5,10 +5,11 @@ use mathlib.Core.List.{[], _∷_}
 use mathlib.Core.Path.{_≡_, refl, ap, sym, _∙_}
 use native.Mathlib.Omega.{arith}
 use borrow.Author.Needs.{needs}
+use Rattle.basis.specs.Board.{greeting}
 use Rattle.basis.specs.Laws.Lists.{overlay-next}
 use Rattle.basis.specs.Refusals.{Answer, refused, given}
 use Rattle.loader.specs.Paper.{paperVerdict}
-use Rattle.loader.specs.Take.{greeting, quiet, toldOf}
+use Rattle.loader.specs.Take.{quiet, toldOf}
 use Rattle.loader.proofs.take.tell.Statement.{statement}
 use Rattle.loader.proofs.take.tell.Tie as tie
 

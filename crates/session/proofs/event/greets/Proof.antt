@@ -7,8 +7,9 @@ use borrow.Author.Needs.{needs}
 use borrow.Author.Tests.{eq-eqb, ne-eqb, not-true, not-false}
 use lib.ListN.{length, drop, length-drop}
 use lib.Seq.{length-take-le, take-all}
+use Rattle.basis.specs.Board.{greeting}
 use Rattle.basis.specs.Laws.Choice.{both-second, both-false}
-use Rattle.session.specs.Events.{sameOf, greeting, greetsOf}
+use Rattle.session.specs.Events.{sameOf, greetsOf}
 use Rattle.session.proofs.event.greets.Statement.{statement}
 use Rattle.session.proofs.event.greets.Tie as tie
 
