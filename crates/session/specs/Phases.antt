@@ -51,11 +51,11 @@ phaseAt m k =
     Phase.Run))
 
 -- the first touched page and the first named byte
-abbrev pub firstRun : List ℕ → ℕ
-firstRun m = next (touched m) 0 pages
+abbrev pub lowestRun : List ℕ → ℕ
+lowestRun m = next (touched m) 0 pages
 
-abbrev pub firstPiece : List ℕ → ℕ
-firstPiece m = next (named m) 0 flashSize
+abbrev pub lowestPiece : List ℕ → ℕ
+lowestPiece m = next (named m) 0 flashSize
 
 -- where the run after the one at q, and the piece after the one at a, start; the board's end where there is none
 abbrev pub nextRun : List ℕ → ℕ → ℕ
@@ -66,9 +66,9 @@ nextPiece m a = follow (named m) pieceMost flashSize a
 
 -- the phase that follows when the answer is the right one
 unfoldable pub afterOf : List ℕ → Phase → Phase
-afterOf m Phase.Greeting = erasing (firstRun m)
-afterOf m (Phase.Erase p) = pick (ltb (nextRun m (p .0)) pages) (erasing (nextRun m (p .0))) (writing (firstPiece m))
-afterOf m (Phase.Write a) = pick (ltb (nextPiece m (a .0)) flashSize) (writing (nextPiece m (a .0))) (verifying (firstPiece m))
+afterOf m Phase.Greeting = erasing (lowestRun m)
+afterOf m (Phase.Erase p) = pick (ltb (nextRun m (p .0)) pages) (erasing (nextRun m (p .0))) (writing (lowestPiece m))
+afterOf m (Phase.Write a) = pick (ltb (nextPiece m (a .0)) flashSize) (writing (nextPiece m (a .0))) (verifying (lowestPiece m))
 afterOf m (Phase.Verify a) = pick (ltb (nextPiece m (a .0)) flashSize) (verifying (nextPiece m (a .0))) Phase.Run
 afterOf m Phase.Run = Phase.Ended Outcome.Valid
 afterOf m (Phase.Ended o) = Phase.Ended o

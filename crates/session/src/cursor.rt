@@ -4,7 +4,7 @@ ghost use mathlib.Core.Bool.{true};
 ghost use Prim.Native.Nat.{_<_};
 ghost use lib.ListN.{length};
 ghost use Rattle.basis.specs.Board.{pages, flashSize, mapSize};
-ghost use Rattle.session.specs.Phases.{atStart, firstRun, firstPiece, nextRun, nextPiece, afterOf, placeOf};
+ghost use Rattle.session.specs.Phases.{atStart, lowestRun, lowestPiece, nextRun, nextPiece, afterOf, placeOf};
 ghost use Rattle.session.specs.declared.phase.Phase.{Phase};
 use crate::phase::Outcome;
 use crate::phase::Phase;
@@ -91,14 +91,14 @@ fn after_verify(map: &[u8], address: Address) -> Phase
 
 fn first_run(map: &[u8]) -> Page
     requires { ⌜ length (now map) ≡ mapSize ⌝ }
-    ensures { λ r. ⌜ r .0 ≡ firstRun (now (map .entry)) ⌝ }
+    ensures { λ r. ⌜ r .0 ≡ lowestRun (now (map .entry)) ⌝ }
 {
     next_touched(map, Page(0), Page(PAGES))
 }
 
 fn first_piece(map: &[u8]) -> Address
     requires { ⌜ length (now map) ≡ mapSize ⌝ }
-    ensures { λ r. ⌜ r .0 ≡ firstPiece (now (map .entry)) ⌝ }
+    ensures { λ r. ⌜ r .0 ≡ lowestPiece (now (map .entry)) ⌝ }
 {
     next_named(map, Address(0), Address(FLASH))
 }

@@ -15,6 +15,7 @@ use Rattle.basis.specs.Sums.{total, sumOf}
 use Rattle.image.specs.Digits.{digitOf, allDigits, bytesOf}
 use Rattle.image.specs.Writer.{letterOf, spelt, line}
 use Rattle.image.specs.Laws.Writer.{length-spelt, spelt-digits, spelt-bytes}
+use Rattle.basis.specs.Laws.Choice.{either-none}
 use Rattle.image.specs.Record.{count, kind, address, noColon, lengthWrong, notDigits, countWrong, sumWrong, isData, kindWrong, shapeWrong, charactersOf, framingOf, shapeOf}
 use Rattle.image.specs.Hex.{file, place, placeWrong, placeTaken, placed, toldOf, sizeWrong, recordIn, applyIn, dataIn}
 use Rattle.image.specs.declared.hex.Hex.{Hex}
@@ -24,16 +25,12 @@ pub never : (t : Bool) → both t false ≡ false
 never true = refl
 never false = refl
 
-either-false : (a b : Bool) → either a b ≡ false → (a ≡ false) × (b ≡ false)
-either-false true b e = (e, cc)
-either-false false b e = (refl, e)
-
 -- types 02 to 05 have BB 2
 pub shape-count : (b : List ℕ) → shapeOf b ≡ given tt → (kind b ≡ 0 → ⊥) → (kind b ≡ 1 → ⊥) → count b ≡ 2
 unfolding shapeOf
 shape-count b e n0 n1 =
     let p = passed 28 (shapeWrong b) _ _ (passed 27 (kindWrong b) _ _ e .1) .0 in
-    let q = either-false (not (eqb (address b) 0)) (not (eqb (count b) 2)) (simp (ne-eqb _ _ n0, ne-eqb _ _ n1) at p) in
+    let q = either-none (not (eqb (address b) 0)) (not (eqb (count b) 2)) (simp (ne-eqb _ _ n0, ne-eqb _ _ n1) at p) in
     eqb-true _ _ (not-false (eqb (count b) 2) (q .1))
 
 -- BB as the length says
@@ -52,8 +49,8 @@ unfolding charactersOf
 characters-length line e =
     let n = length line in
     let w = passed 23 (lengthWrong line) _ _ (passed 22 (noColon line) _ _ e .1) .0 in
-    let p = either-false (ltb n 11) (either (ltb 521 n) (eqb (n % 2) 0)) w in
-    let q = either-false (ltb 521 n) (eqb (n % 2) 0) (p .1) in
+    let p = either-none (ltb n 11) (either (ltb 521 n) (eqb (n % 2) 0)) w in
+    let q = either-none (ltb 521 n) (eqb (n % 2) 0) (p .1) in
     let z = eqb-false (n % 2) 0 (q .1) in
     record { least = ltb-false _ _ (p .0); most = ltb-false _ _ (q .0); odd = one (n % 2) z (omega arith) }
   where

@@ -17,7 +17,7 @@ use Rattle.runs.specs.Pages.{touched}
 use Rattle.runs.specs.Pieces.{pieceMost, pieceStarts, runStarts, runCount, pieceCount, namedCount}
 use Rattle.runs.specs.Runs.{count, starts, next, select, follow}
 use Rattle.session.specs.Laws.Starts.{run-below, piece-below, first-piece-below, first-run-below}
-use Rattle.session.specs.Phases.{erasing, writing, verifying, phaseAt, firstPiece, nextRun, nextPiece, afterOf, atStart, ranked, standsOf}
+use Rattle.session.specs.Phases.{erasing, writing, verifying, phaseAt, lowestPiece, nextRun, nextPiece, afterOf, atStart, ranked, standsOf}
 use Rattle.session.specs.Plan.{total}
 use Rattle.session.specs.declared.phase.Phase.{Phase}
 
@@ -140,7 +140,7 @@ at-stands m k l =
 -- ---- from phase to phase
 
 module _ (m : List ℕ) (long : length m ≡ mapSize) (some : 0 < namedCount m) where
-  first-piece-ranked : (base : ℕ) → ranked (pieceStarts m) base (firstPiece m) base ≡ true
+  first-piece-ranked : (base : ℕ) → ranked (pieceStarts m) base (lowestPiece m) base ≡ true
   first-piece-ranked base = first-ranked (named m) pieceMost flashSize (omega arith) (bytes-past m long) base (first-piece-below m long some)
 
   pub greeting-stands : standsOf m (afterOf m Phase.Greeting) 0 ≡ true
@@ -152,7 +152,7 @@ module _ (m : List ℕ) (long : length m ≡ mapSize) (some : 0 < namedCount m) 
   erase-stands q k h =
       decide (ltb (nextRun m q) pages)
       (λ d. rw d (follow-ranked (touched m) pages pages (omega arith) (pages-past m long) 0 q k h (ltb-true _ _ d)))
-      (λ d. rw d (subst (λ (j : ℕ). ranked (pieceStarts m) (runCount m) (firstPiece m) j ≡ true)
+      (λ d. rw d (subst (λ (j : ℕ). ranked (pieceStarts m) (runCount m) (lowestPiece m) j ≡ true)
       (omega (arith, follow-last (touched m) pages pages (omega arith) (pages-past m long) 0 q k h (ltb-false _ _ d)))
       (first-piece-ranked (runCount m))))
 
@@ -161,7 +161,7 @@ module _ (m : List ℕ) (long : length m ≡ mapSize) (some : 0 < namedCount m) 
   write-stands a k h =
       decide (ltb (nextPiece m a) flashSize)
       (λ d. rw d (follow-ranked (named m) pieceMost flashSize (omega arith) (bytes-past m long) (runCount m) a k h (ltb-true _ _ d)))
-      (λ d. rw d (subst (λ (j : ℕ). ranked (pieceStarts m) (runCount m + pieceCount m) (firstPiece m) j ≡ true)
+      (λ d. rw d (subst (λ (j : ℕ). ranked (pieceStarts m) (runCount m + pieceCount m) (lowestPiece m) j ≡ true)
       (follow-last (named m) pieceMost flashSize (omega arith) (bytes-past m long) (runCount m) a k h (ltb-false _ _ d))
       (first-piece-ranked (runCount m + pieceCount m))))
 

@@ -19,7 +19,7 @@ use Rattle.runs.specs.Map.{named}
 use Rattle.runs.specs.Pages.{touched}
 use Rattle.runs.specs.Pieces.{pieceMost, pieceStarts, pieceLen, runStarts, runCount, pieceCount, namedCount}
 use Rattle.runs.specs.Runs.{count}
-use Rattle.session.specs.Phases.{firstRun, firstPiece}
+use Rattle.session.specs.Phases.{lowestRun, lowestPiece}
 use Rattle.session.specs.Plan.{carriesPiece, pieceBytes}
 
 -- e and w are small
@@ -38,20 +38,20 @@ module _ (m : List ℕ) (long : length m ≡ mapSize) where
   piece-below = starts-below (named m) pieceMost flashSize (omega arith) (bytes-past m long)
 
   -- a file with a named byte has a first piece and a first run
-  pub first-piece-below : 0 < namedCount m → firstPiece m < flashSize
+  pub first-piece-below : 0 < namedCount m → lowestPiece m < flashSize
   first-piece-below some =
-      decide (ltb (firstPiece m) flashSize) (λ d. ltb-true _ _ d)
+      decide (ltb (lowestPiece m) flashSize) (λ d. ltb-true _ _ d)
       (λ d. absurd (omega (arith, none d, count-zero (named m))))
     where
-      none : ltb (firstPiece m) flashSize ≡ false → count (named m) (0 + flashSize) ≡ count (named m) 0
-      none d = count-skip (named m) 0 flashSize (λ i u v. next-skip (named m) flashSize 0 i u (omega (arith, ltb-false (firstPiece m) flashSize d)))
+      none : ltb (lowestPiece m) flashSize ≡ false → count (named m) (0 + flashSize) ≡ count (named m) 0
+      none d = count-skip (named m) 0 flashSize (λ i u v. next-skip (named m) flashSize 0 i u (omega (arith, ltb-false (lowestPiece m) flashSize d)))
 
-  pub first-run-below : 0 < namedCount m → firstRun m < pages
+  pub first-run-below : 0 < namedCount m → lowestRun m < pages
   first-run-below some =
       let l = first-piece-below some in
-      decide (ltb (firstRun m) pages) (λ d. ltb-true _ _ d)
-      (λ d. absurd (true-false (sym (named-touched m (firstPiece m) (next-pass (named m) flashSize 0 (omega arith)))
-      ∙ next-skip (touched m) pages 0 (firstPiece m / 512) (omega arith) (omega (arith, ltb-false (firstRun m) pages d)))))
+      decide (ltb (lowestRun m) pages) (λ d. ltb-true _ _ d)
+      (λ d. absurd (true-false (sym (named-touched m (lowestPiece m) (next-pass (named m) flashSize 0 (omega arith)))
+      ∙ next-skip (touched m) pages 0 (lowestPiece m / 512) (omega arith) (omega (arith, ltb-false (lowestRun m) pages d)))))
 
   -- a piece has 1 to 250 bytes, all in the image
   pub piece-carried : (image : List ℕ) (a : ℕ) → length image ≡ flashSize → pieceStarts m a ≡ true

@@ -15,7 +15,7 @@ use Rattle.runs.specs.Pages.{touched}
 use Rattle.runs.specs.Pieces.{pieceMost, pieceStarts, runStarts, pieceCount, namedCount}
 use Rattle.runs.specs.Runs.{count, starts}
 use Rattle.session.specs.Laws.Starts.{runs-most, first-piece-below, first-run-below}
-use Rattle.session.specs.Phases.{firstRun, firstPiece}
+use Rattle.session.specs.Phases.{lowestRun, lowestPiece}
 use Rattle.session.specs.Plan.{total}
 
 -- of numbers that never pass side by side at most every second does
@@ -47,6 +47,6 @@ pub total-least : (m : List ℕ) → length m ≡ mapSize → 0 < namedCount m �
 total-least m long some =
     let a = first-piece-below m long some in
     let q = first-run-below m long some in
-    let p = rank-below (pieceStarts m) flashSize (firstPiece m) a (first-starts (named m) pieceMost flashSize (omega arith) (bytes-past m long) a) in
-    let r = rank-below (runStarts m) pages (firstRun m) q (first-starts (touched m) pages pages (omega arith) (pages-past m long) q) in
+    let p = rank-below (pieceStarts m) flashSize (lowestPiece m) a (first-starts (named m) pieceMost flashSize (omega arith) (bytes-past m long) a) in
+    let r = rank-below (runStarts m) pages (lowestRun m) q (first-starts (touched m) pages pages (omega arith) (pages-past m long) q) in
     omega arith
