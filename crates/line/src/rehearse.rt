@@ -47,7 +47,7 @@ pub fn rehearse(
     }
     let mut packet = [0u8; 259];
     let mut answer = [0u8; 24];
-    open_and_drive(
+    begin(
         kind,
         loader,
         losses,
@@ -59,7 +59,7 @@ pub fn rehearse(
     )
 }
 
-fn open_and_drive(
+fn begin(
     kind: RunKind,
     loader: Loader,
     losses: &[u8],

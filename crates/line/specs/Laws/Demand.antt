@@ -132,7 +132,7 @@ module _ (image m before : List ℕ) (right : length image ≡ flashSize) (long 
   -- ---- the end
 
   -- after the end nothing changes
-  stays : (i n : ℕ) → i ≤ n → ended (after i .session .phase) ≡ true → after n ≡ after i
+  pub stays : (i n : ℕ) → i ≤ n → ended (after i .session .phase) ≡ true → after n ≡ after i
   unfolding momentAt
   stays i zero b h = let z : 0 ≡ i = omega arith in ap after z
   stays i (suc n) b h =
@@ -142,13 +142,16 @@ module _ (image m before : List ℕ) (right : length image ≡ flashSize) (long 
       ap (λ (x : Bool). pick x (after n) (exchangeOf image m (losses n) (after n))) (ap (λ (x : Moment). ended (x .session .phase)) e ∙ h) ∙ e)
 
   -- a load ends by itself, after at most e + 2w + 2 exchanges
-  pub finite : ended (after (total m + 1) .session .phase) ≡ true
-  finite = go (after (total m + 1)) (stage image m before right long some bytes kind l size losses (total m + 1))
+  pub going : (n : ℕ) → ended (after n .session .phase) ≡ false → n ≤ total m
+  going n t = go (after n) (stage image m before right long some bytes kind l size losses n) t
     where
-      go : (x : Moment) → Stage image m before right long some bytes kind l (total m + 1) x → ended (x .session .phase) ≡ true
-      go x (starts z q) = absurd (omega arith)
-      go x (stands e k z b s h q) = absurd (omega arith)
-      go x (ends e u k h v q) = ap (λ (y : Moment). ended (y .session .phase)) q
+      go : (x : Moment) → Stage image m before right long some bytes kind l n x → ended (x .session .phase) ≡ false → n ≤ total m
+      go x (starts z q) t = omega arith
+      go x (stands e k z b s h q) t = omega arith
+      go x (ends e u k h v q) t = absurd (true-false (sym (ap (λ (y : Moment). ended (y .session .phase)) q) ∙ t))
+
+  pub finite : ended (after (total m + 1) .session .phase) ≡ true
+  finite = decide (ended (after (total m + 1) .session .phase)) (λ t. t) (λ t. absurd (omega (arith, going (total m + 1) t)))
 
   -- while the session goes on the next exchange takes place
   follows : (n : ℕ) → ended (after n .session .phase) ≡ false → after (suc n) ≡ exchangeOf image m (losses n) (after n)
@@ -174,7 +177,7 @@ module _ (image m before : List ℕ) (right : length image ≡ flashSize) (long 
     pub silent : (n : ℕ) → i < n → after n .session .phase ≡ Phase.Ended Outcome.Silence
     silent n b =
         let e : after (suc i) .session .phase ≡ Phase.Ended Outcome.Silence
-            = ap (λ (x : Moment). x .session .phase) (follows i goes-on) ∙ hushed (losses i) i (after i) (stage image m before right long some bytes kind l size losses i) goes-on no-answer in
+        = ap (λ (x : Moment). x .session .phase) (follows i goes-on) ∙ hushed (losses i) i (after i) (stage image m before right long some bytes kind l size losses i) goes-on no-answer in
         ap (λ (x : Moment). x .session .phase) (stays (suc i) n b (ap ended e)) ∙ e
 
     pub never-valid : (n : ℕ) → Valid (after n .session) → ⊥

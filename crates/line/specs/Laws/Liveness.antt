@@ -221,21 +221,27 @@ module _ (image m : List ℕ) (right : length image ≡ flashSize) (long : lengt
   pub lets : Turn m k → (e : Effect) × Lets image m l sends f k e
   lets (erases q e r b) = (record { loader = l; flash = erased q r b }, erase-let q r b (ap (packetOut image m kind) e))
   lets (writes s j e r t b) = (record { loader = l; flash = stored s j r t }, write-let s j r t (ap (packetOut image m kind) e))
-  lets (verifies s j e r t b) = (record { loader = l; flash = f }, record {
-    let-is = ap (λ (ph : Phase). takes l (packetOut image m kind ph) f) e
-        ∙ takes-verify image m right long l serves f (h .size) s (r .begins)
-        ∙ ap (keeping f) (verify-passes pages l s (map turnedOf (pieceBytes image m s)) f (given l) (serves .sequence-is)
-        (omega (arith, length-map (piece s j r) turnedOf, long-is s j r, fits s j r)) (free .readable) (verify-same s j r (omega arith)));
-    grows = late-grows (omega arith);
-    loader-is = λ z. refl;
-  })
-  lets (runs e t) = (record { loader = withCondition l Left; flash = f }, record {
-    let-is = ap (λ (ph : Phase). takes l (packetOut image m kind ph) f) e
-        ∙ takes-run image m right long l serves f (h .size) kind
-        ∙ ap (keeping f) (run-passes l (runAddress kind) (serves .sequence-is) (low kind));
-    grows = late-grows (omega arith);
-    loader-is = λ z. absurd (omega arith);
-  })
+  lets (verifies s j e r t b) = (
+    record { loader = l; flash = f },
+    record {
+      let-is = ap (λ (ph : Phase). takes l (packetOut image m kind ph) f) e
+          ∙ takes-verify image m right long l serves f (h .size) s (r .begins)
+          ∙ ap (keeping f) (verify-passes pages l s (map turnedOf (pieceBytes image m s)) f (given l) (serves .sequence-is)
+          (omega (arith, length-map (piece s j r) turnedOf, long-is s j r, fits s j r)) (free .readable) (verify-same s j r (omega arith)));
+      grows = late-grows (omega arith);
+      loader-is = λ z. refl;
+    },
+  )
+  lets (runs e t) = (
+    record { loader = withCondition l Left; flash = f },
+    record {
+      let-is = ap (λ (ph : Phase). takes l (packetOut image m kind ph) f) e
+          ∙ takes-run image m right long l serves f (h .size) kind
+          ∙ ap (keeping f) (run-passes l (runAddress kind) (serves .sequence-is) (low kind));
+      grows = late-grows (omega arith);
+      loader-is = λ z. absurd (omega arith);
+    },
+  )
     where
       low : (kind : RunKind) → runAddress kind ≤ 1
       low RunKind.Reset = omega arith
