@@ -1,14 +1,13 @@
 -- How a rehearsal begins: its table is the start's, and what the start gives is a moment that is begun.
 use Prim.Native.Nat.{ℕ, _+_, _<_}
-use mathlib.Core.Bool.{Bool, true, false, not}
+use mathlib.Core.Bool.{not}
 use mathlib.Core.List.{List, [], _∷_}
-use mathlib.Core.Path.{_≡_, refl, sym, ap, subst, _∙_}
+use mathlib.Core.Path.{_≡_, refl, sym, ap, _∙_}
 use native.Mathlib.Omega.{arith}
 use borrow.Author.Tests.{eq-eqb, ne-eqb, eqb-true, eqb-false}
-use lib.Dec.{eqb, leb}
+use lib.Dec.{eqb}
 use lib.ListN.{length, take}
 use Rattle.basis.specs.Board.{flashSize, mapSize}
-use Rattle.basis.specs.Choice.{both}
 use Rattle.basis.specs.Laws.Choice.{decide, both-true, both-false}
 use Rattle.basis.specs.Laws.Refusals.{stop, alike, through, apart, given-one, refused-one}
 use Rattle.basis.specs.Lists.{overlay}

@@ -1,24 +1,21 @@
 -- What the loader's part of an exchange shows, by what befalls it, and what the session's part makes of it.
-use Prim.Native.Nat.{ℕ, _+_, _≤_}
-use mathlib.Core.Bool.{Bool}
-use mathlib.Core.List.{List, [], _∷_, _++_}
+use Prim.Native.Nat.{ℕ, _≤_}
+use mathlib.Core.List.{List}
 use mathlib.Core.Path.{_≡_, refl, sym, ap, subst, _∙_}
 use native.Mathlib.Omega.{arith}
 use lib.Dec.{eqb}
-use lib.ListN.{length, take, drop, length-append}
+use lib.ListN.{length, take, length-append}
 use lib.Seq.{take-append-seam}
 use Rattle.basis.specs.Board.{pages}
 use Rattle.basis.specs.Laws.Refusals.{apart, given-one}
 use Rattle.basis.specs.Lists.{overlay}
 use Rattle.basis.specs.Refusals.{Answer, refused, given}
-use Rattle.line.specs.Line.{Moment, takes, servedOf, sends, arrives, reply, heard, stepped, between, onward, exchangeOf, Delivers, Exchanges}
+use Rattle.line.specs.Line.{Moment, takes, sends, arrives, reply, stepped, between, onward, exchangeOf, Delivers, Exchanges}
 use Rattle.line.specs.declared.exchange.Loss.{Loss}
-use Rattle.loader.specs.Commands.{Effect}
 use Rattle.loader.specs.Take.{takeOf, Takes}
 use Rattle.loader.specs.declared.state.Loader.{Loader}
 use Rattle.session.specs.Events.{classifyOf}
 use Rattle.session.specs.Session.{Sent, measured, sentBytes, stepOf}
-use Rattle.session.specs.declared.event.Event.{Event}
 use Rattle.session.specs.declared.session.Next.{Next}
 
 pub lost : {o : Loss} {l : Loader} {s f old : List ℕ} → o ≡ Loss.Lost → Delivers o l s f old l 0 f old

@@ -1,11 +1,11 @@
 -- One turn of a load: an exchange leads from the moment after i exchanges to the one after i + 1, and the load ends.
-use Prim.Native.Nat.{ℕ, suc, _+_, _≤_, _<_}
+use Prim.Native.Nat.{ℕ, _+_, _≤_, _<_}
 use mathlib.Core.Bool.{Bool, true, false}
-use mathlib.Core.List.{List, [], _∷_, _++_}
-use mathlib.Core.Path.{_≡_, refl, sym, ap, subst, _∙_}
+use mathlib.Core.List.{List}
+use mathlib.Core.Path.{_≡_, sym, ap, _∙_}
 use native.Mathlib.Numerals.{add-one}
 use native.Mathlib.Omega.{arith}
-use lib.ListN.{length, take, drop, length-append}
+use lib.ListN.{length, take, length-append}
 use lib.Seq.{take-append-seam, length-take-le}
 use Rattle.basis.specs.Board.{flashSize, mapSize}
 use Rattle.basis.specs.Choice.{pick}
@@ -21,7 +21,6 @@ use Rattle.session.specs.Phases.{ended}
 use Rattle.session.specs.Plan.{total}
 use Rattle.session.specs.Session.{Sent, sentBytes}
 use Rattle.session.specs.declared.phase.RunKind.{RunKind}
-use Rattle.session.specs.declared.session.Session.{Session}
 
 -- ---- what an exchange leaves in the packet buffer is what is on the wire
 

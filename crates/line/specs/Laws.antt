@@ -3,3 +3,5 @@ pub mod Safety
 pub mod Stages
 pub mod Liveness
 pub mod Demand
+pub mod Rehearsal
+pub mod Worked

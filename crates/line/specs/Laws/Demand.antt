@@ -11,7 +11,7 @@ use mathlib.Core.Path.{_≡_, refl, sym, ap, subst, _∙_}
 use native.Mathlib.Omega.{arith}
 use borrow.Author.Tests.{eqb-true, eqb-false, ltb-true, ltb-false}
 use lib.Dec.{eqb, ltb}
-use lib.ListN.{length, getD}
+use lib.ListN.{length}
 use Rattle.basis.specs.Board.{pages, flashSize, mapSize}
 use Rattle.basis.specs.Choice.{pick}
 use Rattle.basis.specs.Laws.Choice.{decide, true-false}
@@ -19,12 +19,12 @@ use Rattle.basis.specs.Laws.Refusals.{given-one}
 use Rattle.basis.specs.Lists.{Bytes}
 use Rattle.basis.specs.Refusals.{Answer, given}
 use Rattle.basis.specs.Units.{pageOf, startOf}
-use Rattle.line.specs.Demand.{Proved, AllProved, Stands, RunOut, Valid, Safe}
-use Rattle.line.specs.Laws.Exchange.{silence-is, let-acked, standing, over, served, taken, on-ack, on-last, taken-first, on-greeting}
+use Rattle.line.specs.Demand.{AllProved, Stands, RunOut, Valid, Safe}
+use Rattle.line.specs.Laws.Exchange.{silence-is, let-acked, standing, served, taken, on-ack, on-last, taken-first, on-greeting}
 use Rattle.line.specs.Laws.Liveness.{Free, Grows, Lets, lets}
-use Rattle.line.specs.Laws.Safety.{Serves, Untouched}
+use Rattle.line.specs.Laws.Safety.{Serves}
 use Rattle.line.specs.Laws.Stages.{Holds, Stage, starts, stands, ends, stage, served-holds, serving-serves, opening-holds, first-flash}
-use Rattle.line.specs.Line.{Moment, begun, takes, servedOf, between, reply, heard, exchangeOf, momentAt}
+use Rattle.line.specs.Line.{Moment, begun, takes, between, reply, heard, exchangeOf, momentAt}
 use Rattle.line.specs.declared.exchange.Loss.{Loss}
 use Rattle.loader.specs.Commands.{Effect, after as leaves}
 use Rattle.loader.specs.Laws.Host.{sent-opening}

@@ -1,30 +1,29 @@
 -- Laws of one exchange: what the session hears, and where it stands then.
-use Prim.Native.Nat.{ℕ, zero, suc, _+_, _<_}
+use Prim.Native.Nat.{ℕ, _+_, _<_}
 use mathlib.Core.Bool.{Bool, true, false}
 use mathlib.Core.List.{List, [], _∷_}
 use mathlib.Core.Path.{_≡_, refl, sym, ap, _∙_}
-use native.Mathlib.Omega.{arith}
 use borrow.Author.Tests.{eq-eqb}
 use lib.ListN.{length}
 use Rattle.basis.specs.Board.{flashSize, mapSize, greeting}
 use Rattle.basis.specs.Choice.{pick}
 use Rattle.basis.specs.Laws.Choice.{true-false}
 use Rattle.basis.specs.Refusals.{Answer, refused, given, bare}
-use Rattle.line.specs.Line.{Moment, begun, takes, servedOf, arrives, reply, heard, stepped, onward, between, exchangeOf, momentAt}
+use Rattle.line.specs.Line.{Moment, begun, takes, servedOf, arrives, reply, heard, onward, between, exchangeOf}
 use Rattle.line.specs.declared.exchange.Loss.{Loss}
-use Rattle.loader.specs.Commands.{Effect, after}
+use Rattle.loader.specs.Commands.{Effect}
 use Rattle.loader.specs.State.{resetOf}
 use Rattle.loader.specs.Take.{waiting as waits, quiet, toldOf, answerOf}
 use Rattle.loader.specs.declared.state.Condition.the-variants.{Serving}
 use Rattle.loader.specs.declared.state.Loader.{Loader}
 use Rattle.runs.specs.Pieces.{namedCount}
-use Rattle.session.specs.Laws.Events.{greeting-heard, ack-heard, bel-heard, silence-heard}
+use Rattle.session.specs.Laws.Events.{ack-heard, bel-heard, silence-heard}
 use Rattle.session.specs.Laws.Series.{failing, isAck, isGreeting, not-ack, not-greeting}
 use Rattle.session.specs.Laws.States.{greeting-state, ack-next, ack-last, step-state, waiting-fits}
 use Rattle.session.specs.Laws.Steps.{step-taken}
-use Rattle.session.specs.Phases.{ended, packetOut, phaseAt}
+use Rattle.session.specs.Phases.{packetOut, phaseAt}
 use Rattle.session.specs.Plan.{total}
-use Rattle.session.specs.Session.{sessionIn, waiting, stateAt, valid, Sent, rightSizes, tookOf, sent}
+use Rattle.session.specs.Session.{sessionIn, waiting, stateAt, rightSizes, tookOf}
 use Rattle.session.specs.declared.event.Event.{Event}
 use Rattle.session.specs.declared.phase.Outcome.{Outcome}
 use Rattle.session.specs.declared.phase.Phase.{Phase}

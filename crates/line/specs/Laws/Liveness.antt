@@ -1,25 +1,25 @@
 -- With nothing lost and no protection in the way every packet is let through, and what it does makes room for the next.
-use Prim.Native.Nat.{ℕ, zero, suc, _+_, _-_, _*_, _≤_, _<_}
-use mathlib.Core.Bool.{Bool, true, false}
-use mathlib.Core.List.{List, [], _∷_, map}
+use Prim.Native.Nat.{ℕ, suc, _+_, _-_, _*_, _≤_, _<_}
+use mathlib.Core.Bool.{true, false}
+use mathlib.Core.List.{List, map}
 use mathlib.Core.Path.{_≡_, refl, sym, ap, subst, _∙_}
 use native.Mathlib.Omega.{arith}
 use borrow.Author.Tests.{ltb-true, ltb-false, leb-true, leb-false, eqb-true, eqb-false}
 use lib.Dec.{eqb, leb, ltb}
-use lib.ListN.{length, getD, take, drop, length-map, length-take, length-drop}
+use lib.ListN.{length, getD, take, drop, length-map, length-drop}
 use lib.Seq.{getD-take, getD-drop, ext-getD, length-take-le}
 use Rattle.basis.specs.Bits.{bit}
 use Rattle.basis.specs.Board.{pages, flashSize, mapSize}
-use Rattle.basis.specs.Laws.Choice.{decide, true-false}
+use Rattle.basis.specs.Laws.Choice.{decide}
 use Rattle.basis.specs.Laws.Lists.{bytes-take, bytes-drop}
 use Rattle.basis.specs.Lists.{Bytes}
-use Rattle.basis.specs.Refusals.{Answer, given, first}
-use Rattle.basis.specs.Units.{pageOf, groupOf, pageGroupOf, startOf}
+use Rattle.basis.specs.Refusals.{given}
+use Rattle.basis.specs.Units.{pageOf, pageGroupOf, startOf}
 use Rattle.image.specs.Flash.{eraseOf, storeOf}
 use Rattle.image.specs.Laws.Flash.{Blank, length-erase, erase-below, erase-above, erase-at, length-store, store-below, store-above, store-blank-at}
 use Rattle.line.specs.Laws.Safety.{Serves, takes-erase, takes-write, takes-verify, takes-run}
 use Rattle.line.specs.Line.{takes}
-use Rattle.loader.specs.Commands.{Effect, keeping, protectedPages, protectedBytes, running}
+use Rattle.loader.specs.Commands.{Effect, keeping}
 use Rattle.loader.specs.Laws.Commands.{erase-passes, write-passes, verify-passes, run-passes}
 use Rattle.loader.specs.Laws.Protection.{free-pages, free-bytes}
 use Rattle.loader.specs.Laws.Verify.{stands-same}
@@ -37,7 +37,7 @@ use Rattle.runs.specs.Map.{named}
 use Rattle.runs.specs.Pages.{touched}
 use Rattle.runs.specs.Pieces.{pieceMost, pieceStarts, pieceLen, runStarts, runLen, runCount, pieceCount}
 use Rattle.runs.specs.Runs.{count}
-use Rattle.session.specs.Laws.Starts.{run-below, piece-below, piece-carried}
+use Rattle.session.specs.Laws.Starts.{piece-carried}
 use Rattle.session.specs.Laws.Turns.{Ranked, Turn, erases, writes, verifies, runs}
 use Rattle.session.specs.Phases.{packetOut, phaseAt}
 use Rattle.session.specs.Plan.{erasePacket, writePacket, pieceBytes, runAddress}

@@ -1,8 +1,8 @@
 -- What no loss, no protection and no flash can break: the bytes marked proved stand, and untouched pages stay.
-use Prim.Native.Nat.{ℕ, zero, suc, _+_, _-_, _*_, _^_, _≤_, _<_}
-use mathlib.Core.Bool.{Bool, true, false}
-use mathlib.Core.List.{List, [], _∷_, map}
-use mathlib.Core.Path.{_≡_, refl, sym, ap, subst, _∙_}
+use Prim.Native.Nat.{ℕ, _+_, _-_, _*_, _≤_, _<_}
+use mathlib.Core.Bool.{true, false}
+use mathlib.Core.List.{List, map}
+use mathlib.Core.Path.{_≡_, refl, sym, ap, _∙_}
 use native.Mathlib.Omega.{arith}
 use borrow.Author.Tests.{ltb-true, ltb-false, leb-true, leb-false, ne-eqb}
 use lib.Dec.{eqb, leb, ltb}
@@ -16,23 +16,21 @@ use Rattle.basis.specs.Lists.{Bytes}
 use Rattle.basis.specs.Refusals.{Answer, refused, given, first}
 use Rattle.basis.specs.Units.{pageOf, startOf}
 use Rattle.image.specs.Flash.{eraseOf, storeOf}
-use Rattle.image.specs.Laws.Flash.{length-erase, erase-below, erase-above, length-store, store-below, store-above}
+use Rattle.image.specs.Laws.Flash.{erase-below, erase-above, store-below, store-above}
 use Rattle.line.specs.Line.{takes, servedOf}
 use Rattle.line.specs.declared.exchange.Loss.{Loss}
-use Rattle.loader.specs.Commands.{Effect, after, keeping, massErase, eraseRows, writeRows, verifyRows, erasing, writing, running}
-use Rattle.loader.specs.Laws.Commands.{either-way, erasing-pages, verify-let}
-use Rattle.loader.specs.Laws.Host.{sent-opening, sent-erase, sent-write, sent-verify, sent-run, kept}
+use Rattle.loader.specs.Commands.{Effect, after, keeping, eraseRows, writeRows, verifyRows, writing, running}
+use Rattle.loader.specs.Laws.Commands.{erasing-pages, verify-let}
+use Rattle.loader.specs.Laws.Host.{sent-erase, sent-write, sent-verify, sent-run}
 use Rattle.loader.specs.Laws.Verify.{same-stands}
 use Rattle.loader.specs.declared.state.Condition.the-variants.{Serving}
 use Rattle.loader.specs.declared.state.Loader.{Loader}
 use Rattle.packet.specs.Laws.Turn.{restored-turned, undone}
 use Rattle.packet.specs.Turn.{turnedOf, restoredOf}
-use Rattle.runs.specs.Laws.Files.{file-piece, file-run}
 use Rattle.runs.specs.Laws.Pages.{piece-touched}
 use Rattle.runs.specs.Laws.Pieces.{piece-passes, piece-some}
-use Rattle.runs.specs.Map.{named}
 use Rattle.runs.specs.Pages.{touched}
-use Rattle.runs.specs.Pieces.{pieceMost, pieceStarts, pieceLen, runStarts, runLen, runCount, pieceCount}
+use Rattle.runs.specs.Pieces.{pieceMost, pieceStarts, pieceLen, runStarts, runLen}
 use Rattle.session.specs.Laws.Starts.{run-below, piece-below, piece-carried}
 use Rattle.session.specs.Plan.{pieceBytes, erasePacket, writePacket, verifyPacket, runPacket, runAddress}
 use Rattle.session.specs.declared.phase.RunKind.{RunKind}

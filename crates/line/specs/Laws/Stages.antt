@@ -1,6 +1,6 @@
 -- Every moment of a load over a line that may lose anything: where the session stands, and what flash then holds.
 use Prim.Native.Nat.{ℕ, zero, suc, _+_, _*_, _≤_, _<_}
-use mathlib.Core.Bool.{Bool, true, false}
+use mathlib.Core.Bool.{true, false}
 use mathlib.Core.List.{List, [], _∷_, map}
 use mathlib.Core.Path.{_≡_, refl, sym, ap, subst, _∙_}
 use native.Mathlib.Omega.{arith}
@@ -11,12 +11,12 @@ use Rattle.basis.specs.Board.{pages, flashSize, mapSize}
 use Rattle.basis.specs.Choice.{pick}
 use Rattle.basis.specs.Laws.Choice.{decide, true-false}
 use Rattle.basis.specs.Lists.{Bytes}
-use Rattle.basis.specs.Refusals.{Answer, refused, given, first}
+use Rattle.basis.specs.Refusals.{Answer, given, first}
 use Rattle.basis.specs.Units.{pageOf, startOf}
 use Rattle.image.specs.Laws.Flash.{length-erase, length-store}
-use Rattle.line.specs.Line.{Moment, begun, takes, servedOf, arrives, reply, heard, exchangeOf, momentAt}
 use Rattle.line.specs.Laws.Exchange.{silence-is, acked, standing, over, on-ack, on-last, on-else, on-greeting, on-silence}
 use Rattle.line.specs.Laws.Safety.{Serves, Untouched, erase-untouched, store-untouched, served-by, takes-erase, takes-write, takes-verify, takes-run, verified}
+use Rattle.line.specs.Line.{Moment, begun, takes, servedOf, reply, heard, exchangeOf, momentAt}
 use Rattle.line.specs.declared.exchange.Loss.{Loss}
 use Rattle.loader.specs.Commands.{Effect, after, verifyRows, running}
 use Rattle.loader.specs.Laws.Commands.{either-way, judged-does}
@@ -28,11 +28,11 @@ use Rattle.loader.specs.declared.state.Loader.{Loader}
 use Rattle.packet.specs.Turn.{turnedOf}
 use Rattle.runs.specs.Pieces.{runLen, runCount, pieceCount, namedCount}
 use Rattle.session.specs.Laws.Events.{greeting-heard}
-use Rattle.session.specs.Laws.Marks.{Held, marked-late, marked-more, all-marked}
+use Rattle.session.specs.Laws.Marks.{marked-late, marked-more, all-marked}
 use Rattle.session.specs.Laws.Series.{failing, isAck, ack-or}
 use Rattle.session.specs.Laws.Starts.{piece-carried}
 use Rattle.session.specs.Laws.States.{phase-open}
-use Rattle.session.specs.Laws.Turns.{Ranked, Turn, erases, writes, verifies, runs, turn}
+use Rattle.session.specs.Laws.Turns.{Turn, erases, writes, verifies, runs, turn}
 use Rattle.session.specs.Phases.{ended, packetOut, verifying, phaseAt, placeOf}
 use Rattle.session.specs.Plan.{total, pieceBytes}
 use Rattle.session.specs.Session.{marked}
