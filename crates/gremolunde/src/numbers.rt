@@ -1,5 +1,14 @@
 // The paper's number of each refusal, and a flag as a byte.
-pub fn of_packet(why: packet::table::Refusal) -> u32 {
+ghost use mathlib.Core.Path.{_≡_};
+ghost use Rattle.gremolunde.specs.States.{flagOf};
+ghost use Rattle.image.specs.Record.{paperRefusal as paperHex};
+ghost use Rattle.loader.specs.Paper.{paperRefusal as paperLoader};
+ghost use Rattle.packet.specs.Paper.{paperCommand, paperRefusal as paperPacket};
+ghost use Rattle.session.specs.Paper.{paperRefusal as paperSession};
+
+pub fn of_packet(why: packet::table::Refusal) -> u32
+    ensures { λ r. ⌜ r ≡ paperPacket why ⌝ }
+{
     match why {
         packet::table::Refusal::Start => 1,
         packet::table::Refusal::Length => 2,
@@ -10,7 +19,9 @@ pub fn of_packet(why: packet::table::Refusal) -> u32 {
     }
 }
 
-pub fn of_loader(why: loader::verdict::Refusal) -> u32 {
+pub fn of_loader(why: loader::verdict::Refusal) -> u32
+    ensures { λ r. ⌜ r ≡ paperLoader why ⌝ }
+{
     match why {
         loader::verdict::Refusal::Size => 20,
         loader::verdict::Refusal::Closed => 11,
@@ -22,7 +33,9 @@ pub fn of_loader(why: loader::verdict::Refusal) -> u32 {
     }
 }
 
-pub fn of_hex(why: image::record::Refusal) -> u32 {
+pub fn of_hex(why: image::record::Refusal) -> u32
+    ensures { λ r. ⌜ r ≡ paperHex why ⌝ }
+{
     match why {
         image::record::Refusal::Size => 20,
         image::record::Refusal::Ended => 21,
@@ -40,7 +53,9 @@ pub fn of_hex(why: image::record::Refusal) -> u32 {
     }
 }
 
-pub fn of_session(why: session::session::Refusal) -> u32 {
+pub fn of_session(why: session::session::Refusal) -> u32
+    ensures { λ r. ⌜ r ≡ paperSession why ⌝ }
+{
     match why {
         session::session::Refusal::Size => 20,
         session::session::Refusal::Empty => 32,
@@ -50,7 +65,9 @@ pub fn of_session(why: session::session::Refusal) -> u32 {
 }
 
 // The command's byte.
-pub fn byte(command: packet::table::Command) -> u8 {
+pub fn byte(command: packet::table::Command) -> u8
+    ensures { λ r. ⌜ r ≡ paperCommand command ⌝ }
+{
     match command {
         packet::table::Command::Erase => 0x45,
         packet::table::Command::Write => 0x57,
@@ -60,6 +77,8 @@ pub fn byte(command: packet::table::Command) -> u8 {
     }
 }
 
-pub fn flag(set: bool) -> u8 {
+pub fn flag(set: bool) -> u8
+    ensures { λ r. ⌜ r ≡ flagOf set ⌝ }
+{
     if set { 1 } else { 0 }
 }

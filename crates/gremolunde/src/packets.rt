@@ -1,4 +1,12 @@
 // Packets for C: bytes turned and turned back, the builder and the reader.
+ghost use mathlib.Core.Path.{_≡_};
+ghost use lib.ListN.{length};
+ghost use Rattle.basis.specs.Lists.{overlay};
+ghost use Rattle.basis.specs.Refusals.{refused, counted, written};
+ghost use Rattle.gremolunde.specs.Answers.{lengthAnswer, partsAnswer};
+ghost use Rattle.packet.specs.Packet.{buildOf, readOf};
+ghost use Rattle.packet.specs.Paper.{paperBuilt, paperReading};
+ghost use Rattle.packet.specs.Turn.{turnedOf, restoredOf};
 use crate::numbers::byte;
 use crate::numbers::of_packet;
 use basis::units::Address;
@@ -27,12 +35,16 @@ pub struct Parts {
 }
 
 #[no_mangle]
-pub extern "C" fn gremolunde_turned(byte: u8) -> u8 {
+pub extern "C" fn gremolunde_turned(byte: u8) -> u8
+    ensures { λ r. ⌜ r ≡ turnedOf byte ⌝ }
+{
     turned(byte)
 }
 
 #[no_mangle]
-pub extern "C" fn gremolunde_restored(byte: u8) -> u8 {
+pub extern "C" fn gremolunde_restored(byte: u8) -> u8
+    ensures { λ r. ⌜ r ≡ restoredOf byte ⌝ }
+{
     restored(byte)
 }
 
@@ -42,8 +54,19 @@ pub extern "C" fn gremolunde_packet_build(
     command: u8,
     address: u32,
     plain: &[u8],
-) -> Length {
-    match build(buffer, command, Address(address), plain) {
+) -> Length
+    ensures { λ r. ⌜
+        (let b = buildOf (length (now (buffer .entry))) command address (now (plain .entry)) in
+        (r ≡ lengthAnswer (counted b)) × (now (buffer .exit) ≡ overlay (written b) (now (buffer .entry))))
+        ⌝ }
+{
+    built(build(buffer, command, Address(address), plain))
+}
+
+fn built(answer: Built) -> Length
+    ensures { λ r. ⌜ r ≡ lengthAnswer (paperBuilt answer) ⌝ }
+{
+    match answer {
         Built::Packet(length) => Length { number: 0, length },
         Built::NoRoom => refused(20),
         Built::Refused(why) => refused(of_packet(why)),
@@ -51,13 +74,23 @@ pub extern "C" fn gremolunde_packet_build(
 }
 
 // Nothing is written.
-pub fn refused(number: u32) -> Length {
+pub fn refused(number: u32) -> Length
+    ensures { λ r. ⌜ r ≡ lengthAnswer (refused number) ⌝ }
+{
     Length { number, length: 0 }
 }
 
 #[no_mangle]
-pub extern "C" fn gremolunde_packet_read(input: &[u8]) -> Parts {
-    match read(input) {
+pub extern "C" fn gremolunde_packet_read(input: &[u8]) -> Parts
+    ensures { λ r. ⌜ r ≡ partsAnswer (readOf (now (input .entry))) ⌝ }
+{
+    told(read(input))
+}
+
+fn told(answer: Reading) -> Parts
+    ensures { λ r. ⌜ r ≡ partsAnswer (paperReading answer) ⌝ }
+{
+    match answer {
         Reading::Packet(said) => {
             let command = said.command;
             let address = said.address;

@@ -1,4 +1,12 @@
 // The service log for C.
+ghost use mathlib.Core.Path.{_≡_};
+ghost use lib.ListN.{length};
+ghost use Rattle.basis.specs.Lists.{overlay};
+ghost use Rattle.basis.specs.Refusals.{refused, counted, written};
+ghost use Rattle.gremolunde.specs.Answers.{lengthAnswer, recordAnswer};
+ghost use Rattle.gremolunde.specs.States.{sessionMeant};
+ghost use Rattle.service_log.specs.Log.{writeOf, readOf};
+ghost use Rattle.service_log.specs.Paper.{paperReading, paperWritten};
 use crate::packets::Length;
 use crate::packets::refused;
 use crate::states::SessionState;
@@ -20,8 +28,19 @@ pub struct LogRecord {
 }
 
 #[no_mangle]
-pub extern "C" fn gremolunde_log_write(session: SessionState, buffer: &mut [u8]) -> Length {
-    match write(session_meant(session), buffer) {
+pub extern "C" fn gremolunde_log_write(session: SessionState, buffer: &mut [u8]) -> Length
+    ensures { λ r. ⌜
+        (let b = writeOf (length (now (buffer .entry))) (sessionMeant session) in
+        (r ≡ lengthAnswer (counted b)) × (now (buffer .exit) ≡ overlay (written b) (now (buffer .entry))))
+        ⌝ }
+{
+    written(write(session_meant(session), buffer))
+}
+
+fn written(answer: Written) -> Length
+    ensures { λ r. ⌜ r ≡ lengthAnswer (paperWritten answer) ⌝ }
+{
+    match answer {
         Written::Record => Length {
             number: 0,
             length: 10,
@@ -32,8 +51,16 @@ pub extern "C" fn gremolunde_log_write(session: SessionState, buffer: &mut [u8])
 }
 
 #[no_mangle]
-pub extern "C" fn gremolunde_log_read(input: &[u8]) -> LogRecord {
-    match read(input) {
+pub extern "C" fn gremolunde_log_read(input: &[u8]) -> LogRecord
+    ensures { λ r. ⌜ r ≡ recordAnswer (readOf (now (input .entry))) ⌝ }
+{
+    told(read(input))
+}
+
+fn told(answer: Reading) -> LogRecord
+    ensures { λ r. ⌜ r ≡ recordAnswer (paperReading answer) ⌝ }
+{
+    match answer {
         Reading::Record(said) => LogRecord {
             number: 0,
             version: said.version,
@@ -49,7 +76,9 @@ pub extern "C" fn gremolunde_log_read(input: &[u8]) -> LogRecord {
     }
 }
 
-fn unread(number: u32) -> LogRecord {
+fn unread(number: u32) -> LogRecord
+    ensures { λ r. ⌜ r ≡ recordAnswer (refused number) ⌝ }
+{
     LogRecord {
         number,
         version: 0,

@@ -1,5 +1,12 @@
 // The host session for C.
-use crate::numbers::flag;
+ghost use mathlib.Core.Path.{_≡_};
+ghost use lib.ListN.{length};
+ghost use Rattle.basis.specs.Lists.{overlay};
+ghost use Rattle.gremolunde.specs.Answers.{noSession, steppedAnswer, markAnswer, outcomeAnswer};
+ghost use Rattle.gremolunde.specs.States.{isSet, runMeant, sessionMeant};
+ghost use Rattle.session.specs.Events.{classifyOf};
+ghost use Rattle.session.specs.Paper.{paperStepped, paperMark};
+ghost use Rattle.session.specs.Session.{measured, sentBytes, started, stepOf, provedOf};
 use crate::numbers::of_session;
 use crate::states::SessionState;
 use crate::states::run_meant;
@@ -32,7 +39,12 @@ pub extern "C" fn gremolunde_session_start(
     image: &[u8],
     map: &[u8],
     buffer: &mut [u8],
-) -> SessionStepped {
+) -> SessionStepped
+    ensures { λ r. ⌜
+        (let a = started (now (image .entry)) (now (map .entry)) (length (now (buffer .entry))) (runMeant run) in
+        (r ≡ steppedAnswer noSession (measured a)) × (now (buffer .exit) ≡ overlay (sentBytes a) (now (buffer .entry))))
+        ⌝ }
+{
     let none = SessionState {
         run: 0,
         phase: 0,
@@ -52,13 +64,20 @@ pub extern "C" fn gremolunde_session_step(
     image: &[u8],
     map: &[u8],
     buffer: &mut [u8],
-) -> SessionStepped {
+) -> SessionStepped
+    ensures { λ r. ⌜
+        (let a = stepOf (now (image .entry)) (now (map .entry)) (length (now (buffer .entry))) (sessionMeant session) (classifyOf (isSet silent) (now (answer .entry))) in
+        (r ≡ steppedAnswer session (measured a)) × (now (buffer .exit) ≡ overlay (sentBytes a) (now (buffer .entry))))
+        ⌝ }
+{
     let meant = session_meant(session);
     answered(session, meant.step(silent != 0, answer, image, map, buffer))
 }
 
-fn answered(session: SessionState, stepped: Stepped) -> SessionStepped {
-    match stepped {
+fn answered(session: SessionState, answer: Stepped) -> SessionStepped
+    ensures { λ r. ⌜ r ≡ steppedAnswer session (paperStepped answer) ⌝ }
+{
+    match answer {
         Stepped::Next(next) => {
             let reached = next.session;
             SessionStepped {
@@ -80,33 +99,51 @@ pub extern "C" fn gremolunde_session_proved(
     session: SessionState,
     map: &[u8],
     address: u32,
-) -> SessionMark {
+) -> SessionMark
+    ensures { λ r. ⌜ r ≡ markAnswer (provedOf (now (map .entry)) (sessionMeant session) address) ⌝ }
+{
     let meant = session_meant(session);
-    match meant.proved(map, Address(address)) {
-        Mark::Proved => mark(0, true),
-        Mark::Open => mark(0, false),
-        Mark::Size => mark(20, false),
-    }
+    marked(meant.proved(map, Address(address)))
 }
 
-fn mark(number: u32, proved: bool) -> SessionMark {
-    SessionMark {
-        number,
-        proved: flag(proved),
+fn marked(answer: Mark) -> SessionMark
+    ensures { λ r. ⌜ r ≡ markAnswer (paperMark answer) ⌝ }
+{
+    match answer {
+        Mark::Proved => SessionMark {
+            number: 0,
+            proved: 1,
+        },
+        Mark::Open => SessionMark {
+            number: 0,
+            proved: 0,
+        },
+        Mark::Size => SessionMark {
+            number: 20,
+            proved: 0,
+        },
     }
 }
 
 // 0 valid, 40 to 43, or 45 where the session is unfinished.
 #[no_mangle]
-pub extern "C" fn gremolunde_session_outcome(session: SessionState) -> u32 {
+pub extern "C" fn gremolunde_session_outcome(session: SessionState) -> u32
+    ensures { λ r. ⌜ r ≡ outcomeAnswer (sessionMeant session .phase) ⌝ }
+{
     let meant = session_meant(session);
     let phase = meant.phase;
+    outcome(phase)
+}
+
+fn outcome(phase: Phase) -> u32
+    ensures { λ r. ⌜ r ≡ outcomeAnswer phase ⌝ }
+{
     match phase {
         Phase::Greeting => 45,
         Phase::Erase(_) => 45,
         Phase::Write(_) => 45,
         Phase::Verify(_) => 45,
         Phase::Run => 45,
-        Phase::Ended(outcome) => number(outcome) as u32,
+        Phase::Ended(reached) => number(reached) as u32,
     }
 }

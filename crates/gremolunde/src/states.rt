@@ -1,4 +1,6 @@
 // The states that a C caller keeps, and what each stands for.
+ghost use mathlib.Core.Path.{_≡_};
+ghost use Rattle.gremolunde.specs.States.{conditionMeant, conditionShown, loaderMeant, loaderShown, hexMeant, hexShown, runMeant, runShown, nowhere, endMeant, phaseMeant, phaseShown, placeShown, sessionMeant, sessionShown};
 use crate::numbers::flag;
 use basis::units::Address;
 use basis::units::Page;
@@ -45,7 +47,9 @@ pub struct SessionState {
     pub named: u32,
 }
 
-pub fn loader_meant(state: LoaderState) -> Loader {
+pub fn loader_meant(state: LoaderState) -> Loader
+    ensures { λ r. ⌜ r ≡ loaderMeant state ⌝ }
+{
     let added = Protection {
         groups: state.added,
         read: state.added_read != 0,
@@ -65,7 +69,9 @@ pub fn loader_meant(state: LoaderState) -> Loader {
     }
 }
 
-fn condition_meant(number: u8) -> Condition {
+fn condition_meant(number: u8) -> Condition
+    ensures { λ r. ⌜ r ≡ conditionMeant number ⌝ }
+{
     match number {
         0 => Condition::Waiting,
         1 => Condition::Serving,
@@ -73,7 +79,9 @@ fn condition_meant(number: u8) -> Condition {
     }
 }
 
-pub fn loader_shown(loader: Loader) -> LoaderState {
+pub fn loader_shown(loader: Loader) -> LoaderState
+    ensures { λ r. ⌜ r ≡ loaderShown loader ⌝ }
+{
     let condition = loader.condition;
     let sequence = loader.sequence;
     let added = sequence.added;
@@ -89,7 +97,9 @@ pub fn loader_shown(loader: Loader) -> LoaderState {
     }
 }
 
-fn condition_shown(condition: Condition) -> u8 {
+fn condition_shown(condition: Condition) -> u8
+    ensures { λ r. ⌜ r ≡ conditionShown condition ⌝ }
+{
     match condition {
         Condition::Waiting => 0,
         Condition::Serving => 1,
@@ -97,7 +107,9 @@ fn condition_shown(condition: Condition) -> u8 {
     }
 }
 
-pub fn hex_meant(state: HexState) -> Hex {
+pub fn hex_meant(state: HexState) -> Hex
+    ensures { λ r. ⌜ r ≡ hexMeant state ⌝ }
+{
     Hex {
         linear: state.linear,
         segment: state.segment,
@@ -106,7 +118,9 @@ pub fn hex_meant(state: HexState) -> Hex {
     }
 }
 
-pub fn hex_shown(reader: Hex) -> HexState {
+pub fn hex_shown(reader: Hex) -> HexState
+    ensures { λ r. ⌜ r ≡ hexShown reader ⌝ }
+{
     HexState {
         linear: reader.linear,
         segment: reader.segment,
@@ -115,7 +129,9 @@ pub fn hex_shown(reader: Hex) -> HexState {
     }
 }
 
-pub fn session_meant(state: SessionState) -> Session {
+pub fn session_meant(state: SessionState) -> Session
+    ensures { λ r. ⌜ r ≡ sessionMeant state ⌝ }
+{
     Session {
         kind: run_meant(state.run),
         phase: phase_meant(state.phase, state.place),
@@ -125,14 +141,18 @@ pub fn session_meant(state: SessionState) -> Session {
     }
 }
 
-pub fn run_meant(run: u32) -> RunKind {
+pub fn run_meant(run: u32) -> RunKind
+    ensures { λ r. ⌜ r ≡ runMeant run ⌝ }
+{
     match run {
         0 => RunKind::Jump,
         _ => RunKind::Reset,
     }
 }
 
-fn phase_meant(phase: u32, place: u32) -> Phase {
+fn phase_meant(phase: u32, place: u32) -> Phase
+    ensures { λ r. ⌜ r ≡ phaseMeant phase place ⌝ }
+{
     match phase {
         0 => Phase::Greeting,
         1 => Phase::Erase(Page(place)),
@@ -144,7 +164,9 @@ fn phase_meant(phase: u32, place: u32) -> Phase {
     }
 }
 
-fn end_meant(outcome: u32) -> Phase {
+fn end_meant(outcome: u32) -> Phase
+    ensures { λ r. ⌜ r ≡ endMeant outcome ⌝ }
+{
     match outcome {
         0 => Phase::Ended(Outcome::Valid),
         40 => Phase::Ended(Outcome::Silence),
@@ -156,11 +178,15 @@ fn end_meant(outcome: u32) -> Phase {
 }
 
 // A phase that no file has: its page lies past every board, so a step is 46 and there is no outcome.
-fn nowhere() -> Phase {
+fn nowhere() -> Phase
+    ensures { λ r. ⌜ r ≡ nowhere ⌝ }
+{
     Phase::Erase(Page(0xFFFF_FFFF))
 }
 
-pub fn session_shown(session: Session) -> SessionState {
+pub fn session_shown(session: Session) -> SessionState
+    ensures { λ r. ⌜ r ≡ sessionShown session ⌝ }
+{
     let kind = session.kind;
     let phase = session.phase;
     SessionState {
@@ -173,14 +199,18 @@ pub fn session_shown(session: Session) -> SessionState {
     }
 }
 
-fn run_shown(kind: RunKind) -> u32 {
+fn run_shown(kind: RunKind) -> u32
+    ensures { λ r. ⌜ r ≡ runShown kind ⌝ }
+{
     match kind {
         RunKind::Reset => 1,
         RunKind::Jump => 0,
     }
 }
 
-fn phase_shown(phase: Phase) -> u32 {
+fn phase_shown(phase: Phase) -> u32
+    ensures { λ r. ⌜ r ≡ phaseShown phase ⌝ }
+{
     match phase {
         Phase::Greeting => 0,
         Phase::Erase(_) => 1,
@@ -191,7 +221,9 @@ fn phase_shown(phase: Phase) -> u32 {
     }
 }
 
-fn place_shown(phase: Phase) -> u32 {
+fn place_shown(phase: Phase) -> u32
+    ensures { λ r. ⌜ r ≡ placeShown phase ⌝ }
+{
     match phase {
         Phase::Greeting => 0,
         Phase::Erase(page) => page.0,
