@@ -146,14 +146,14 @@ static uint32_t take(gremolunde_loader *loader, uint8_t command, uint32_t addres
     return taken.number;
 }
 
-static void loaders(void) {
-    static const uint8_t one[] = {1}, two[] = {2}, zero[] = {0}, group[] = {0x0F}, low[] = {0x0F}, high[] = {0xF0};
-    gremolunde_loader loader = gremolunde_loader_new(), odd;
+static const uint8_t zero[] = {0}, one[] = {1}, two[] = {2}, low[] = {0x0F}, high[] = {0xF0};
+
+/* A loader from the factory, opened. */
+static gremolunde_loader serving(void) {
+    gremolunde_loader loader = gremolunde_loader_new();
     gremolunde_taken taken;
     HOLD(loader.groups == 0 && loader.added == 0 && loader.key == 0xFFFFFFFF && loader.condition == 0);
     HOLD(loader.read == 0 && loader.opened == 0 && loader.added_read == 0);
-
-    memset(flash, 0, sizeof flash);
     memset(answer, 0xEE, sizeof answer);
     taken = gremolunde_loader_take(loader, open, 1, flash, sizeof flash - 1, answer, sizeof answer);
     HOLD(taken.number == 20 && taken.answered == 0 && same_loader(taken.loader, loader));
@@ -161,38 +161,43 @@ static void loaders(void) {
     HOLD(taken.number == 11 && taken.answered == 0 && all(answer, 0, sizeof answer, 0xEE));
     taken = gremolunde_loader_take(loader, open, 1, flash, sizeof flash, answer, sizeof answer);
     HOLD(taken.number == 0 && taken.answered == 24 && memcmp(answer, greeting, 24) == 0 && answer[24] == 0xEE);
-    loader = taken.loader;
-    HOLD(loader.condition == 1);
+    HOLD(taken.loader.condition == 1);
+    return taken.loader;
+}
 
+static void commands(void) {
+    gremolunde_loader loader = serving();
+    memset(flash, 0, sizeof flash);
     HOLD(take(&loader, 'E', 0x1FF, one, 1) == 0 && all(flash, 0, 512, 0xFF) && flash[512] == 0);
     HOLD(take(&loader, 'E', 0xF600, two, 1) == 7 && take(&loader, 'E', 0xF600, one, 1) == 0);
     HOLD(take(&loader, 'E', 1, zero, 1) == 7);
     HOLD(take(&loader, 'W', 0xF7FF, two, 1) == 0 && flash[0xF7FF] == 2);
     HOLD(take(&loader, 'W', 0, high, 1) == 0 && take(&loader, 'W', 0, low, 1) == 0 && flash[0] == 0);
     HOLD(take(&loader, 'V', 0, low, 1) == 10 && take(&loader, 'V', 0, zero, 1) == 0);
+    HOLD(take(&loader, 'R', 2, NULL, 0) == 7 && take(&loader, 'R', 1, NULL, 0) == 0 && loader.condition == 2);
+}
 
+static void protection(void) {
+    gremolunde_loader loader = serving(), odd;
+    gremolunde_taken taken;
     HOLD(take(&loader, 'P', 0x12345678, one, 1) == 9);
     HOLD(take(&loader, 'P', 0, zero, 1) == 0 && loader.opened == 1);
-    HOLD(take(&loader, 'P', 0x800, group, 1) == 0 && loader.added == 2 && loader.groups == 0);
-    HOLD(take(&loader, 'P', 0xF800, group, 1) == 0 && loader.added_read == 1 && loader.read == 0);
+    HOLD(take(&loader, 'P', 0x800, low, 1) == 0 && loader.added == 2 && loader.groups == 0);
+    HOLD(take(&loader, 'P', 0xF800, low, 1) == 0 && loader.added_read == 1 && loader.read == 0);
     HOLD(take(&loader, 'W', 0x800, zero, 1) == 9);
     HOLD(take(&loader, 'P', 0x12345678, one, 1) == 0 && loader.key == 0x12345678);
     HOLD(loader.groups == 2 && loader.read == 1 && loader.opened == 0 && loader.added == 0 && loader.added_read == 0);
     HOLD(take(&loader, 'W', 0x800, zero, 1) == 8 && take(&loader, 'V', 0, zero, 1) == 8);
-
-    HOLD(take(&loader, 'R', 2, NULL, 0) == 7 && take(&loader, 'R', 1, NULL, 0) == 0 && loader.condition == 2);
-    taken = gremolunde_loader_take(loader, open, 1, flash, sizeof flash, answer, sizeof answer);
-    HOLD(taken.number == 11 && taken.answered == 0);
-    loader = gremolunde_loader_reset(loader);
-    HOLD(loader.condition == 0 && loader.groups == 2 && loader.read == 1 && loader.key == 0x12345678);
 
     /* A condition that is not listed counts as left, a flag of any value but 0 as true. */
     odd = loader;
     odd.condition = 77;
     odd.read = 0x80;
     taken = gremolunde_loader_take(odd, open, 1, flash, sizeof flash, answer, sizeof answer);
-    HOLD(taken.number == 11 && same_loader(taken.loader, odd));
-    HOLD(same_loader(gremolunde_loader_reset(odd), loader));
+    HOLD(taken.number == 11 && taken.answered == 0 && same_loader(taken.loader, odd));
+    odd = gremolunde_loader_reset(odd);
+    loader.condition = 0;
+    HOLD(same_loader(odd, loader));
 }
 
 static gremolunde_read line(gremolunde_hex reader, const char *record) {
@@ -254,46 +259,42 @@ static gremolunde_stepped start(uint32_t run) {
     return gremolunde_session_start(run, image, sizeof image, map, sizeof map, packet, sizeof packet);
 }
 
+static int sends(gremolunde_stepped stepped, const uint8_t *bytes, size_t length) {
+    return stepped.number == 0 && stepped.length == length && memcmp(packet, bytes, length) == 0;
+}
+
+static int marked(gremolunde_session session, uint32_t address) {
+    gremolunde_mark mark = gremolunde_session_proved(session, map, sizeof map, address);
+    HOLD(mark.number == 0);
+    return mark.proved;
+}
+
 /* The paper's plan, packet by packet, answered as a board answers. */
-static void sessions(void) {
+static void plan(void) {
     static const uint8_t erase[] = {0x07, 0x0E, 0x06, 0x45, 0, 0, 2, 0, 1, 0xB2};
     static const uint8_t write[] = {0x07, 0x0E, 0x07, 0x57, 0, 0, 2, 0, 0x12, 0x34, 0x5A};
     static const uint8_t verify[] = {0x07, 0x0E, 0x07, 0x56, 0, 0, 2, 0, 0x90, 0xA1, 0x70};
     static const uint8_t reset[] = {0x07, 0x0E, 0x05, 0x52, 0, 0, 0, 1, 0xA8};
-    static const uint8_t jump[] = {0x07, 0x0E, 0x05, 0x52, 0, 0, 0, 0, 0xA9};
-    static const gremolunde_session none = {0, 0, 0, 0, 0, 0};
-    gremolunde_stepped stepped = start(GREMOLUNDE_RESET);
-    gremolunde_session session, odd;
-    gremolunde_mark mark;
-    HOLD(stepped.number == 0 && stepped.length == 1 && packet[0] == 0x08);
-    session = stepped.session;
+    gremolunde_session session = start(GREMOLUNDE_RESET).session;
+    gremolunde_stepped stepped;
     HOLD(session.run == 1 && session.phase == GREMOLUNDE_GREETING && session.place == 0);
-    HOLD(session.acknowledged == 0 && session.total == 4 && session.named == 2);
+    HOLD(session.acknowledged == 0 && session.total == 4 && session.named == 2 && packet[0] == 0x08);
     HOLD(gremolunde_session_outcome(session) == 45);
     HOLD(gremolunde_session_outcome(step(session, 1, greeting, 24).session) == 40);
     HOLD(gremolunde_session_outcome(step(session, 0, greeting, 23).session) == 42);
-
     stepped = step(session, 0, greeting, 24);
-    HOLD(stepped.number == 0 && stepped.length == sizeof erase && memcmp(packet, erase, sizeof erase) == 0);
+    HOLD(sends(stepped, erase, sizeof erase));
     HOLD(stepped.session.phase == GREMOLUNDE_ERASE && stepped.session.place == 1);
     stepped = step(stepped.session, 0, ack, 1);
-    HOLD(stepped.number == 0 && stepped.length == sizeof write && memcmp(packet, write, sizeof write) == 0);
+    HOLD(sends(stepped, write, sizeof write));
     HOLD(stepped.session.phase == GREMOLUNDE_WRITE && stepped.session.place == 0x200);
     stepped = step(stepped.session, 0, ack, 1);
-    HOLD(stepped.number == 0 && stepped.length == sizeof verify && memcmp(packet, verify, sizeof verify) == 0);
+    HOLD(sends(stepped, verify, sizeof verify) && !marked(stepped.session, 0x200));
     HOLD(stepped.session.phase == GREMOLUNDE_VERIFY && stepped.session.acknowledged == 2);
-    mark = gremolunde_session_proved(stepped.session, map, sizeof map, 0x200);
-    HOLD(mark.number == 0 && mark.proved == 0);
     HOLD(gremolunde_session_outcome(step(stepped.session, 0, NULL, 0).session) == 43);
     stepped = step(stepped.session, 0, ack, 1);
-    HOLD(stepped.number == 0 && stepped.length == sizeof reset && memcmp(packet, reset, sizeof reset) == 0);
+    HOLD(sends(stepped, reset, sizeof reset) && marked(stepped.session, 0x201));
     HOLD(stepped.session.phase == GREMOLUNDE_RUN && stepped.session.place == 0);
-    mark = gremolunde_session_proved(stepped.session, map, sizeof map, 0x201);
-    HOLD(mark.number == 0 && mark.proved == 1);
-    mark = gremolunde_session_proved(stepped.session, map, sizeof map - 1, 0x201);
-    HOLD(mark.number == 20 && mark.proved == 0);
-    odd = stepped.session;
-    odd.run = 0;
     memset(packet, 0xEE, sizeof packet);
     stepped = step(stepped.session, 0, ack, 1);
     HOLD(stepped.number == 0 && stepped.length == 0 && all(packet, 0, sizeof packet, 0xEE));
@@ -302,30 +303,38 @@ static void sessions(void) {
     session = stepped.session;
     stepped = step(session, 0, ack, 1);
     HOLD(stepped.number == 44 && stepped.length == 0 && same_session(stepped.session, session));
+}
 
-    /* Sessions that came from no start. */
-    odd.phase = 6;
-    stepped = step(odd, 0, ack, 1);
-    HOLD(stepped.number == 46 && same_session(stepped.session, odd) && gremolunde_session_outcome(odd) == 45);
-    odd.phase = GREMOLUNDE_ENDED;
-    odd.place = 39;
-    HOLD(step(odd, 0, ack, 1).number == 46 && gremolunde_session_outcome(odd) == 45);
-    HOLD(step(none, 0, greeting, 24).number == 46 && gremolunde_session_outcome(none) == 45);
-
-    stepped = start(GREMOLUNDE_JUMP);
-    HOLD(stepped.session.run == 0);
+static void starts(void) {
+    static const uint8_t jump[] = {0x07, 0x0E, 0x05, 0x52, 0, 0, 0, 0, 0xA9};
+    static const gremolunde_session none = {0, 0, 0, 0, 0, 0};
+    gremolunde_stepped stepped = start(GREMOLUNDE_JUMP);
+    gremolunde_mark mark;
+    HOLD(stepped.session.run == 0 && start(77).session.run == 1);
     stepped = step(stepped.session, 0, greeting, 24);
     stepped = step(stepped.session, 0, ack, 1);
     stepped = step(stepped.session, 0, ack, 1);
     stepped = step(stepped.session, 0, ack, 1);
-    HOLD(stepped.length == sizeof jump && memcmp(packet, jump, sizeof jump) == 0);
-    HOLD(start(77).session.run == 1);
-
+    HOLD(sends(stepped, jump, sizeof jump));
+    mark = gremolunde_session_proved(stepped.session, map, sizeof map - 1, 0x201);
+    HOLD(mark.number == 20 && mark.proved == 0);
     stepped = gremolunde_session_start(1, image, sizeof image, NULL, 0, packet, sizeof packet);
     HOLD(stepped.number == 20 && stepped.length == 0 && same_session(stepped.session, none));
     map[0x40] = 0;
     HOLD(start(1).number == 32);
     map[0x40] = 3;
+}
+
+/* Sessions that came from no start. */
+static void made_up(void) {
+    static const gremolunde_session none = {0, 0, 0, 0, 0, 0};
+    gremolunde_session odd = {0, 6, 0, 3, 4, 2};
+    gremolunde_stepped stepped = step(odd, 0, ack, 1);
+    HOLD(stepped.number == 46 && same_session(stepped.session, odd) && gremolunde_session_outcome(odd) == 45);
+    odd.phase = GREMOLUNDE_ENDED;
+    odd.place = 39;
+    HOLD(step(odd, 0, ack, 1).number == 46 && gremolunde_session_outcome(odd) == 45);
+    HOLD(step(none, 0, greeting, 24).number == 46 && gremolunde_session_outcome(none) == 45);
 }
 
 static void records(void) {
@@ -379,9 +388,12 @@ static void load(void) {
 int main(void) {
     layout();
     packets();
-    loaders();
+    commands();
+    protection();
     files();
-    sessions();
+    plan();
+    starts();
+    made_up();
     records();
     load();
     return failed;
