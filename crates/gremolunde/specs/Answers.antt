@@ -5,6 +5,7 @@ use Rattle.basis.specs.Choice.{pick}
 use Rattle.basis.specs.Refusals.{Answer, refused, given}
 use Rattle.image.specs.Writer.{Told}
 use Rattle.image.specs.declared.hex.Hex.{Hex}
+use Rattle.line.specs.declared.rehearse.Load.{Load}
 use Rattle.loader.specs.declared.state.Loader.{Loader}
 use Rattle.packet.specs.Packet as packet
 use Rattle.service_log.specs.Log.{outcomeIn}
@@ -19,6 +20,7 @@ use Rattle.gremolunde.specs.declared.loading.Taken.{Taken}
 use Rattle.gremolunde.specs.declared.packets.Length.{Length}
 use Rattle.gremolunde.specs.declared.packets.Parts.{Parts}
 use Rattle.gremolunde.specs.declared.records.LogRecord.{LogRecord}
+use Rattle.gremolunde.specs.declared.rehearsals.Rehearsal.{Rehearsal}
 use Rattle.gremolunde.specs.declared.sessions.SessionMark.{SessionMark}
 use Rattle.gremolunde.specs.declared.sessions.SessionStepped.{SessionStepped}
 use Rattle.gremolunde.specs.declared.states.HexState.{HexState}
@@ -60,6 +62,11 @@ noSession = record { run = 0; phase = 0; place = 0; acknowledged = 0; total = 0;
 abbrev pub steppedAnswer : SessionState → Answer Next → SessionStepped
 steppedAnswer s (refused n) = record { number = n; length = 0; session = s }
 steppedAnswer s (given x) = record { number = 0; length = x .len; session = sessionShown (x .session) }
+
+-- loader and session at the end of a rehearsal
+abbrev pub rehearsedAnswer : LoaderState → Answer Load → Rehearsal
+rehearsedAnswer s (refused n) = record { number = n; loader = s; session = noSession }
+rehearsedAnswer s (given x) = record { number = 0; loader = loaderShown (x .loader); session = sessionShown (x .session) }
 
 -- a byte is marked proved or not
 abbrev pub markAnswer : Answer Bool → SessionMark

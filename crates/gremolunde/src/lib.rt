@@ -4,5 +4,6 @@ pub mod loading;
 pub mod numbers;
 pub mod packets;
 pub mod records;
+pub mod rehearsals;
 pub mod sessions;
 pub mod states;

@@ -45,15 +45,24 @@ pub extern "C" fn gremolunde_session_start(
         (r ≡ steppedAnswer noSession (measured a)) × (now (buffer .exit) ≡ overlay (sentBytes a) (now (buffer .entry))))
         ⌝ }
 {
-    let none = SessionState {
+    answered(
+        no_session(),
+        Session::start(run_meant(run), image, map, buffer),
+    )
+}
+
+// What a start that is refused hands back.
+pub fn no_session() -> SessionState
+    ensures { λ r. ⌜ r ≡ noSession ⌝ }
+{
+    SessionState {
         run: 0,
         phase: 0,
         place: 0,
         acknowledged: 0,
         total: 0,
         named: 0,
-    };
-    answered(none, Session::start(run_meant(run), image, map, buffer))
+    }
 }
 
 #[no_mangle]
