@@ -138,6 +138,13 @@ typedef struct gremolunde_record {
     uint32_t bytes;
 } gremolunde_record;
 
+/* Loader and session at the end of a rehearsal. */
+typedef struct gremolunde_rehearsal {
+    uint32_t number;
+    gremolunde_loader loader;
+    gremolunde_session session;
+} gremolunde_rehearsal;
+
 /* The byte turned for V. */
 uint8_t gremolunde_turned(uint8_t byte);
 
@@ -202,6 +209,14 @@ gremolunde_length gremolunde_log_write(gremolunde_session session, uint8_t *buff
 
 /* Reads a log record. 50 to 53. */
 gremolunde_record gremolunde_log_read(const uint8_t *input, size_t input_length);
+
+/* Rehearses a whole load of the file into the flash: the loader is reset, a session started, and exchange follows
+ * exchange until the session has ended. Each byte of `losses` tells what befalls one exchange: 0 nothing, 1 the packet
+ * is lost, any other value the answer is lost; past their end nothing is lost. 20 wrong sizes, 32 nothing named; the
+ * session is then all 0. */
+gremolunde_rehearsal gremolunde_rehearse(uint32_t run, gremolunde_loader loader, const uint8_t *losses,
+                                         size_t losses_length, const uint8_t *image, size_t image_length,
+                                         const uint8_t *map, size_t map_length, uint8_t *flash, size_t flash_length);
 
 #ifdef __cplusplus
 }

@@ -28,6 +28,7 @@
  *   43 session_outcome   session
  *   50 log_write         session, part buffer
  *   51 log_read          part input
+ *   60 rehearse          u32 run, loader, part losses, part image, part map, part flash
  *
  * A part is lent bytes: u8 buffer, u32 offset, u32 length; buffer FF with length 0 is the null pointer. A state is its
  * fields in the order of the header:
@@ -283,15 +284,19 @@ static void put_written(gremolunde_written r) {
     put64(r.length);
 }
 
+static void put_session(gremolunde_session s) {
+    put32(s.run);
+    put32(s.phase);
+    put32(s.place);
+    put32(s.acknowledged);
+    put32(s.total);
+    put32(s.named);
+}
+
 static void put_stepped(gremolunde_stepped r) {
     put32(r.number);
     put64(r.length);
-    put32(r.session.run);
-    put32(r.session.phase);
-    put32(r.session.place);
-    put32(r.session.acknowledged);
-    put32(r.session.total);
-    put32(r.session.named);
+    put_session(r.session);
 }
 
 static void put_mark(gremolunde_mark r) {
@@ -306,6 +311,12 @@ static void put_record(gremolunde_record r) {
     put32(r.acknowledged);
     put32(r.total);
     put32(r.bytes);
+}
+
+static void put_rehearsal(gremolunde_rehearsal r) {
+    put32(r.number);
+    put_loader(r.loader);
+    put_session(r.session);
 }
 
 /* The bytes of a buffer that differ from before: counted, and told where `tell` is set. */
@@ -511,6 +522,23 @@ static void records(uint8_t request) {
     }
 }
 
+static void rehearsals(uint8_t request) {
+    gremolunde_loader s;
+    part a, b, c, d;
+    uint32_t run;
+    if (request != 0x60) {
+        end(1);
+    }
+    run = get32();
+    s = get_loader();
+    a = lend_read();
+    b = lend_read();
+    c = lend_read();
+    d = lend_written();
+    put_rehearsal(gremolunde_rehearse(run, s, a.bytes, a.length, b.bytes, b.length, c.bytes, c.length, d.bytes,
+                                      d.length));
+}
+
 static void serve(uint8_t request) {
     lent = 0;
     switch (request >> 4) {
@@ -531,6 +559,9 @@ static void serve(uint8_t request) {
         break;
     case 5:
         records(request);
+        break;
+    case 6:
+        rehearsals(request);
         break;
     default:
         end(1);

@@ -99,6 +99,10 @@ static void layout(void) {
     AT(gremolunde_record, acknowledged, 8);
     AT(gremolunde_record, total, 12);
     AT(gremolunde_record, bytes, 16);
+    HOLD(sizeof(gremolunde_rehearsal) == 56);
+    AT(gremolunde_rehearsal, number, 0);
+    AT(gremolunde_rehearsal, loader, 8);
+    AT(gremolunde_rehearsal, session, 32);
 }
 
 static void packets(void) {
@@ -385,6 +389,27 @@ static void load(void) {
     HOLD(all(flash, 0x400, sizeof flash, 0));
 }
 
+static gremolunde_rehearsal rehearse(const uint8_t *losses, size_t length) {
+    memset(flash, 0, sizeof flash);
+    return gremolunde_rehearse(GREMOLUNDE_RESET, gremolunde_loader_new(), losses, length, image, sizeof image, map,
+                               sizeof map, flash, sizeof flash);
+}
+
+/* A rehearsal with nothing lost, with the answer to V lost, and with V itself lost. */
+static void rehearsals(void) {
+    static const uint8_t unanswered[] = {0, 0, 0, 2}, lost[] = {0, 0, 0, 1};
+    gremolunde_rehearsal whole = rehearse(NULL, 0);
+    HOLD(whole.number == 0 && gremolunde_session_outcome(whole.session) == 0 && whole.loader.condition == 2);
+    HOLD(flash[0x1FF] == 0 && flash[0x200] == 0x12 && flash[0x201] == 0x34 && all(flash, 0x202, 0x400, 0xFF));
+    whole = rehearse(unanswered, sizeof unanswered);
+    HOLD(whole.number == 0 && gremolunde_session_outcome(whole.session) == 40 && whole.session.acknowledged == 2);
+    HOLD(whole.loader.condition == 1 && flash[0x200] == 0x12 && !marked(whole.session, 0x200));
+    whole = rehearse(lost, sizeof lost);
+    HOLD(whole.number == 0 && gremolunde_session_outcome(whole.session) == 40 && whole.session.acknowledged == 2);
+    whole = gremolunde_rehearse(1, whole.loader, NULL, 0, image, sizeof image, map, sizeof map, flash, 0);
+    HOLD(whole.number == 20 && whole.loader.condition == 1 && whole.session.total == 0);
+}
+
 int main(void) {
     layout();
     packets();
@@ -396,5 +421,6 @@ int main(void) {
     made_up();
     records();
     load();
+    rehearsals();
     return failed;
 }
