@@ -11,7 +11,7 @@ use Rattle.basis.specs.Board.{flashSize, mapSize}
 use Rattle.basis.specs.Choice.{pick}
 use Rattle.basis.specs.Lists.{Bytes, overlay}
 use Rattle.basis.specs.Refusals.{Answer, refused, given}
-use Rattle.line.specs.Laws.Demand.{going, stays}
+use Rattle.line.specs.Laws.Moments.{going, stays}
 use Rattle.line.specs.Line.{Moment, begun, between, stepped, onward, exchangeOf, momentAt, momentOf, Exchanges}
 use Rattle.line.specs.declared.exchange.Ends.{Ends}
 use Rattle.line.specs.declared.exchange.Loss.{Loss}
