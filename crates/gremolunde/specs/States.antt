@@ -72,6 +72,10 @@ runShown RunKind.Jump = 0
 abbrev pub nowhere : Phase
 nowhere = erasing 0xFFFFFFFF
 
+-- the greeting and R have no place: with one they are nowhere
+abbrev pub placeless : Phase → ℕ → Phase
+placeless phase place = pick (eqb place 0) phase nowhere
+
 -- an end by its outcome; one that the paper does not list is nowhere
 abbrev pub endMeant : ℕ → Phase
 endMeant o =
@@ -84,11 +88,11 @@ endMeant o =
 -- 0 the greeting, 1 to 4 E, W, V and R at a place, 5 an end; all else is nowhere
 abbrev pub phaseMeant : ℕ → ℕ → Phase
 phaseMeant n place =
-    pick (eqb n 0) Phase.Greeting
+    pick (eqb n 0) (placeless Phase.Greeting place)
     (pick (eqb n 1) (erasing place)
     (pick (eqb n 2) (writing place)
     (pick (eqb n 3) (verifying place)
-    (pick (eqb n 4) Phase.Run
+    (pick (eqb n 4) (placeless Phase.Run place)
     (pick (eqb n 5) (endMeant place) nowhere)))))
 
 abbrev pub phaseShown : Phase → ℕ

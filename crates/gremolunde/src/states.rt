@@ -1,6 +1,6 @@
 // The states that a C caller keeps, and what each stands for.
 ghost use mathlib.Core.Path.{_≡_};
-ghost use Rattle.gremolunde.specs.States.{conditionMeant, conditionShown, loaderMeant, loaderShown, hexMeant, hexShown, runMeant, runShown, nowhere, endMeant, phaseMeant, phaseShown, placeShown, sessionMeant, sessionShown};
+ghost use Rattle.gremolunde.specs.States.{conditionMeant, conditionShown, loaderMeant, loaderShown, hexMeant, hexShown, runMeant, runShown, nowhere, endMeant, phaseMeant, placeless, phaseShown, placeShown, sessionMeant, sessionShown};
 use crate::numbers::flag;
 use basis::units::Address;
 use basis::units::Page;
@@ -154,14 +154,24 @@ fn phase_meant(phase: u32, place: u32) -> Phase
     ensures { λ r. ⌜ r ≡ phaseMeant phase place ⌝ }
 {
     match phase {
-        0 => Phase::Greeting,
+        0 => placeless(Phase::Greeting, place),
         1 => Phase::Erase(Page(place)),
         2 => Phase::Write(Address(place)),
         3 => Phase::Verify(Address(place)),
-        4 => Phase::Run,
+        4 => placeless(Phase::Run, place),
         5 => end_meant(place),
         _ => nowhere(),
     }
+}
+
+// The greeting and R have no place, so a session that names one came from no start.
+fn placeless(phase: Phase, place: u32) -> Phase
+    ensures { λ r. ⌜ r ≡ placeless phase place ⌝ }
+{
+    if place != 0 {
+        return nowhere();
+    }
+    phase
 }
 
 fn end_meant(outcome: u32) -> Phase

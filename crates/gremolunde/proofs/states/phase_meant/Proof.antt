@@ -5,6 +5,12 @@ use borrow.Author.Tests.{ne-eqb}
 use Rattle.gremolunde.proofs.states.phase_meant.Statement.{statement}
 use Rattle.gremolunde.proofs.states.phase_meant.Tie as tie
 
+placeless-requires : tie.Need-placeless-requires
+placeless-requires c κs = search needs
+
+placeless-requires-2 : tie.Need-placeless-requires-2
+placeless-requires-2 c κs = search needs
+
 end-meant-requires : tie.Need-end-meant-requires
 end-meant-requires c κs = search needs
 
@@ -12,7 +18,7 @@ nowhere-requires : tie.Need-nowhere-requires
 nowhere-requires c κs = search needs
 
 returns : tie.Need-returns
-returns c = rw (c .match .keys1) refl
+returns c = rw (c .before .match .keys1) (c .placeless .ensures)
 
 returns-2 : tie.Need-returns-2
 returns-2 c = rw (c .match .keys2) refl
@@ -24,7 +30,7 @@ returns-4 : tie.Need-returns-4
 returns-4 c = rw (c .match .keys4) refl
 
 returns-5 : tie.Need-returns-5
-returns-5 c = rw (c .match .keys5) refl
+returns-5 c = rw (c .before .match .keys5) (c .placeless2 .ensures)
 
 returns-6 : tie.Need-returns-6
 returns-6 c = rw (c .before .match .keys6) (c .end-meant .ensures)
@@ -36,6 +42,8 @@ pub phase-meant-spec : {M : Type 1} → statement M
 phase-meant-spec =
     tie.close
     (tie.spec
+    placeless-requires
+    placeless-requires-2
     end-meant-requires
     nowhere-requires
     returns
