@@ -1,0 +1,5 @@
+-- Text in, text out. Definitions stand here, what is proved of them under Laws.
+pub mod Numbers
+pub mod Text
+pub mod Feed
+pub mod Laws

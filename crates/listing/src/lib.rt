@@ -1,0 +1,3 @@
+// Text in, text out: hex text to a file, a file to the lines of its plan, a log record to its line.
+pub mod numbers;
+pub mod text;
