@@ -1,3 +1,4 @@
 pub mod Numbers
 pub mod Feed
 pub mod Reading
+pub mod Plan

@@ -27,7 +27,7 @@ same-length c = search needs
 
 -- src/numbers.rt:26:1
 returns : tie.Need-returns
-returns c = field-put _ _ _ _ _ _ _ (c .before .before .before .before .before .before .copy .ensures) (c .before .before .decimal .ensures)
+returns c = field-put _ _ _ _ _ _ _ (c .before .before .before .before .before .before .copy .ensures) (c .before .before .decimal .ensures) (decimal-most (c .before .before .before .before .before .before .before .before .before .before .args .n) (c .before .before .before .before .before .before .before .before .before .before .fits .n .fits))
 
 pub field-spec : {M : Type 1} → statement M
 field-spec = tie.close (tie.spec copy-requires add-decimal decimal-requires same-length returns)
