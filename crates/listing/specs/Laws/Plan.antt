@@ -1,5 +1,5 @@
 -- Laws of a plan's listing: it goes along the plan, and its pages are the plan's lines.
-use Prim.Native.Nat.{ℕ, _+_, _-_, _≤_, _<_}
+use Prim.Native.Nat.{ℕ, suc, _+_, _-_, _≤_, _<_}
 use mathlib.Core.Bool.{true, false, not}
 use mathlib.Core.List.{List, [], _∷_, _++_, append-assoc}
 use mathlib.Core.Path.{_≡_, refl, sym, ap, _∙_}
@@ -7,8 +7,8 @@ use native.Mathlib.Numerals.{add-one}
 use native.Mathlib.Omega.{arith}
 use borrow.Author.Tests.{lt-ltb, le-ltb, ltb-true, ltb-false, eqb-true, eqb-false}
 use lib.Dec.{eqb, ltb}
-use lib.ListN.{length, getD, drop, drop-of-length-le}
-use lib.Seq.{drop-cons}
+use lib.ListN.{length, getD, drop, length-drop, drop-of-length-le}
+use lib.Seq.{drop-cons, drop-nil}
 use Rattle.basis.specs.Board.{flashSize}
 use Rattle.basis.specs.Board.{mapSize as mapRoom}
 use Rattle.basis.specs.Laws.Choice.{decide}
@@ -137,3 +137,68 @@ module _ (room n : ℕ) where
   pub page-line : (p : List ℕ) (ps : List (List ℕ)) → longestLine ≤ room → pageOf room n (p ∷ ps) ≡ behind (stepLine (n + 1) p) (pageOf (room - length (stepLine (n + 1) p)) (n + 1) ps)
   unfolding pageOf
   page-line p ps h = rw (le-ltb room longestLine h)
+
+-- a page lists packets, at least one where there is room, and no more than are left
+pub page-from : (room n : ℕ) (ps : List (List ℕ)) → n ≤ pageOf room n ps .listed
+unfolding pageOf
+page-from room n [] = omega arith
+page-from room n (p ∷ ps) =
+    decide (ltb room longestLine)
+    (λ t. rw t (omega arith))
+    (λ t. rw t (omega (arith, page-from (room - length (stepLine (n + 1) p)) (n + 1) ps)))
+
+pub page-moves : (room n : ℕ) (ps : List (List ℕ)) → longestLine ≤ room → 0 < length ps → n < pageOf room n ps .listed
+page-moves room n [] h l = absurd (omega arith)
+page-moves room n (p ∷ ps) h l =
+    rw (page-line room n p ps h) (omega (arith, page-from (room - length (stepLine (n + 1) p)) (n + 1) ps))
+
+pub page-within : (room n : ℕ) (ps : List (List ℕ)) → pageOf room n ps .listed ≤ n + length ps
+unfolding pageOf
+page-within room n [] = omega arith
+page-within room n (p ∷ ps) =
+    decide (ltb room longestLine)
+    (λ t. rw t (omega arith))
+    (λ t. rw t (omega (arith, page-within (room - length (stepLine (n + 1) p)) (n + 1) ps)))
+
+-- pages one after another are the plan's lines: each is followed by the lines of the packets behind it
+pub page-text : (room n : ℕ) (ps : List (List ℕ)) → stepLines n ps ≡ pageOf room n ps .text ++ stepLines (pageOf room n ps .listed) (drop (pageOf room n ps .listed - n) ps)
+unfolding pageOf stepLines
+page-text room n [] = sym (ap (stepLines n) (drop-nil (n - n)))
+page-text room n (p ∷ ps) =
+    let z : n - n ≡ 0 = omega arith in
+    decide (ltb room longestLine)
+    (λ t. rw (t, z))
+    (λ t. let g : Page = pageOf (room - length (stepLine (n + 1) p)) (n + 1) ps in
+    let k : g .listed - n ≡ suc (g .listed - (n + 1)) = omega (arith, page-from (room - length (stepLine (n + 1) p)) (n + 1) ps) in
+    rw (t, k, append-assoc) (ap (λ (s : List ℕ). stepLine (n + 1) p ++ s) (page-text (room - length (stepLine (n + 1) p)) (n + 1) ps)))
+
+-- ---- a listing goes on
+
+module _ (image m : List ℕ) (l : Listing) (h : Listed image m l) (room : ℕ) (x : Listing) (e : x ≡ listingAt m (pageOf room (l .listed) (drop (l .listed) (plan image m RunKind.Reset)) .listed)) where
+  abbrev rest : List (List ℕ)
+  rest = drop (l .listed) (plan image m RunKind.Reset)
+
+  rest-length : l .listed + length rest ≡ total m
+  rest-length = omega (arith, length-drop (l .listed) (plan image m RunKind.Reset), plan-length image m RunKind.Reset, h .within)
+
+  pub page-listed : Listed image m x
+  page-listed =
+      let n : x .listed ≡ pageOf room (l .listed) rest .listed = ap (λ (y : Listing). y .listed) e in
+      record { imageSize = h .imageSize; mapSize = h .mapSize; some = h .some; stands = e ∙ ap (listingAt m) (sym n); within = omega (arith, page-within room (l .listed) rest, rest-length) }
+
+  pub page-falls : longestLine ≤ room → l .listed < l .total → x .total - x .listed < l .total - l .listed
+  page-falls r s =
+      let n : x .listed ≡ pageOf room (l .listed) rest .listed = ap (λ (y : Listing). y .listed) e in
+      omega (arith, n, ap (λ (y : Listing). y .total) e, listed-total image m l h, page-moves room (l .listed) rest r (omega (arith, rest-length, listed-total image m l h)), page-within room (l .listed) rest, rest-length)
+
+-- what a start that is not refused gives
+pub begun-listed : (image m : List ℕ) (room : ℕ) (l : Listing) → given l ≡ begunOf m (started image m room RunKind.Reset) → Listed image m l
+begun-listed image m room l e = go (started image m room RunKind.Reset) refl e
+  where
+    go : (a : Answer Sent) → started image m room RunKind.Reset ≡ a → given l ≡ begunOf m a → Listed image m l
+    go (refused k) q f = absurd (apart (sym f))
+    go (given y) q f =
+        let s = starts image m room (record { session = y .session; len = length (y .packet) }) (sym (ap measured q)) in
+        let n : l ≡ listingAt m 0 = given-one f in
+        let z : l .listed ≡ 0 = ap (λ (x : Listing). x .listed) n in
+        record { imageSize = s .imageSize; mapSize = s .mapSize; some = s .some; stands = n ∙ ap (listingAt m) (sym z); within = omega (arith, z) }

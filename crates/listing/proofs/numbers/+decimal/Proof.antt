@@ -1,17 +1,15 @@
 -- `decimal` meets its contract: the last digit goes behind those of a tenth of the number. The measure is the number.
+use Prim.Native.Nat.{ℕ, _<_}
 use native.Mathlib.Omega.{arith}
 use borrow.Author.Needs.{needs}
-use lib.ListN.{length}
-use Rattle.listing.specs.Numbers.{decimalOf}
-use Rattle.listing.proofs.Buffers.{decimal-last, decimal-next, decimal-room, decimal-some}
-use Prim.Native.Nat.{ℕ, _<_}
 use borrow.Fn.Kinds.{In}
 use borrow.Fn.PlainCycle.{Measures, is, falls, and}
+use Rattle.listing.proofs.Buffers.{decimal-last, decimal-next, decimal-room, decimal-some}
+use Rattle.listing.proofs.numbers.+decimal.Tie.{close}
+use Rattle.listing.proofs.numbers.+decimal.{statement}
 use Rattle.listing.proofs.numbers.decimal.Reads as decimal
 use Rattle.listing.proofs.numbers.decimal.Kinds as decimal-kinds
 use Rattle.listing.proofs.numbers.+decimal.Lts-decimal as decimal-lts
-use Rattle.listing.proofs.numbers.+decimal.{statement}
-use Rattle.listing.proofs.numbers.+decimal.Tie.{close}
 
 abbrev μ-decimal : Measures 1 decimal-kinds.ps ℕ
 μ-decimal κs a = a .1 .1 .0
@@ -22,81 +20,68 @@ decimal-at t = and 1 decimal-kinds.ps (is 1 decimal-kinds.ps μ-decimal t) decim
 abbrev decimal-below : ℕ → In 1 decimal-kinds.ps
 decimal-below t = and 1 decimal-kinds.ps (falls 1 decimal-kinds.ps _<_ μ-decimal t) decimal.Pre
 
--- src/numbers.rt:17:27
 decimal-cast-buffer :
     (t : ℕ) →
     decimal-lts.Need-cast-buffer (decimal-below t, decimal.Post) (decimal-at t) decimal.Post
 decimal-cast-buffer t c = search needs
 
--- src/numbers.rt:17:22
 decimal-add-buffer :
     (t : ℕ) →
     decimal-lts.Need-add-buffer (decimal-below t, decimal.Post) (decimal-at t) decimal.Post
 decimal-add-buffer t c = search needs
 
--- src/numbers.rt:17:9
 decimal-slice-write-buffer : (t : ℕ) → decimal-lts.Need-slice-write-buffer (
   decimal-below t,
   decimal.Post,
 ) (decimal-at t) decimal.Post
 decimal-slice-write-buffer t c = decimal-some _ _ _ (c .if1 .taken) (c .before .before .pre .1)
 
--- src/numbers.rt:18:16
 decimal-add-result :
     (t : ℕ) →
     decimal-lts.Need-add-result (decimal-below t, decimal.Post) (decimal-at t) decimal.Post
 decimal-add-result t c = search needs
 
--- src/numbers.rt:18:9
 decimal-same-length :
     (t : ℕ) →
     decimal-lts.Need-same-length (decimal-below t, decimal.Post) (decimal-at t) decimal.Post
 decimal-same-length t c = search needs
 
--- src/numbers.rt:18:9
 decimal-returns :
     (t : ℕ) → decimal-lts.Need-returns (decimal-below t, decimal.Post) (decimal-at t) decimal.Post
 decimal-returns t c = decimal-last _ _ _ (c .if1 .taken)
 
--- src/numbers.rt:20:9
 decimal-decimal-requires : (t : ℕ) → decimal-lts.Need-decimal-requires (
   decimal-below t,
   decimal.Post,
 ) (decimal-at t) decimal.Post
 decimal-decimal-requires t c κs = (omega arith, omega (arith, decimal-room (c .before .before .before .args .n) (c .before .if1 .left), c .before .before .before .pre .1))
 
--- src/numbers.rt:21:24
 decimal-cast-buffer-2 :
     (t : ℕ) →
     decimal-lts.Need-cast-buffer-2 (decimal-below t, decimal.Post) (decimal-at t) decimal.Post
 decimal-cast-buffer-2 t c = search needs
 
--- src/numbers.rt:21:19
 decimal-add-buffer-2 :
     (t : ℕ) →
     decimal-lts.Need-add-buffer-2 (decimal-below t, decimal.Post) (decimal-at t) decimal.Post
 decimal-add-buffer-2 t c = search needs
 
--- src/numbers.rt:21:5
 decimal-slice-write-buffer-2 : (t : ℕ) → decimal-lts.Need-slice-write-buffer-2 (
   decimal-below t,
   decimal.Post,
 ) (decimal-at t) decimal.Post
 decimal-slice-write-buffer-2 t c = omega (arith, decimal-room (c .before .before .before .before .before .before .args .n) (c .before .before .before .before .if1 .left), c .before .before .before .before .before .before .pre .1, c .before .before .decimal .ensures .0, c .before .before .decimal .kept .0)
 
--- src/numbers.rt:22:5
 decimal-add-result-2 :
     (t : ℕ) →
     decimal-lts.Need-add-result-2 (decimal-below t, decimal.Post) (decimal-at t) decimal.Post
 decimal-add-result-2 t c = omega (arith, decimal-room (c .before .before .before .before .before .before .args .n) (c .before .before .before .before .if1 .left), c .before .before .before .before .before .before .pre .1, c .before .before .decimal .ensures .0, c .before .before .decimal .kept .0)
 
--- src/numbers.rt:11:1
 decimal-same-length-2 :
     (t : ℕ) →
     decimal-lts.Need-same-length-2 (decimal-below t, decimal.Post) (decimal-at t) decimal.Post
 decimal-same-length-2 t c = search needs
 
--- src/numbers.rt:11:1
 decimal-returns-2 :
     (t : ℕ) →
     decimal-lts.Need-returns-2 (decimal-below t, decimal.Post) (decimal-at t) decimal.Post

@@ -1,33 +1,26 @@
+-- `trimmed` meets its contract: the last byte tells.
 use native.Mathlib.Omega.{arith}
+use borrow.Author.Needs.{needs}
 use lib.ListN.{length-take}
 use Rattle.listing.proofs.Texts.{trimmed-empty, trimmed-same, trimmed-cut}
-use borrow.Author.Needs.{needs}
 use Rattle.listing.proofs.text.trimmed.Statement.{statement}
 use Rattle.listing.proofs.text.trimmed.Tie as tie
-use Rattle.listing.proofs.text.trimmed.Reads as reads
-use Rattle.listing.proofs.text.trimmed.Lts as lts
 
--- src/text.rt:174:9
 returns : tie.Need-returns
 returns c = trimmed-empty _ (c .if1 .taken)
 
--- src/text.rt:176:15
 sub-end : tie.Need-sub-end
 sub-end c = search needs
 
--- src/text.rt:177:8
 shared-slice-read-if2 : tie.Need-shared-slice-read-if2
 shared-slice-read-if2 c = search needs
 
--- src/text.rt:178:9
 returns-2 : tie.Need-returns-2
 returns-2 c = trimmed-same _ (c .if2 .taken)
 
--- src/text.rt:180:5
 slice-aggregate-result : tie.Need-slice-aggregate-result
 slice-aggregate-result c = simp length-take (omega arith)
 
--- src/text.rt:169:1
 returns-3 : tie.Need-returns-3
 returns-3 c = trimmed-cut _ (c .before .if2 .left)
 

@@ -1,54 +1,40 @@
+-- `line_with` meets its contract: the packet that is sent is the one that the plan has there.
 use mathlib.Core.Path.{sym}
+use native.Mathlib.Omega.{arith}
+use borrow.Author.Needs.{needs}
+use lib.Seq.{length-take-le}
 use Rattle.listing.specs.Laws.Plan.{listed-start}
 use Rattle.listing.proofs.Pages.{packet-fits, packet-length, line-put}
-use native.Mathlib.Omega.{arith}
-use lib.Seq.{length-take-le}
-use borrow.Author.Needs.{needs}
 use Rattle.listing.proofs.plan.Listing.line_with.Statement.{statement}
 use Rattle.listing.proofs.plan.Listing.line_with.Tie as tie
-use Rattle.listing.proofs.plan.Listing.line_with.Reads as reads
-use Rattle.listing.proofs.plan.Listing.line_with.Lts as lts
-use Rattle.listing.proofs.plan.step_line.Reads as step-line-reads
-use Rattle.session.proofs.cursor.after.Reads as after-reads
-use Rattle.session.proofs.sending.send.Reads as send-reads
 
--- src/plan.rt:118:22
 add-listed : tie.Need-add-listed
 add-listed c = search needs
 
--- src/plan.rt:119:13
 send-requires : tie.Need-send-requires
 send-requires c κs = (c .before .before .before .before .before .before .pre .0 .imageSize, c .before .before .before .before .before .before .pre .0 .mapSize, omega (arith, c .before .before .before .before .before .before .pre .2), listed-start (c .before .before .before .before .before .before .args .image .now) (c .before .before .before .before .before .before .args .map .now) (c .before .before .before .before .before .before .args .self) (c .before .before .before .before .before .before .pre .0) (c .before .before .before .before .before .before .pre .1))
 
--- src/plan.rt:120:41
 cast-step-line : tie.Need-cast-step-line
 cast-step-line c = search needs
 
--- src/plan.rt:120:56
 slice-reshare-prefix-step-line : tie.Need-slice-reshare-prefix-step-line
 slice-reshare-prefix-step-line c = omega (arith, packet-fits (c .before .before .before .before .before .before .before .before .before .before .args .image .now) (c .before .before .before .before .before .before .before .before .before .before .args .map .now) (c .before .before .before .before .before .before .before .before .before .before .args .self) (c .before .before .before .before .before .before .before .before .before .before .pre .0) (c .before .before .before .before .before .before .before .before .before .before .pre .1) _ _ _ (c .before .before .before .before .before .before .before .before .before .before .pre .2) (c .before .before .before .send .kept .1 .1 .1 .1 .0) (c .before .before .before .send .ensures), c .before .before .before .send .kept .1 .1 .1 .1 .0, c .before .before .before .before .before .before .before .before .before .before .pre .2)
 
--- src/plan.rt:120:56
 slice-aggregate-step-line : tie.Need-slice-aggregate-step-line
 slice-aggregate-step-line c = sym (length-take-le _ _ (omega (arith, packet-fits (c .before .before .before .before .before .before .before .before .before .before .before .args .image .now) (c .before .before .before .before .before .before .before .before .before .before .before .args .map .now) (c .before .before .before .before .before .before .before .before .before .before .before .args .self) (c .before .before .before .before .before .before .before .before .before .before .before .pre .0) (c .before .before .before .before .before .before .before .before .before .before .before .pre .1) _ _ _ (c .before .before .before .before .before .before .before .before .before .before .before .pre .2) (c .before .before .before .before .send .kept .1 .1 .1 .1 .0) (c .before .before .before .before .send .ensures), c .before .before .before .before .send .kept .1 .1 .1 .1 .0, c .before .before .before .before .before .before .before .before .before .before .before .pre .2)))
 
--- src/plan.rt:120:13
 step-line-requires : tie.Need-step-line-requires
 step-line-requires c κs = omega (arith, packet-length (c .before .before .before .before .before .before .before .before .before .before .before .args .image .now) (c .before .before .before .before .before .before .before .before .before .before .before .args .map .now) (c .before .before .before .before .before .before .before .before .before .before .before .args .self) (c .before .before .before .before .before .before .before .before .before .before .before .pre .0) (c .before .before .before .before .before .before .before .before .before .before .before .pre .1) _ _ _ (c .before .before .before .before .before .before .before .before .before .before .before .pre .2) (c .before .before .before .before .send .kept .1 .1 .1 .1 .0) (c .before .before .before .before .send .ensures), c .before .before .before .before .before .before .before .before .before .before .before .pre .3)
 
--- src/plan.rt:122:20
 after-requires : tie.Need-after-requires
 after-requires c κs = (c .before .before .before .before .before .before .before .before .before .before .before .before .before .before .pre .0 .mapSize, listed-start (c .before .before .before .before .before .before .before .before .before .before .before .before .before .before .args .image .now) (c .before .before .before .before .before .before .before .before .before .before .before .before .before .before .args .map .now) (c .before .before .before .before .before .before .before .before .before .before .before .before .before .before .args .self) (c .before .before .before .before .before .before .before .before .before .before .before .before .before .before .pre .0) (c .before .before .before .before .before .before .before .before .before .before .before .before .before .before .pre .1))
 
--- src/plan.rt:110:5
 same-length : tie.Need-same-length
 same-length c = search needs
 
--- src/plan.rt:110:5
 same-length-2 : tie.Need-same-length-2
 same-length-2 c = search needs
 
--- src/plan.rt:110:5
 returns : tie.Need-returns
 returns c = line-put (c .before .before .before .before .before .before .before .before .before .before .before .before .before .before .before .args .image .now) (c .before .before .before .before .before .before .before .before .before .before .before .before .before .before .before .args .map .now) (c .before .before .before .before .before .before .before .before .before .before .before .before .before .before .before .args .self) (c .before .before .before .before .before .before .before .before .before .before .before .before .before .before .before .pre .0) (c .before .before .before .before .before .before .before .before .before .before .before .before .before .before .before .pre .1) _ _ _ (c .before .before .before .before .before .before .before .before .before .before .before .before .before .before .before .pre .2) (c .before .before .before .before .before .before .before .before .send .kept .1 .1 .1 .1 .0) (c .before .before .before .before .before .before .before .before .send .ensures) _ _ _ _ _ (c .before .before .before .step-line .ensures) (c .after .ensures)
 

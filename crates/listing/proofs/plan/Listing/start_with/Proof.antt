@@ -1,46 +1,35 @@
+-- `start_with` meets its contract: the session's start decides.
 use mathlib.Core.Path.{sym, ap, _∙_}
-use Rattle.basis.specs.Refusals.{given}
-use Rattle.session.specs.Paper.{paperStepped}
-use Rattle.listing.specs.Laws.Plan.{starts, start-refused}
 use borrow.Author.Needs.{needs}
+use Rattle.basis.specs.Refusals.{given}
+use Rattle.listing.specs.Laws.Plan.{starts, start-refused}
+use Rattle.session.specs.Paper.{paperStepped}
 use Rattle.listing.proofs.plan.Listing.start_with.Statement.{statement}
 use Rattle.listing.proofs.plan.Listing.start_with.Tie as tie
-use Rattle.listing.proofs.plan.Listing.start_with.Reads as reads
-use Rattle.listing.proofs.plan.Listing.start_with.Lts as lts
-use Rattle.listing.proofs.plan.Listing.first.Reads as first-reads
-use Rattle.session.proofs.session.Session.start.Reads as start-reads
 
--- src/plan.rt:59:15
 start-requires : tie.Need-start-requires
 start-requires c κs = search needs
 
--- src/plan.rt:60:27
 enum-known-next : tie.Need-enum-known-next
 enum-known-next c = search needs
 
--- src/plan.rt:60:51
 first-requires : tie.Need-first-requires
 first-requires c κs = let a = c .before .before .before .before .before .before .before .before .before .before .args in
     let s = starts (a .image .now) (a .map .now) _ (c .before .next .given .0 .0) (sym (ap paperStepped (c .before .next .given .1)) ∙ c .before .before .before .before .before .start .ensures .0) in (s .mapSize, s .some, s .counted)
 
--- src/plan.rt:61:30
 enum-known-x : tie.Need-enum-known-x
 enum-known-x c = search needs
 
--- src/plan.rt:56:5
 same-length : tie.Need-same-length
 same-length c = search needs
 
--- src/plan.rt:56:5
 returns : tie.Need-returns
 returns c = let a = c .before .before .before .before .before .before .before .before .before .before .before .args in
     let s = starts (a .image .now) (a .map .now) _ (c .before .before .next .given .0 .0) (sym (ap paperStepped (c .before .before .next .given .1)) ∙ c .before .before .before .before .before .before .start .ensures .0) in ap given (c .first .ensures) ∙ sym (s .begun)
 
--- src/plan.rt:56:5
 same-length-2 : tie.Need-same-length-2
 same-length-2 c = search needs
 
--- src/plan.rt:56:5
 returns-2 : tie.Need-returns-2
 returns-2 c = start-refused (c .before .before .before .before .before .before .before .before .before .before .args .image .now) (c .before .before .before .before .before .before .before .before .before .before .args .map .now) _ _ (sym (ap paperStepped (c .before .x .given .1)) ∙ c .before .before .before .before .before .start .ensures .0)
 

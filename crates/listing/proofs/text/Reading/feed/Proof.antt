@@ -1,3 +1,4 @@
+-- `feed` meets its contract: feeding what is left, from here, gives what was to be given.
 use Prim.Native.Nat.{_≤_, _-_}
 use mathlib.Core.Path.{_≡_, refl, sym, _∙_}
 use borrow.Author.Needs.{needs}
@@ -7,9 +8,6 @@ use Rattle.listing.specs.Feed.{paperReading, fed, feedOf}
 use Rattle.listing.specs.Laws.Feed.{feed-next, feed-end}
 use Rattle.listing.proofs.text.Reading.feed.Statement.{statement}
 use Rattle.listing.proofs.text.Reading.feed.Tie as tie
-use Rattle.listing.proofs.text.Reading.feed.Reads as reads
-use Rattle.listing.proofs.text.Reading.feed.Lts as lts
-use Rattle.listing.proofs.text.Reading.byte.Reads as byte-reads
 
 abbrev Inv-loop : tie.InvT-loop
 Inv-loop bytes line₀ image₀ map₀ reading₀ i₀ line image map reading i = (i ≤ length bytes) × (length line ≡ length line₀) × (length image ≡ length image₀) × (length map ≡ length map₀) × (feedOf flashSize (fed (paperReading reading) line image map) (drop i bytes) ≡ feedOf flashSize (fed (paperReading reading₀) line₀ image₀ map₀) bytes)
@@ -17,43 +15,33 @@ Inv-loop bytes line₀ image₀ map₀ reading₀ i₀ line image map reading i 
 abbrev μ-loop : tie.MeasureT-loop
 μ-loop bytes line₀ image₀ map₀ reading₀ i₀ line image map reading i = length bytes - i
 
--- src/text.rt:53:9
 loop-holds : tie.Need-loop-holds Inv-loop μ-loop
 loop-holds c = (search needs, refl, refl, refl, refl)
 
--- src/text.rt:54:36
 shared-slice-read-byte : tie.Need-shared-slice-read-byte Inv-loop μ-loop
 shared-slice-read-byte c = search needs
 
--- src/text.rt:54:13
 byte-requires : tie.Need-byte-requires Inv-loop μ-loop
 byte-requires c κs = search needs
 
--- src/text.rt:55:13
 add-i : tie.Need-add-i Inv-loop μ-loop
 add-i c = search needs
 
--- src/text.rt:53:9
 loop-less : tie.Need-loop-less Inv-loop μ-loop
 loop-less c = search needs
 
--- src/text.rt:53:9
 loop-again : tie.Need-loop-again Inv-loop μ-loop
 loop-again c = (search needs, search needs, search needs, search needs, feed-next flashSize _ _ _ _ (c .before .before .before .before .before .before .before .before .before .before .before .loop-test .taken) (c .before .before .before .before .before .before .byte .ensures) ∙ c .before .before .before .before .before .before .before .before .before .before .before .before .loop .inv .4)
 
--- src/text.rt:48:5
 same-length : tie.Need-same-length Inv-loop μ-loop
 same-length c = search needs
 
--- src/text.rt:48:5
 same-length-2 : tie.Need-same-length-2 Inv-loop μ-loop
 same-length-2 c = search needs
 
--- src/text.rt:48:5
 same-length-3 : tie.Need-same-length-3 Inv-loop μ-loop
 same-length-3 c = search needs
 
--- src/text.rt:48:5
 returns : tie.Need-returns Inv-loop μ-loop
 returns c = sym (feed-end flashSize _ _ _ (c .loop-test .left)) ∙ c .before .loop .inv .4
 

@@ -1,47 +1,34 @@
-use mathlib.Core.Path.{sym, ap, _∙_}
-use Rattle.image.specs.Hex.{outcome, paperRead}
+-- `start` meets its contract: the hex reader's start, with no line taken.
+use borrow.Author.Needs.{needs}
 use Rattle.listing.specs.Feed.{begunBy}
 use Rattle.listing.proofs.Texts.{shown}
-use borrow.Author.Needs.{needs}
 use Rattle.listing.proofs.text.Reading.start.Statement.{statement}
 use Rattle.listing.proofs.text.Reading.start.Tie as tie
-use Rattle.listing.proofs.text.Reading.start.Reads as reads
-use Rattle.listing.proofs.text.Reading.start.Lts as lts
-use Rattle.image.proofs.hex.Hex.start.Reads as start-reads
 
--- src/text.rt:37:15
 start-requires : tie.Need-start-requires
 start-requires c κs = search needs
 
--- src/text.rt:38:25
 enum-known-hex : tie.Need-enum-known-hex
 enum-known-hex c = search needs
 
--- src/text.rt:43:27
 enum-known-refusal : tie.Need-enum-known-refusal
 enum-known-refusal c = search needs
 
--- src/text.rt:31:5
 same-length : tie.Need-same-length
 same-length c = search needs
 
--- src/text.rt:31:5
 same-length-2 : tie.Need-same-length-2
 same-length-2 c = search needs
 
--- src/text.rt:31:5
 returns : tie.Need-returns
 returns c = shown begunBy _ _ _ _ _ (c .before .hex .given .1) (c .before .before .before .before .before .before .before .start .ensures)
 
--- src/text.rt:31:5
 same-length-3 : tie.Need-same-length-3
 same-length-3 c = search needs
 
--- src/text.rt:31:5
 same-length-4 : tie.Need-same-length-4
 same-length-4 c = search needs
 
--- src/text.rt:31:5
 returns-2 : tie.Need-returns-2
 returns-2 c = shown begunBy _ _ _ _ _ (c .before .refusal .given .1) (c .before .before .before .before .before .before .before .start .ensures)
 

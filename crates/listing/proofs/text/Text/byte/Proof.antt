@@ -1,60 +1,44 @@
-use mathlib.Core.Path.{sym, ap, _∙_}
+-- `byte` meets its contract: 0A ends the line, another byte is kept where there is room.
+use mathlib.Core.Path.{ap, _∙_}
+use borrow.Author.Needs.{needs}
 use Rattle.listing.specs.Text.{trimmedOf}
 use Rattle.listing.proofs.Texts.{byte-ends, byte-kept, byte-lost}
-use borrow.Author.Needs.{needs}
 use Rattle.listing.proofs.text.Text.byte.Statement.{statement}
 use Rattle.listing.proofs.text.Text.byte.Tie as tie
-use Rattle.listing.proofs.text.Text.byte.Reads as reads
-use Rattle.listing.proofs.text.Text.byte.Lts as lts
-use Rattle.listing.proofs.text.Text.take.Reads as take-reads
-use Rattle.listing.proofs.text.kept.Reads as kept-reads
-use Rattle.listing.proofs.text.trimmed.Reads as trimmed-reads
 
--- src/text.rt:96:38
 kept-requires : tie.Need-kept-requires
 kept-requires c κs = search needs
 
--- src/text.rt:96:30
 trimmed-requires : tie.Need-trimmed-requires
 trimmed-requires c κs = search needs
 
--- src/text.rt:96:13
 take-requires : tie.Need-take-requires
 take-requires c κs = search needs
 
--- src/text.rt:96:13
 same-length : tie.Need-same-length
 same-length c = search needs
 
--- src/text.rt:96:13
 same-length-2 : tie.Need-same-length-2
 same-length-2 c = search needs
 
--- src/text.rt:96:13
 same-length-3 : tie.Need-same-length-3
 same-length-3 c = search needs
 
--- src/text.rt:96:13
 returns : tie.Need-returns
 returns c = byte-ends _ _ _ _ _ _ _ _ _ _ (c .before .before .before .before .before .before .before .before .before .before .if1 .taken) (c .before .before .before .before .before .before .before .trimmed .ensures ∙ ap trimmedOf (c .before .before .before .before .before .before .before .before .kept .ensures)) (c .before .before .before .before .take .ensures)
 
--- src/text.rt:99:13
 slice-write-line : tie.Need-slice-write-line
 slice-write-line c = search needs
 
--- src/text.rt:104:22
 add-t19 : tie.Need-add-t19
 add-t19 c = search needs
 
--- src/text.rt:101:13
 same-length-4 : tie.Need-same-length-4
 same-length-4 c = search needs
 
--- src/text.rt:101:13
 returns-2 : tie.Need-returns-2
 returns-2 c = byte-kept _ _ _ _ _ _ (c .before .before .if1 .left) (c .before .if2 .taken)
 
--- src/text.rt:91:5
 returns-3 : tie.Need-returns-3
 returns-3 c = byte-lost _ _ _ _ _ _ (c .before .if1 .left) (c .if2 .left)
 

@@ -1,33 +1,24 @@
-use Rattle.listing.proofs.Texts.{last-none, last-line}
+-- `last` meets its contract: nothing behind the last 0A is no line.
 use borrow.Author.Needs.{needs}
+use Rattle.listing.proofs.Texts.{last-none, last-line}
 use Rattle.listing.proofs.text.Text.last.Statement.{statement}
 use Rattle.listing.proofs.text.Text.last.Tie as tie
-use Rattle.listing.proofs.text.Text.last.Reads as reads
-use Rattle.listing.proofs.text.Text.last.Lts as lts
-use Rattle.listing.proofs.text.Text.take.Reads as take-reads
-use Rattle.listing.proofs.text.kept.Reads as kept-reads
 
--- src/text.rt:116:13
 returns : tie.Need-returns
 returns c = last-none _ _ _ _ _ (c .if1 .taken)
 
--- src/text.rt:118:19
 kept-requires : tie.Need-kept-requires
 kept-requires c κs = search needs
 
--- src/text.rt:118:9
 take-requires : tie.Need-take-requires
 take-requires c κs = search needs
 
--- src/text.rt:111:5
 same-length : tie.Need-same-length
 same-length c = search needs
 
--- src/text.rt:111:5
 same-length-2 : tie.Need-same-length-2
 same-length-2 c = search needs
 
--- src/text.rt:111:5
 returns-2 : tie.Need-returns-2
 returns-2 c = last-line _ _ _ _ _ _ _ _ _ (c .before .before .before .before .before .before .before .before .if1 .left) (c .before .before .before .before .before .before .before .kept .ensures) (c .before .before .before .before .take .ensures)
 

@@ -1,30 +1,23 @@
+-- `shut` meets its contract: what closing the reader says.
 use mathlib.Core.Path.{sym, ap, _∙_}
+use borrow.Author.Needs.{needs}
 use Rattle.image.specs.Hex.{paperRead}
 use Rattle.listing.proofs.Texts.{shut-by}
-use borrow.Author.Needs.{needs}
 use Rattle.listing.proofs.text.Text.shut.Statement.{statement}
 use Rattle.listing.proofs.text.Text.shut.Tie as tie
-use Rattle.listing.proofs.text.Text.shut.Reads as reads
-use Rattle.listing.proofs.text.Text.shut.Lts as lts
-use Rattle.image.proofs.hex.Hex.close.Reads as close-reads
 
--- src/text.rt:141:15
 close-requires : tie.Need-close-requires
 close-requires c κs = search needs
 
--- src/text.rt:142:31
 enum-told : tie.Need-enum-told
 enum-told c = search needs
 
--- src/text.rt:143:27
 enum-known-refusal : tie.Need-enum-known-refusal
 enum-known-refusal c = search needs
 
--- src/text.rt:137:5
 returns : tie.Need-returns
 returns c = shut-by _ _ (sym (ap paperRead (c .enum-told .given .1)) ∙ c .before .before .close .ensures)
 
--- src/text.rt:137:5
 returns-2 : tie.Need-returns-2
 returns-2 c = shut-by _ _ (sym (ap paperRead (c .before .refusal .given .1)) ∙ c .before .before .before .close .ensures)
 

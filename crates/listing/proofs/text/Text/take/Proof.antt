@@ -1,51 +1,36 @@
-use mathlib.Core.Path.{sym, ap, _∙_}
-use Rattle.image.specs.Hex.{outcome, paperRead}
-use Rattle.listing.proofs.Texts.{took-given, took-refused}
+-- `take` meets its contract: the record's outcome, with the line counted.
 use borrow.Author.Needs.{needs}
+use Rattle.listing.proofs.Texts.{took-given, took-refused}
 use Rattle.listing.proofs.text.Text.take.Statement.{statement}
 use Rattle.listing.proofs.text.Text.take.Tie as tie
-use Rattle.listing.proofs.text.Text.take.Reads as reads
-use Rattle.listing.proofs.text.Text.take.Lts as lts
-use Rattle.image.proofs.hex.Hex.record.Reads as record-reads
-use Rattle.std.proofs.num.wrapping_add_u64.Reads as wrapping-add-u64-reads
 
--- src/text.rt:129:13
 wrapping-add-u64-requires : tie.Need-wrapping-add-u64-requires
 wrapping-add-u64-requires c κs = search needs
 
--- src/text.rt:130:15
 record-requires : tie.Need-record-requires
 record-requires c κs = search needs
 
--- src/text.rt:131:25
 enum-known-next : tie.Need-enum-known-next
 enum-known-next c = search needs
 
--- src/text.rt:136:27
 enum-known-refusal : tie.Need-enum-known-refusal
 enum-known-refusal c = search needs
 
--- src/text.rt:122:5
 same-length : tie.Need-same-length
 same-length c = search needs
 
--- src/text.rt:122:5
 same-length-2 : tie.Need-same-length-2
 same-length-2 c = search needs
 
--- src/text.rt:122:5
 returns : tie.Need-returns
 returns c = took-given _ _ (c .before .before .before .before .before .before .before .before .before .before .wrapping-add-u64 .ensures) _ _ _ _ _ (c .before .next .given .1) (c .before .before .before .before .before .before .before .«record» .ensures)
 
--- src/text.rt:122:5
 same-length-3 : tie.Need-same-length-3
 same-length-3 c = search needs
 
--- src/text.rt:122:5
 same-length-4 : tie.Need-same-length-4
 same-length-4 c = search needs
 
--- src/text.rt:122:5
 returns-2 : tie.Need-returns-2
 returns-2 c = took-refused _ _ (c .before .before .before .before .before .before .before .before .before .before .wrapping-add-u64 .ensures) _ _ _ _ _ (c .before .refusal .given .1) (c .before .before .before .before .before .before .before .«record» .ensures)
 
