@@ -1,20 +1,20 @@
 -- What each way out of the text's functions shows.
 use Prim.Native.Nat.{ℕ, _+_, _-_, _^_, _≤_, _<_}
 use mathlib.Core.List.{List, [], _∷_}
-use mathlib.Core.Path.{_≡_, refl, sym, ap, _∙_}
+use mathlib.Core.Path.{_≡_, refl, ap, _∙_}
 use native.Mathlib.Omega.{arith}
 use borrow.Author.Tests.{eq-eqb, ne-eqb, lt-ltb, le-ltb}
 use lib.ListN.{length, getD, set, take}
-use Rattle.basis.specs.Refusals.{Answer, refused, given}
+use Rattle.basis.specs.Refusals.{Answer}
 use Rattle.image.specs.Hex.{paperRead, Outcome, outcome, settled, startIn, recordIn}
 use Rattle.image.specs.Hex.{closeOf as closing}
 use Rattle.image.specs.Record.{paperRefusal}
 use Rattle.image.specs.declared.hex.Hex.{Hex}
 use Rattle.image.specs.declared.hex.Read.{Read}
 use Rattle.image.specs.declared.record.Refusal.{Refusal}
-use Rattle.listing.specs.Text.{trimmedOf, readIn}
+use Rattle.listing.specs.Text.{Verdict, refusedAt, result, trimmedOf, readIn}
 use Rattle.listing.specs.Laws.Reading.{text-reads}
-use Rattle.listing.specs.Feed.{Progress, stopped, going, Fed, fed, started, paperReading, begunBy, feedOf, closeOf, resultOf, fedResult, nextLine, tookBy, took, longer, textByte, progressByte, lastOf, shutBy, shutOf, shutFed, progressClosed}
+use Rattle.listing.specs.Feed.{Progress, stopped, going, Fed, fed, started, paperReading, begunBy, feedOf, closeOf, verdictOf, fedResult, nextLine, tookBy, took, longer, textByte, progressByte, lastOf, shutBy, shutOf, shutFed, progressClosed}
 use Rattle.listing.specs.declared.text.Reading.{Reading}
 use Rattle.listing.specs.declared.text.Text.{Text}
 
@@ -109,9 +109,12 @@ module _ (size : ℕ) (r : Reading) (line image map : List ℕ) where
 
 -- ---- a whole text
 
+pub ended-refused : (r : Reading) (n : ℕ) (x : Refusal) → r ≡ Reading.Refused n x → refusedAt n (paperRefusal x) ≡ verdictOf (paperReading r)
+ended-refused r n x e = rw e
+
 module _ (size : ℕ) (text line image map : List ℕ) (room : 523 ≤ length line) (few : length text + 1 < 2 ^ 64) where
-  pub read-by : (p q r : Progress) (i1 m1 l2 i2 m2 i3 m3 : List ℕ) → Shown begunBy p i1 m1 (settled (startIn size image map) image map) → fed q l2 i2 m2 ≡ feedOf size (fed p line i1 m1) text → fed r l2 i3 m3 ≡ closeOf size (fed q l2 i2 m2) → resultOf r i3 m3 ≡ readIn size text image map
-  read-by p q r i1 m1 l2 i2 m2 i3 m3 s f g =
+  pub read-by : (p q r : Progress) (i1 m1 l2 i2 m2 i3 m3 : List ℕ) → Shown begunBy p i1 m1 (settled (startIn size image map) image map) → fed q l2 i2 m2 ≡ feedOf size (fed p line i1 m1) text → fed r l2 i3 m3 ≡ closeOf size (fed q l2 i2 m2) → (v : Verdict) → v ≡ verdictOf r → result v i3 m3 ≡ readIn size text image map
+  read-by p q r i1 m1 l2 i2 m2 i3 m3 s f g v ev =
       let o : Outcome = settled (startIn size image map) image map in
       let e : fed p line i1 m1 ≡ started o line = rw (s .0, s .1, s .2) in
-      ap fedResult (g ∙ ap (closeOf size) (f ∙ ap (λ (x : Fed). feedOf size x text) e)) ∙ text-reads size text line image map room few
+      ap (λ (x : Verdict). result x i3 m3) ev ∙ ap fedResult (g ∙ ap (closeOf size) (f ∙ ap (λ (x : Fed). feedOf size x text) e)) ∙ text-reads size text line image map room few

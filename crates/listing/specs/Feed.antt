@@ -10,6 +10,7 @@ use Rattle.image.specs.Hex.{closeOf as closing}
 use Rattle.image.specs.Record.{paperRefusal}
 use Rattle.image.specs.declared.hex.Hex.{Hex}
 use Rattle.listing.specs.Text.{Verdict, refusedAt, whole, Result, result, trimmedOf}
+use Rattle.listing.specs.declared.text.Ended.{Ended}
 use Rattle.listing.specs.declared.text.Reading.{Reading}
 use Rattle.listing.specs.declared.text.Text.{Text}
 
@@ -21,6 +22,10 @@ pub data Progress : Type 0 where
 abbrev pub paperReading : Reading → Progress
 paperReading (Reading.Open t) = going t
 paperReading (Reading.Refused n x) = stopped n (paperRefusal x)
+
+abbrev pub paperEnded : Ended → Verdict
+paperEnded Ended.File = whole
+paperEnded (Ended.Refused n x) = refusedAt n (paperRefusal x)
 
 pub record Fed : Type 0 where
   pub progress : Progress

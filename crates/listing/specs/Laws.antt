@@ -2,3 +2,4 @@ pub mod Numbers
 pub mod Feed
 pub mod Reading
 pub mod Plan
+pub mod Determined

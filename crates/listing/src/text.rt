@@ -4,8 +4,8 @@ ghost use Prim.Native.Nat.{_≤_};
 ghost use lib.ListN.{length, take};
 ghost use Rattle.basis.specs.Board.{flashSize};
 ghost use Rattle.image.specs.Hex.{settled, startIn, recordIn};
-ghost use Rattle.listing.specs.Text.{trimmedOf, readIn};
-ghost use Rattle.listing.specs.Feed.{paperReading, fed, begunBy, tookBy, textByte, byteOf, feedOf, lastOf, shutOf, closeOf, resultOf};
+ghost use Rattle.listing.specs.Text.{result, trimmedOf, readIn};
+ghost use Rattle.listing.specs.Feed.{paperReading, paperEnded, verdictOf, fed, begunBy, tookBy, textByte, byteOf, feedOf, lastOf, shutOf, closeOf};
 use image::hex::Hex;
 use image::hex::Read;
 use image::record::Refusal;
@@ -23,6 +23,12 @@ pub struct Text {
 pub enum Reading {
     Open(Text),
     // The line is counted from 1; 0 where none is to blame.
+    Refused { at: u64, refusal: Refusal },
+}
+
+// What a whole text came to.
+pub enum Ended {
+    File,
     Refused { at: u64, refusal: Refusal },
 }
 
@@ -73,6 +79,16 @@ impl Reading {
         match self {
             Reading::Open(text) => text.last(line, image, map).shut(),
             Reading::Refused { at, refusal } => Reading::Refused { at, refusal },
+        }
+    }
+
+    // What a text that is closed came to.
+    fn ended(self) -> Ended
+        ensures { λ r. ⌜ paperEnded r ≡ verdictOf (paperReading self) ⌝ }
+    {
+        match self {
+            Reading::Open(_) => Ended::File,
+            Reading::Refused { at, refusal } => Ended::Refused { at, refusal },
         }
     }
 
@@ -149,13 +165,13 @@ impl Text {
 }
 
 // A whole text at once.
-pub fn read(text: &[u8], image: &mut [u8], map: &mut [u8]) -> Reading
-    ensures { λ r. ⌜ resultOf (paperReading r) (now (image .exit)) (now (map .exit)) ≡ readIn flashSize (now (text .entry)) (now (image .entry)) (now (map .entry)) ⌝ }
+pub fn read(text: &[u8], image: &mut [u8], map: &mut [u8]) -> Ended
+    ensures { λ r. ⌜ result (paperEnded r) (now (image .exit)) (now (map .exit)) ≡ readIn flashSize (now (text .entry)) (now (image .entry)) (now (map .entry)) ⌝ }
 {
     let mut line = [0u8; LINE];
     let started = Reading::start(image, map);
     let reading = started.feed(text, &mut line, image, map);
-    reading.close(&line, image, map)
+    reading.close(&line, image, map).ended()
 }
 
 // The first `n` bytes, or all where there are fewer.

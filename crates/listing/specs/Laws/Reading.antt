@@ -1,6 +1,6 @@
 -- What a text comes to, byte by byte, is what its lines give, however long they are.
-use Prim.Native.Nat.{ℕ, suc, _+_, _-_, _%_, _^_, _≤_, _<_}
-use mathlib.Core.Bool.{Bool, true, false, not}
+use Prim.Native.Nat.{ℕ, _+_, _-_, _%_, _^_, _≤_, _<_}
+use mathlib.Core.Bool.{true, false, not}
 use mathlib.Core.List.{List, [], _∷_, _++_}
 use mathlib.Core.Path.{_≡_, refl, sym, ap, _∙_}
 use native.Mathlib.Nat.{mod-eq-of-lt}
@@ -16,7 +16,7 @@ use Rattle.basis.specs.Refusals.{Answer, refused, given, first}
 use Rattle.image.specs.Hex.{File, file, settled, sizeWrong, startIn, recordIn}
 use Rattle.image.specs.Hex.{closeOf as closing}
 use Rattle.image.specs.declared.hex.Hex.{Hex}
-use Rattle.listing.specs.Text.{Result, result, refusedAt, trimmedOf, linesFrom, onward, readFrom, readIn}
+use Rattle.listing.specs.Text.{Result, result, trimmedOf, linesFrom, onward, readFrom, readIn}
 use Rattle.listing.specs.Text.{shutBy as verdictBy}
 use Rattle.listing.specs.Feed.{Fed, fed, started, stopped, going, nextLine, took, tookLine, longer, byteOf, textByte, feedOf, lastOf, shutBy, shutOf, shutFed, closeOf, verdictOf, fedResult}
 use Rattle.listing.specs.declared.text.Text.{Text}

@@ -20,6 +20,9 @@ slice-aggregate-close c = search needs
 close-requires : tie.Need-close-requires
 close-requires c κs = search needs
 
+ended-requires : tie.Need-ended-requires
+ended-requires c κs = search needs
+
 same-length : tie.Need-same-length
 same-length c = search needs
 
@@ -27,7 +30,7 @@ same-length-2 : tie.Need-same-length-2
 same-length-2 c = search needs
 
 returns : tie.Need-returns
-returns c = read-by _ _ _ _ _ (omega arith) (omega (arith, c .before .before .before .before .before .before .before .before .before .before .before .before .before .before .before .before .before .before .before .before .before .before .before .before .before .before .before .good .0 .1)) _ _ _ _ _ _ _ _ _ _ (c .before .before .before .before .before .before .before .before .before .before .before .before .before .before .before .before .before .before .before .before .before .start .ensures) (c .before .before .before .before .before .before .before .before .before .before .before .before .before .feed .ensures) (c .before .before .before .before .close .ensures)
+returns c = read-by _ _ _ _ _ (omega arith) (omega (arith, c .before .before .before .before .before .before .before .before .before .before .before .before .before .before .before .before .before .before .before .before .before .before .before .before .before .before .before .before .good .0 .1)) _ _ _ _ _ _ _ _ _ _ (c .before .before .before .before .before .before .before .before .before .before .before .before .before .before .before .before .before .before .before .before .before .before .start .ensures) (c .before .before .before .before .before .before .before .before .before .before .before .before .before .before .feed .ensures) (c .before .before .before .before .before .close .ensures) _ (c .ended .ensures)
 
 pub read-spec : {M : Type 1} → statement M
 read-spec =
@@ -38,6 +41,7 @@ read-spec =
     feed-requires
     slice-aggregate-close
     close-requires
+    ended-requires
     same-length
     same-length-2
     returns)
