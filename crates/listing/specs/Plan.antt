@@ -1,9 +1,9 @@
 -- A plan as text, and its listing page by page.
-use Prim.Native.Nat.{ℕ, _+_, _-_, _≤_, _<_}
+use Prim.Native.Nat.{ℕ, zero, suc, _+_, _-_, _≤_, _<_}
 use mathlib.Core.List.{List, [], _∷_, _++_}
 use mathlib.Core.Path.{_≡_}
 use lib.Dec.{ltb}
-use lib.ListN.{length}
+use lib.ListN.{length, drop}
 use Rattle.basis.specs.Board.{flashSize}
 use Rattle.basis.specs.Board.{mapSize as mapRoom}
 use Rattle.basis.specs.Choice.{pick}
@@ -82,3 +82,9 @@ pageOf room n [] = page [] n
 pageOf room n (p ∷ ps) =
     pick (ltb room longestLine) (page [] n)
     (behind (stepLine (n + 1) p) (pageOf (room - length (stepLine (n + 1) p)) (n + 1) ps))
+
+-- k pages one after another, each in a buffer of so many bytes
+unfoldable pub pagesOf : ℕ → ℕ → ℕ → List (List ℕ) → List ℕ
+pagesOf zero room n ps = []
+pagesOf (suc k) room n ps =
+    pageOf room n ps .text ++ pagesOf k room (pageOf room n ps .listed) (drop (pageOf room n ps .listed - n) ps)

@@ -103,6 +103,7 @@ fn answer(reading: Reading, buffer: &mut [u8], image: &[u8], map: &[u8]) -> bool
 fn print(image: &[u8], map: &[u8], buffer: &mut [u8]) -> bool
     requires { ⌜ longestLine ≤ length (now buffer) ⌝ }
 {
+    // a file that closed names a byte, so its listing is never refused
     let Begun::Listing(first) = Listing::start(image, map) else {
         return false;
     };

@@ -1,5 +1,5 @@
 -- Laws of a plan's listing: it goes along the plan, and its pages are the plan's lines.
-use Prim.Native.Nat.{ℕ, suc, _+_, _-_, _≤_, _<_}
+use Prim.Native.Nat.{ℕ, zero, suc, _+_, _-_, _≤_, _<_}
 use mathlib.Core.Bool.{true, not}
 use mathlib.Core.List.{List, [], _∷_, _++_, append-assoc}
 use mathlib.Core.Path.{_≡_, refl, sym, ap, _∙_}
@@ -28,8 +28,8 @@ use Rattle.session.specs.declared.phase.Phase.{Phase}
 use Rattle.session.specs.declared.phase.RunKind.{RunKind}
 use Rattle.session.specs.declared.session.Next.{Next}
 use Rattle.session.specs.declared.session.Session.{Session}
-use Rattle.listing.specs.Lines.{stepLine}
-use Rattle.listing.specs.Plan.{stepLines, packetAt, phaseBehind, listingAt, Listed, begunOf, longestLine, Page, page, behind, pageOf}
+use Rattle.listing.specs.Lines.{headLine, stepLine, totalLine}
+use Rattle.listing.specs.Plan.{stepLines, planText, packetAt, phaseBehind, listingAt, Listed, begunOf, longestLine, Page, page, behind, pageOf, pagesOf}
 use Rattle.listing.specs.declared.plan.Listing.{Listing}
 
 -- ---- along the plan
@@ -171,6 +171,27 @@ page-text room n (p ∷ ps) =
     (λ t. let g : Page = pageOf (room - length (stepLine (n + 1) p)) (n + 1) ps in
     let k : g .listed - n ≡ suc (g .listed - (n + 1)) = omega (arith, page-from (room - length (stepLine (n + 1) p)) (n + 1) ps) in
     rw (t, k, append-assoc) (ap (λ (s : List ℕ). stepLine (n + 1) p ++ s) (page-text (room - length (stepLine (n + 1) p)) (n + 1) ps)))
+
+pages-text : (k room n : ℕ) (ps : List (List ℕ)) → longestLine ≤ room → length ps ≤ k → pagesOf k room n ps ≡ stepLines n ps
+unfolding pagesOf stepLines
+pages-text zero room n [] h l = refl
+pages-text zero room n (p ∷ ps) h l = absurd (omega arith)
+pages-text (suc k) room n ps h l =
+    let g : Page = pageOf room n ps in
+    let f : length (drop (g .listed - n) ps) ≤ k = fewer ps l in
+    ap (λ (s : List ℕ). g .text ++ s) (pages-text k room (g .listed) (drop (g .listed - n) ps) h f) ∙ sym (page-text room n ps)
+  where
+    fewer : (ps : List (List ℕ)) → length ps ≤ suc k → length (drop (pageOf room n ps .listed - n) ps) ≤ k
+    fewer [] l = rw drop-nil (omega arith)
+    fewer (p ∷ ps) l =
+        let m = page-moves room n (p ∷ ps) h (omega arith) in
+        omega (arith, length-drop (pageOf room n (p ∷ ps) .listed - n) (p ∷ ps))
+
+-- head line, pages and total line are the plan's text
+pub plan-pages : (image m : List ℕ) (room : ℕ) → longestLine ≤ room → headLine ++ (pagesOf (total m) room 0 (plan image m RunKind.Reset) ++ totalLine (total m)) ≡ planText image m
+unfolding planText
+plan-pages image m room h =
+    ap (λ (s : List ℕ). headLine ++ (s ++ totalLine (total m))) (pages-text (total m) room 0 (plan image m RunKind.Reset) h (omega (arith, plan-length image m RunKind.Reset)))
 
 -- ---- a listing goes on
 
