@@ -12,7 +12,7 @@ use Rattle.basis.specs.Laws.Refusals.{skip, stop, done, passed}
 use Rattle.basis.specs.Refusals.{Answer, refused, given, Rule, _when_, first}
 use Rattle.basis.specs.Units.{pageOf, startOf}
 use Rattle.image.specs.Flash.{eraseOf}
-use Rattle.loader.specs.Commands.{Effect, Turns, Does, protectedPages, protectedBytes, massErase, eraseRows, erasing, writeRows, writing, verifyRows, protecting, running, keeping, obeyOf}
+use Rattle.loader.specs.Commands.{Effect, after, Turns, Does, protectedPages, protectedBytes, massErase, eraseRows, erasing, writeRows, writing, verifyRows, protecting, running, keeping, obeyOf}
 use Rattle.loader.specs.State.{withCondition, clearedOf}
 use Rattle.loader.specs.Verify.{sameOf}
 use Rattle.loader.specs.declared.state.Condition.the-variants.{Left}
@@ -30,6 +30,16 @@ leaves-all l f e = rw e (record { verdict-is = refl; loader-is = refl; flash-is 
 
 pub does : {x : Answer Effect} {e : Effect} {v : Answer (Unit {0})} {next : Loader} {flash : List ℕ} (l : Loader) (f : List ℕ) → x ≡ given e → v ≡ given tt → next ≡ e .loader → flash ≡ e .flash → Does x l f v next flash
 does l f e v p q = rw e (record { verdict-is = v; loader-is = p; flash-is = q })
+
+-- what holds of loader and flash as they were and as the command leaves them holds after it, whatever its table says
+pub either-way : (P : Effect → Type 0) (l : Loader) (f : List ℕ) (e : Effect) (t : List Rule) → P (record { loader = l; flash = f }) → P e → P (after l f (first t (given e)))
+unfolding first
+either-way P l f e [] p q = q
+either-way P l f e (r ∷ t) p q = go (r .holds) (either-way P l f e t p q)
+  where
+    go : (b : Bool) → P (after l f (first t (given e))) → P (after l f (pick b (refused (r .number)) (first t (given e))))
+    go true h = p
+    go false h = h
 
 -- ---- E: 7, 8, or let through
 

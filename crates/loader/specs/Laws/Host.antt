@@ -59,7 +59,7 @@ module _ (k : ℕ) (l : Loader) (f : List ℕ) (room : ℕ) (size : length f ≡
       sent-run = sent 0x52 a [] (read-run a h) ∙ obey-run k l a [] f
 
 -- V, P and R never change flash
-kept : (l : Loader) (f : List ℕ) (x : Answer Loader) → after l f (keeping f x) .flash ≡ f
+pub kept : (l : Loader) (f : List ℕ) (x : Answer Loader) → after l f (keeping f x) .flash ≡ f
 kept l f (refused n) = refl
 kept l f (given m) = refl
 

@@ -16,7 +16,7 @@ use Rattle.basis.specs.Laws.Refusals.{skip, stop, done}
 use Rattle.basis.specs.Refusals.{Answer, refused, given, Rule, first}
 use Rattle.basis.specs.Units.{groupOf, pageGroupOf}
 use Rattle.loader.specs.Commands.{Effect, protectedPages, protectedBytes, massErase, eraseRows, erasing, writeRows, writing, verifyRows, opening, addedOf, adding, closing, protecting, running, keeping, obeyOf, loaderAfter, after}
-use Rattle.loader.specs.Laws.Commands.{erasing-open, erasing-pages}
+use Rattle.loader.specs.Laws.Commands.{either-way, erasing-open, erasing-pages}
 use Rattle.loader.specs.Protection.{none, joinOf, anyOf}
 use Rattle.loader.specs.State.{withCondition, withAdded, joinedOf}
 use Rattle.loader.specs.declared.protection.Protection.{Protection}
@@ -71,15 +71,6 @@ held see l m (r ∷ t) e = go (r .holds) (held see l m t e)
     go true h = refl
     go false h = h
 
-held-all : {X : Type 0} (see : Loader → X) (l : Loader) (f : List ℕ) (e : Effect) (t : List Rule) → see (e .loader) ≡ see l → see (after l f (first t (given e)) .loader) ≡ see l
-unfolding first
-held-all see l f e [] h = h
-held-all see l f e (r ∷ t) h = go (r .holds) (held-all see l f e t h)
-  where
-    go : (b : Bool) → see (after l f (first t (given e)) .loader) ≡ see l → see (after l f (pick b (refused (r .number)) (first t (given e))) .loader) ≡ see l
-    go true h = refl
-    go false h = h
-
 kept : (l : Loader) (f : List ℕ) (x : Answer Loader) → after l f (keeping f x) .loader ≡ loaderAfter l x
 kept l f (refused n) = refl
 kept l f (given m) = refl
@@ -92,7 +83,7 @@ module _ (k : ℕ) (l : Loader) (a : ℕ) where
   erase-keeps n f e =
       decide (l .sequence .opened)
       (λ p. rw (erasing-open k l a n f p))
-      (λ p. rw (erasing-pages k l a n f p e) (held-all force l f _ (eraseRows k l a n) refl))
+      (λ p. rw (erasing-pages k l a n f p e) (either-way (λ (x : Effect). force (x .loader) ≡ force l) l f _ (eraseRows k l a n) refl refl))
 
   protect-keeps : (t : ℕ) → either (eqb t 0x00) (eqb t 0x0F) ≡ true → force (loaderAfter l (protecting k l a t)) ≡ force l
   unfolding protecting opening adding
@@ -109,7 +100,7 @@ module _ (k : ℕ) (l : Loader) (a : ℕ) where
   unfolding obeyOf writing running
   force-kept c d f e p =
       decide (eqb c 0x45) (λ t. rw t (erase-keeps (getD d 0 0) f (e (eqb-true c 0x45 t))))
-      (λ t. decide (eqb c 0x57) (λ u. rw (t, u) (held-all force l f _ (writeRows k l a (length d)) refl))
+      (λ t. decide (eqb c 0x57) (λ u. rw (t, u) (either-way (λ (x : Effect). force (x .loader) ≡ force l) l f _ (writeRows k l a (length d)) refl refl))
       (λ u. decide (eqb c 0x56) (λ v. rw (t, u, v, kept l f (first (verifyRows k l a d f) (given l))) (held force l l (verifyRows k l a d f) refl))
       (λ v. decide (eqb c 0x50) (λ w. rw (t, u, v, w, kept l f (protecting k l a (getD d 0 0))) (protect-keeps (getD d 0 0) (p (eqb-true c 0x50 w))))
       (λ w. rw (t, u, v, w, kept l f (running l a)) (held force l (withCondition l Left) _ refl)))))

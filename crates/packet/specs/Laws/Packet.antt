@@ -22,6 +22,11 @@ pub packet-length : (c a : ℕ) (d : List ℕ) → length (packet c a d) ≡ len
 unfolding packet
 packet-length c a d = simp (length-append, length-map) (omega arith)
 
+-- its command stands where a reader looks for it
+pub packet-command : (c a : ℕ) (d : List ℕ) → command (packet c a d) ≡ c
+unfolding packet
+packet-command c a d = refl
+
 -- no packet is a single byte
 pub packet-long : (c a : ℕ) (d : List ℕ) → 1 < length (packet c a d)
 packet-long c a d = omega (arith, packet-length c a d)

@@ -10,7 +10,7 @@ use lib.Dec.{eqb, ltb}
 use borrow.Author.Tests.{eq-eqb, ne-eqb, eqb-true, eqb-false, ltb-true, ltb-false}
 use Rattle.basis.specs.Laws.Choice.{decide, both-true, true-false}
 use Rattle.runs.specs.Runs.{count, off, starts, len, next, home, follow}
-use Rattle.runs.specs.Laws.Runs.{count-zero, count-yes, count-skip, next-ge, next-pass, next-skip, len-le, len-in, len-ge, len-out}
+use Rattle.runs.specs.Laws.Runs.{count-zero, count-yes, count-skip, rank-only, next-ge, next-pass, next-skip, len-le, len-in, len-ge, len-out}
 
 module _ (p : ℕ → Bool) (cap : ℕ) where
   -- ---- the place in the piece
@@ -141,6 +141,24 @@ module _ (p : ℕ → Bool) (cap : ℕ) where
       decide (ltb u (s + len p s cap))
       (λ d. absurd (omega (arith, starts-off u k .1, piece-place s u h (omega arith) (ltb-true _ _ d))))
       (λ d. ltb-false _ _ d)
+
+  -- up to a number in the piece at s, as many pieces start as up to s
+  pub rank-in : (s a : ℕ) → starts p cap s ≡ true → s ≤ a → a < s + len p s cap → count (starts p cap) (a + 1) ≡ suc (count (starts p cap) s)
+  rank-in s a h g l =
+      let k : suc s + (a - s) ≡ a + 1 = omega arith in
+      sym (ap (count (starts p cap)) k)
+      ∙ count-skip (starts p cap) (suc s) (a - s) (λ i u v. starts-inside i (λ e. omega (arith, piece-place s i h (omega arith) (omega arith))))
+      ∙ count-yes (starts p cap) s h
+
+  -- so the count tells the piece that a number lies in
+  pub rank-some : 0 < cap → (a : ℕ) → p a ≡ true → 0 < count (starts p cap) (a + 1)
+  rank-some z a t = let i = in-piece z a t in omega (arith, rank-in (home p cap a) a (i .0) (i .1) (i .2))
+
+  pub rank-home : 0 < cap → (s a : ℕ) → starts p cap s ≡ true → p a ≡ true → count (starts p cap) (a + 1) ≡ suc (count (starts p cap) s) → (s ≤ a) × (a < s + len p s cap)
+  rank-home z s a h t e =
+      let i = in-piece z a t in
+      let q : home p cap a ≡ s = rank-only (starts p cap) (home p cap a) s (i .0) h (omega (arith, rank-in (home p cap a) a (i .0) (i .1) (i .2))) in
+      (subst (λ (u : ℕ). u ≤ a) q (i .1), subst (λ (u : ℕ). a < u + len p u cap) q (i .2))
 
   -- where a run starts, a piece does
   pub run-starts : (b : ℕ) → p b ≡ false → p (suc b) ≡ true → starts p cap (suc b) ≡ true

@@ -1,37 +1,32 @@
 -- Laws of marks: a byte is marked by the ACK to the V that holds it, and R is out only when every named byte is.
-use Prim.Native.Nat.{ℕ, suc, _+_, _-_, _*_, _≤_, _<_}
-use mathlib.Core.Bool.{Bool, true}
+use Prim.Native.Nat.{ℕ, _+_, _*_, _≤_, _<_}
+use mathlib.Core.Bool.{true, not}
 use mathlib.Core.List.{List}
-use mathlib.Core.Path.{_≡_, refl, sym, ap, _∙_}
+use mathlib.Core.Path.{_≡_, refl, sym, ap, subst, _∙_}
 use native.Mathlib.Omega.{arith}
-use borrow.Author.Tests.{le-leb, leb-true}
+use borrow.Author.Tests.{eq-eqb, eqb-true, eqb-false, le-leb, leb-true}
+use lib.Dec.{eqb}
 use lib.ListN.{length, getD}
 use Rattle.basis.specs.Board.{flashSize, mapSize}
 use Rattle.basis.specs.Laws.Choice.{decide, both-true, both-second, both-false}
+use Rattle.basis.specs.Laws.Refusals.{skip, done}
+use Rattle.basis.specs.Refusals.{given}
 use Rattle.runs.specs.Laws.Files.{bytes-past}
-use Rattle.runs.specs.Laws.Pieces.{starts-inside, piece-place, piece-passes, in-piece, passes-below}
-use Rattle.runs.specs.Laws.Runs.{count-yes, count-skip, count-mono}
+use Rattle.runs.specs.Laws.Pieces.{piece-passes, in-piece, rank-in, rank-some, passes-below}
+use Rattle.runs.specs.Laws.Runs.{count-mono}
 use Rattle.runs.specs.Map.{named}
 use Rattle.runs.specs.Pieces.{pieceMost, pieceStarts, pieceLen, runCount, pieceCount}
-use Rattle.runs.specs.Runs.{count, starts, len, home}
+use Rattle.runs.specs.Runs.{count, home}
 use Rattle.session.specs.Laws.Fits.{fitting}
 use Rattle.session.specs.Laws.Phases.{ranked-is, ranked-by, stands-below, stands-at, at-stands}
 use Rattle.session.specs.Laws.Plan.{plan-at}
 use Rattle.session.specs.Laws.States.{stands-run}
 use Rattle.session.specs.Phases.{packetOut, verifying, phaseAt, standsOf}
 use Rattle.session.specs.Plan.{verifyPacket, plan, total}
-use Rattle.session.specs.Session.{fitsOf, marked}
+use Rattle.session.specs.Session.{fitsOf, marked, provedOf}
 use Rattle.session.specs.declared.phase.Phase.{Phase}
 use Rattle.session.specs.declared.phase.RunKind.{RunKind}
 use Rattle.session.specs.declared.session.Session.{Session}
-
--- up to a number in the piece at s, as many pieces start as up to s
-rank-in : (p : ℕ → Bool) (cap s a : ℕ) → starts p cap s ≡ true → s ≤ a → a < s + len p s cap → count (starts p cap) (a + 1) ≡ suc (count (starts p cap) s)
-rank-in p cap s a h g l =
-    let k : suc s + (a - s) ≡ a + 1 = omega arith in
-    sym (ap (count (starts p cap)) k)
-    ∙ count-skip (starts p cap) (suc s) (a - s) (λ i u v. starts-inside p cap i (λ e. omega (arith, piece-place p cap s i h (omega arith) (omega arith))))
-    ∙ count-yes (starts p cap) s h
 
 -- the packet after j acknowledgements is the V of the piece at s, which holds the byte at a
 pub record Held (m : List ℕ) (j s a : ℕ) : Type 0 where
@@ -107,3 +102,23 @@ module _ (m : List ℕ) (long : length m ≡ mapSize) where
       let v = named-held a t in
       let h = v .2 in
       (v .0, v .1, h .planned, plan-at image m kind (v .0) d (h .planned) ∙ ap (packetOut image m kind) (h .phase), h .from, h .below)
+
+  -- no byte is marked before the first V is acknowledged
+  pub marked-late : (k a : ℕ) → marked m k a ≡ true → runCount m + pieceCount m < k
+  unfolding marked
+  marked-late k a h =
+      let b = both-true (named m a) _ h in
+      omega (arith, rank-some (named m) pieceMost (omega arith) a (b .0), leb-true (runCount m + pieceCount m + count (pieceStarts m) (a + 1)) k (b .1))
+
+  -- one more acknowledgement marks the piece of its V, and nothing else
+  pub marked-more : {R : Type 0} (k a : ℕ) → marked m (k + 1) a ≡ true → (marked m k a ≡ true → R) → ((s : ℕ) → Held m k s a → R) → R
+  marked-more {R} k a h old new =
+      let v = marked-held (k + 1) a h in
+      decide (eqb (v .0) k)
+      (λ t. new (v .1) (subst (λ (j : ℕ). Held m j (v .1) a) (eqb-true (v .0) k t) (v .3)))
+      (λ t. old (held-marked m (v .0) k (v .1) a (v .3) (omega (arith, v .2, eqb-false (v .0) k t))))
+
+  -- the session's `proved` says what is marked
+  pub proved-is : (s : Session) (a : ℕ) → provedOf m s a ≡ given (marked m (s .acknowledged) a)
+  unfolding provedOf
+  proved-is s a = skip 20 _ _ _ (ap not (eq-eqb _ _ long)) ∙ done _

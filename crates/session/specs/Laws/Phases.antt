@@ -50,12 +50,12 @@ module _ (p : ℕ → Bool) (cap n : ℕ) (z : 0 < cap) (past : (a : ℕ) → n 
 -- ---- phases that stand in the file
 
 module _ (m : List ℕ) (long : length m ≡ mapSize) where
-  run-rank : (q k : ℕ) → ranked (runStarts m) 0 q k ≡ true → k < runCount m
+  pub run-rank : (q k : ℕ) → ranked (runStarts m) 0 q k ≡ true → k < runCount m
   run-rank q k h =
       let t = ranked-is (runStarts m) 0 q k h in
       omega (arith, rank-below (runStarts m) pages q (run-below m long q (t .0)) (t .0))
 
-  piece-rank : (base a k : ℕ) → ranked (pieceStarts m) base a k ≡ true → k < base + pieceCount m
+  pub piece-rank : (base a k : ℕ) → ranked (pieceStarts m) base a k ≡ true → k < base + pieceCount m
   piece-rank base a k h =
       let t = ranked-is (pieceStarts m) base a k h in
       omega (arith, rank-below (pieceStarts m) flashSize a (piece-below m long a (t .0)) (t .0))

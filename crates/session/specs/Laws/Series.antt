@@ -15,7 +15,7 @@ use Rattle.runs.specs.Pieces.{runCount, pieceCount, namedCount}
 use Rattle.session.specs.Laws.States.{phase-open, phase-later, greeting-state, ack-next, ack-last}
 use Rattle.session.specs.Phases.{ended, phaseAt}
 use Rattle.session.specs.Plan.{total}
-use Rattle.session.specs.Session.{sessionIn, waiting, stateAt, valid, tookOf, series}
+use Rattle.session.specs.Session.{sessionIn, waiting, stateAt, valid, judgeOf, heardOf, tookOf, series}
 use Rattle.session.specs.declared.event.Event.{Event}
 use Rattle.session.specs.declared.phase.Outcome.{Outcome}
 use Rattle.session.specs.declared.phase.Phase.{Phase}
@@ -27,6 +27,19 @@ pub series-ended : (m : List ℕ) (s : Session) (es : List Event) → ended (s .
 unfolding series
 series-ended m s [] h = refl
 series-ended m s (e ∷ es) h = rw h (series-ended m s es h)
+
+-- silence ends a session with 40, wherever it stands
+pub silence-ends : (m : List ℕ) (s : Session) → tookOf m s Event.Silence .phase ≡ Phase.Ended Outcome.Silence
+unfolding tookOf
+silence-ends m s = go (s .phase)
+  where
+    go : (ph : Phase) → heardOf m s (judgeOf ph Event.Silence) .phase ≡ Phase.Ended Outcome.Silence
+    go Phase.Greeting = refl
+    go (Phase.Erase p) = refl
+    go (Phase.Write a) = refl
+    go (Phase.Verify a) = refl
+    go Phase.Run = refl
+    go (Phase.Ended o) = refl
 
 -- an outcome that k acknowledgements allow, other than valid: 42 only before the first packet
 abbrev pub failing : Outcome → ℕ → Bool
@@ -57,7 +70,7 @@ module _ (m : List ℕ) (kind : RunKind) (s : Session) where
   came-named (fails o k l f e) = ap (λ (x : Session). x .named) e
   came-named (ends e) = ap (λ (x : Session). x .named) e
 
-abbrev isAck : Event → Bool
+abbrev pub isAck : Event → Bool
 isAck Event.Greeting = false
 isAck Event.Ack = true
 isAck Event.Bel = false
@@ -76,21 +89,21 @@ isValid (Phase.Ended Outcome.Bel) = false
 isValid (Phase.Ended Outcome.NoGreeting) = false
 isValid (Phase.Ended Outcome.Other) = false
 
-ack-or : {R : Type 0} (e : Event) → (e ≡ Event.Ack → R) → (isAck e ≡ false → R) → R
+pub ack-or : {R : Type 0} (e : Event) → (e ≡ Event.Ack → R) → (isAck e ≡ false → R) → R
 ack-or Event.Greeting f g = g refl
 ack-or Event.Ack f g = f refl
 ack-or Event.Bel f g = g refl
 ack-or Event.Other f g = g refl
 ack-or Event.Silence f g = g refl
 
-abbrev isGreeting : Event → Bool
+abbrev pub isGreeting : Event → Bool
 isGreeting Event.Greeting = true
 isGreeting Event.Ack = false
 isGreeting Event.Bel = false
 isGreeting Event.Other = false
 isGreeting Event.Silence = false
 
-greeting-or : {R : Type 0} (e : Event) → (e ≡ Event.Greeting → R) → (isGreeting e ≡ false → R) → R
+pub greeting-or : {R : Type 0} (e : Event) → (e ≡ Event.Greeting → R) → (isGreeting e ≡ false → R) → R
 greeting-or Event.Greeting f g = f refl
 greeting-or Event.Ack f g = g refl
 greeting-or Event.Bel f g = g refl

@@ -1,0 +1,37 @@
+-- `answered` meets its contract: the next reader is shown, or the refusal's number with the reader as it came.
+use mathlib.Core.Path.{ap, sym, _∙_}
+use borrow.Author.Needs.{needs}
+use Rattle.image.specs.Hex.{paperRead}
+use Rattle.image.specs.declared.hex.Read.{Read}
+use Rattle.gremolunde.specs.Answers.{hexAnswer}
+use Rattle.gremolunde.proofs.files.answered.Statement.{statement}
+use Rattle.gremolunde.proofs.files.answered.Tie as tie
+
+enum-known-answer : tie.Need-enum-known-answer
+enum-known-answer c = search needs
+
+hex-shown-requires : tie.Need-hex-shown-requires
+hex-shown-requires c κs = search needs
+
+enum-known-answer-2 : tie.Need-enum-known-answer-2
+enum-known-answer-2 c = search needs
+
+of-hex-requires : tie.Need-of-hex-requires
+of-hex-requires c κs = search needs
+
+returns : tie.Need-returns
+returns c = (λ i. record { number = 0; reader = c .hex-shown .ensures i }) ∙ ap (λ (x : Read). hexAnswer (c .before .before .before .before .args .reader) (paperRead x)) (sym (c .before .before .answer .given .1))
+
+returns-2 : tie.Need-returns-2
+returns-2 c = (λ i. record { number = c .of-hex .ensures i; reader = c .before .before .before .before .args .reader }) ∙ ap (λ (x : Read). hexAnswer (c .before .before .before .before .args .reader) (paperRead x)) (sym (c .before .before .answer2 .given .1))
+
+pub answered-spec : {M : Type 1} → statement M
+answered-spec =
+    tie.close
+    (tie.spec
+    enum-known-answer
+    hex-shown-requires
+    enum-known-answer-2
+    of-hex-requires
+    returns
+    returns-2)

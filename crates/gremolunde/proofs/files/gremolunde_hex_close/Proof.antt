@@ -1,0 +1,23 @@
+-- `gremolunde_hex_close` meets its contract: it is the reader that the state stands for, its answer as C gets it.
+use mathlib.Core.Path.{ap, _∙_}
+use borrow.Author.Needs.{needs}
+use Rattle.image.specs.Hex.{closeOf}
+use Rattle.gremolunde.specs.Answers.{hexAnswer}
+use Rattle.gremolunde.proofs.files.gremolunde_hex_close.Statement.{statement}
+use Rattle.gremolunde.proofs.files.gremolunde_hex_close.Tie as tie
+
+hex-meant-requires : tie.Need-hex-meant-requires
+hex-meant-requires c κs = search needs
+
+close-requires : tie.Need-close-requires
+close-requires c κs = search needs
+
+answered-requires : tie.Need-answered-requires
+answered-requires c κs = search needs
+
+returns : tie.Need-returns
+returns c = c .answered .ensures ∙ ap (hexAnswer (c .before .before .before .args .reader)) (c .before .close .ensures ∙ ap closeOf (c .before .before .hex-meant .ensures))
+
+pub gremolunde-hex-close-spec : {M : Type 1} → statement M
+gremolunde-hex-close-spec =
+    tie.close (tie.spec hex-meant-requires close-requires answered-requires returns)

@@ -1,0 +1,27 @@
+-- `gremolunde_hex_start` meets its contract: it is the start of a reader, its answer as C gets it.
+use mathlib.Core.Path.{ap, _∙_}
+use borrow.Author.Needs.{needs}
+use Rattle.image.specs.Hex.{Outcome}
+use Rattle.gremolunde.specs.Answers.{noReader, hexAnswer}
+use Rattle.gremolunde.proofs.files.gremolunde_hex_start.Statement.{statement}
+use Rattle.gremolunde.proofs.files.gremolunde_hex_start.Tie as tie
+
+start-requires : tie.Need-start-requires
+start-requires c κs = search needs
+
+answered-requires : tie.Need-answered-requires
+answered-requires c κs = search needs
+
+same-length : tie.Need-same-length
+same-length c = search needs
+
+same-length-2 : tie.Need-same-length-2
+same-length-2 c = search needs
+
+returns : tie.Need-returns
+returns c = let o = c .before .before .before .before .before .start .ensures in
+    (c .answered .ensures ∙ ap (λ (x : Outcome). hexAnswer noReader (x .answer)) o, ap (λ (x : Outcome). x .image) o, ap (λ (x : Outcome). x .map) o)
+
+pub gremolunde-hex-start-spec : {M : Type 1} → statement M
+gremolunde-hex-start-spec =
+    tie.close (tie.spec start-requires answered-requires same-length same-length-2 returns)

@@ -1,0 +1,48 @@
+-- `gremolunde_loader_take` meets its contract: it is the loader that the state stands for, its answer as C gets it.
+use Prim.Native.Nat.{ℕ}
+use mathlib.Core.List.{List}
+use mathlib.Core.Path.{_≡_, sym, _∙_}
+use borrow.Author.Needs.{needs}
+use lib.ListN.{length}
+use Rattle.basis.specs.Board.{pages}
+use Rattle.basis.specs.Lists.{overlay}
+use Rattle.basis.specs.Refusals.{Answer, bare}
+use Rattle.loader.specs.Commands.{after}
+use Rattle.loader.specs.Take.{takeOf, answerOf, Takes}
+use Rattle.loader.specs.declared.state.Loader.{Loader}
+use Rattle.gremolunde.specs.Answers.{takenAnswer}
+use Rattle.gremolunde.specs.declared.loading.Taken.{Taken}
+use Rattle.gremolunde.specs.declared.states.LoaderState.{LoaderState}
+use Rattle.gremolunde.proofs.loading.gremolunde_loader_take.Statement.{statement}
+use Rattle.gremolunde.proofs.loading.gremolunde_loader_take.Tie as tie
+
+-- what the loader l shows of an input, where l is what the state stands for
+told-of : (s : LoaderState) (l m : Loader) → l ≡ m → (input flash old : List ℕ) {v : Answer (Unit {0})} {next : Loader} {k : ℕ} {f a : List ℕ} (r : Taken)
+    → r ≡ takenAnswer s v next k → Takes (takeOf pages l input flash (length old)) l flash old v next k f a
+    → let x = takeOf pages m input flash (length old) in (r ≡ takenAnswer s (bare x) (after m flash x .loader) (length (answerOf m x))) × (f ≡ after m flash x .flash) × (a ≡ overlay (answerOf m x) old)
+told-of s l m e input flash old r p t =
+    rw (sym e)
+    (p ∙ (λ i. takenAnswer s (t .does-is .verdict-is i) (t .does-is .loader-is i) (t .answered-is i)), t .does-is .flash-is, t .answer-is)
+
+loader-meant-requires : tie.Need-loader-meant-requires
+loader-meant-requires c κs = search needs
+
+take-requires : tie.Need-take-requires
+take-requires c κs = search needs
+
+told-requires : tie.Need-told-requires
+told-requires c κs = search needs
+
+same-length : tie.Need-same-length
+same-length c = search needs
+
+same-length-2 : tie.Need-same-length-2
+same-length-2 c = search needs
+
+returns : tie.Need-returns
+returns c = told-of _ _ _ (c .before .before .before .before .before .before .before .before .before .loader-meant .ensures) _ _ _ _ (c .told .ensures) (c .before .before .before .before .before .before .take .ensures)
+
+pub gremolunde-loader-take-spec : {M : Type 1} → statement M
+gremolunde-loader-take-spec =
+    tie.close
+    (tie.spec loader-meant-requires take-requires told-requires same-length same-length-2 returns)

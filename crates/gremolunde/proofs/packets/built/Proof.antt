@@ -1,0 +1,51 @@
+-- `built` meets its contract: each arm is one case of the builder's answer.
+use Prim.Native.Nat.{ℕ}
+use mathlib.Core.Path.{ap, sym, _∙_}
+use borrow.Author.Needs.{needs}
+use Rattle.basis.specs.Refusals.{refused}
+use Rattle.packet.specs.Paper.{paperBuilt}
+use Rattle.packet.specs.declared.build.Built.{Built}
+use Rattle.gremolunde.specs.Answers.{lengthAnswer}
+use Rattle.gremolunde.proofs.packets.built.Statement.{statement}
+use Rattle.gremolunde.proofs.packets.built.Tie as tie
+
+enum-known-answer : tie.Need-enum-known-answer
+enum-known-answer c = search needs
+
+enum-told : tie.Need-enum-told
+enum-told c = search needs
+
+refused-requires : tie.Need-refused-requires
+refused-requires c κs = search needs
+
+enum-known-answer-2 : tie.Need-enum-known-answer-2
+enum-known-answer-2 c = search needs
+
+of-packet-requires : tie.Need-of-packet-requires
+of-packet-requires c κs = search needs
+
+refused-requires-2 : tie.Need-refused-requires-2
+refused-requires-2 c κs = search needs
+
+returns : tie.Need-returns
+returns c = ap (λ (x : Built). lengthAnswer (paperBuilt x)) (sym (c .before .answer .given .1))
+
+returns-2 : tie.Need-returns-2
+returns-2 c = c .refused .ensures ∙ ap (λ (x : Built). lengthAnswer (paperBuilt x)) (sym (c .before .enum-told .given .1))
+
+returns-3 : tie.Need-returns-3
+returns-3 c = c .refused2 .ensures ∙ ap (λ (n : ℕ). lengthAnswer (refused n)) (c .before .of-packet .ensures) ∙ ap (λ (x : Built). lengthAnswer (paperBuilt x)) (sym (c .before .before .before .answer2 .given .1))
+
+pub built-spec : {M : Type 1} → statement M
+built-spec =
+    tie.close
+    (tie.spec
+    enum-known-answer
+    enum-told
+    refused-requires
+    enum-known-answer-2
+    of-packet-requires
+    refused-requires-2
+    returns
+    returns-2
+    returns-3)

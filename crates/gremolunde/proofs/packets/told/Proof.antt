@@ -1,0 +1,39 @@
+-- `told` meets its contract: each arm is one case of the reader's answer.
+use Prim.Native.Nat.{ℕ}
+use mathlib.Core.Path.{ap, sym, _∙_}
+use borrow.Author.Needs.{needs}
+use Rattle.basis.specs.Refusals.{refused}
+use Rattle.packet.specs.Paper.{paperReading}
+use Rattle.packet.specs.declared.read.Reading.{Reading}
+use Rattle.gremolunde.specs.Answers.{partsAnswer}
+use Rattle.gremolunde.proofs.packets.told.Statement.{statement}
+use Rattle.gremolunde.proofs.packets.told.Tie as tie
+
+enum-known-answer : tie.Need-enum-known-answer
+enum-known-answer c = search needs
+
+byte-requires : tie.Need-byte-requires
+byte-requires c κs = search needs
+
+enum-known-answer-2 : tie.Need-enum-known-answer-2
+enum-known-answer-2 c = search needs
+
+of-packet-requires : tie.Need-of-packet-requires
+of-packet-requires c κs = search needs
+
+returns : tie.Need-returns
+returns c = let p = c .before .before .before .answer .given .0 .0 in (λ i. record { number = 0; command = c .byte .ensures i; address = p .address .0; place = p .at; length = p .len }) ∙ ap (λ (x : Reading). partsAnswer (paperReading x)) (sym (c .before .before .before .answer .given .1))
+
+returns-2 : tie.Need-returns-2
+returns-2 c = ap (λ (n : ℕ). partsAnswer (refused n)) (c .of-packet .ensures) ∙ ap (λ (x : Reading). partsAnswer (paperReading x)) (sym (c .before .before .answer2 .given .1))
+
+pub told-spec : {M : Type 1} → statement M
+told-spec =
+    tie.close
+    (tie.spec
+    enum-known-answer
+    byte-requires
+    enum-known-answer-2
+    of-packet-requires
+    returns
+    returns-2)

@@ -1,0 +1,33 @@
+-- `loader_shown` meets its contract: the condition is shown as its number, each flag as its byte.
+use borrow.Author.Needs.{needs}
+use Rattle.gremolunde.proofs.states.loader_shown.Statement.{statement}
+use Rattle.gremolunde.proofs.states.loader_shown.Tie as tie
+
+condition-shown-requires : tie.Need-condition-shown-requires
+condition-shown-requires c κs = search needs
+
+flag-requires : tie.Need-flag-requires
+flag-requires c κs = search needs
+
+flag-requires-2 : tie.Need-flag-requires-2
+flag-requires-2 c κs = search needs
+
+flag-requires-3 : tie.Need-flag-requires-3
+flag-requires-3 c κs = search needs
+
+returns : tie.Need-returns
+returns c = let l = c .before .before .before .before .before .before .before .args .loader in
+    λ i. record {
+      groups = l .protection .groups;
+      added = l .sequence .added .groups;
+      key = l .key;
+      condition = c .before .before .before .condition-shown .ensures i;
+      read = c .before .before .flag .ensures i;
+      opened = c .before .flag2 .ensures i;
+      «added_read» = c .flag3 .ensures i;
+    }
+
+pub loader-shown-spec : {M : Type 1} → statement M
+loader-shown-spec =
+    tie.close
+    (tie.spec condition-shown-requires flag-requires flag-requires-2 flag-requires-3 returns)

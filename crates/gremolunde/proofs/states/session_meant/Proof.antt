@@ -1,0 +1,23 @@
+-- `session_meant` meets its contract: run and phase are what their numbers mean, the counts are the same.
+use borrow.Author.Needs.{needs}
+use Rattle.gremolunde.proofs.states.session_meant.Statement.{statement}
+use Rattle.gremolunde.proofs.states.session_meant.Tie as tie
+
+run-meant-requires : tie.Need-run-meant-requires
+run-meant-requires c κs = search needs
+
+phase-meant-requires : tie.Need-phase-meant-requires
+phase-meant-requires c κs = search needs
+
+returns : tie.Need-returns
+returns c = let s = c .before .before .args .state in
+    λ i. record {
+      kind = c .before .run-meant .ensures i;
+      phase = c .phase-meant .ensures i;
+      acknowledged = s .acknowledged;
+      total = s .total;
+      named = s .named;
+    }
+
+pub session-meant-spec : {M : Type 1} → statement M
+session-meant-spec = tie.close (tie.spec run-meant-requires phase-meant-requires returns)

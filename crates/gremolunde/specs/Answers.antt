@@ -1,0 +1,83 @@
+-- The paper's answers as C gets them: 0 and what is given, or the refusal's number; a refusal hands a state back as it came.
+use Prim.Native.Nat.{ℕ}
+use mathlib.Core.Bool.{Bool}
+use Rattle.basis.specs.Choice.{pick}
+use Rattle.basis.specs.Refusals.{Answer, refused, given}
+use Rattle.image.specs.Writer.{Told}
+use Rattle.image.specs.declared.hex.Hex.{Hex}
+use Rattle.line.specs.declared.rehearse.Load.{Load}
+use Rattle.loader.specs.declared.state.Loader.{Loader}
+use Rattle.packet.specs.Packet as packet
+use Rattle.service_log.specs.Log.{outcomeIn}
+use Rattle.service_log.specs.declared.read.Record.{Record}
+use Rattle.session.specs.Phases.{ended}
+use Rattle.session.specs.declared.phase.Phase.{Phase}
+use Rattle.session.specs.declared.session.Next.{Next}
+use Rattle.gremolunde.specs.States.{flagOf, loaderShown, hexShown, sessionShown}
+use Rattle.gremolunde.specs.declared.files.HexRead.{HexRead}
+use Rattle.gremolunde.specs.declared.files.HexWritten.{HexWritten}
+use Rattle.gremolunde.specs.declared.loading.Taken.{Taken}
+use Rattle.gremolunde.specs.declared.packets.Length.{Length}
+use Rattle.gremolunde.specs.declared.packets.Parts.{Parts}
+use Rattle.gremolunde.specs.declared.records.LogRecord.{LogRecord}
+use Rattle.gremolunde.specs.declared.rehearsals.Rehearsal.{Rehearsal}
+use Rattle.gremolunde.specs.declared.sessions.SessionMark.{SessionMark}
+use Rattle.gremolunde.specs.declared.sessions.SessionStepped.{SessionStepped}
+use Rattle.gremolunde.specs.declared.states.HexState.{HexState}
+use Rattle.gremolunde.specs.declared.states.LoaderState.{LoaderState}
+use Rattle.gremolunde.specs.declared.states.SessionState.{SessionState}
+
+-- how many bytes were written
+abbrev pub lengthAnswer : Answer ℕ → Length
+lengthAnswer (refused n) = record { number = n; length = 0 }
+lengthAnswer (given k) = record { number = 0; length = k }
+
+-- what a packet says
+abbrev pub partsAnswer : Answer packet.Parts → Parts
+partsAnswer (refused n) = record { number = n; command = 0; address = 0; place = 0; length = 0 }
+partsAnswer (given p) = record { number = 0; command = p .command; address = p .address; place = p .place; length = p .size }
+
+-- the loader after an input, with the length of its answer, which a refusal may have too
+abbrev pub takenAnswer : LoaderState → Answer (Unit {0}) → Loader → ℕ → Taken
+takenAnswer s (refused n) next k = record { number = n; answered = k; loader = s }
+takenAnswer s (given u) next k = record { number = 0; answered = k; loader = loaderShown next }
+
+-- the hex reader; before a start there is none
+abbrev pub noReader : HexState
+noReader = record { linear = 0; segment = 0; ended = 0; taken = 0 }
+
+abbrev pub hexAnswer : HexState → Answer Hex → HexRead
+hexAnswer s (refused n) = record { number = n; reader = s }
+hexAnswer s (given h) = record { number = 0; reader = hexShown h }
+
+-- the address to go on from; a refusal hands it back
+abbrev pub writtenAnswer : ℕ → Answer Told → HexWritten
+writtenAnswer a (refused n) = record { number = n; next = a; length = 0 }
+writtenAnswer a (given t) = record { number = 0; next = t .next; length = t .length }
+
+-- the session; before a start there is none
+abbrev pub noSession : SessionState
+noSession = record { run = 0; phase = 0; place = 0; acknowledged = 0; total = 0; named = 0 }
+
+abbrev pub steppedAnswer : SessionState → Answer Next → SessionStepped
+steppedAnswer s (refused n) = record { number = n; length = 0; session = s }
+steppedAnswer s (given x) = record { number = 0; length = x .len; session = sessionShown (x .session) }
+
+-- loader and session at the end of a rehearsal
+abbrev pub rehearsedAnswer : LoaderState → Answer Load → Rehearsal
+rehearsedAnswer s (refused n) = record { number = n; loader = s; session = noSession }
+rehearsedAnswer s (given x) = record { number = 0; loader = loaderShown (x .loader); session = sessionShown (x .session) }
+
+-- a byte is marked proved or not
+abbrev pub markAnswer : Answer Bool → SessionMark
+markAnswer (refused n) = record { number = n; proved = 0 }
+markAnswer (given t) = record { number = 0; proved = flagOf t }
+
+-- how a session ended: 0 valid, 40 to 43; 45 as the log says of one that is unfinished
+abbrev pub outcomeAnswer : Phase → ℕ
+outcomeAnswer p = pick (ended p) (outcomeIn p) 45
+
+-- what a log record says
+abbrev pub recordAnswer : Answer Record → LogRecord
+recordAnswer (refused n) = record { number = n; version = 0; outcome = 0; acknowledged = 0; total = 0; bytes = 0 }
+recordAnswer (given r) = record { number = 0; version = r .version; outcome = r .outcome; acknowledged = r .acknowledged; total = r .total; bytes = r .bytes }

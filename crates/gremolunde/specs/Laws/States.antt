@@ -1,0 +1,59 @@
+-- What is shown of a state stands for that state, so a caller who passes on what was handed back goes the paper's way.
+use mathlib.Core.Bool.{Bool, true, false}
+use mathlib.Core.Path.{_≡_, refl}
+use Rattle.image.specs.declared.hex.Hex.{Hex}
+use Rattle.loader.specs.declared.state.Condition.{Condition}
+use Rattle.loader.specs.declared.state.Condition.the-variants.{Waiting, Serving, Left}
+use Rattle.loader.specs.declared.state.Loader.{Loader}
+use Rattle.session.specs.declared.phase.Outcome.{Outcome}
+use Rattle.session.specs.declared.phase.Phase.{Phase}
+use Rattle.session.specs.declared.phase.RunKind.{RunKind}
+use Rattle.session.specs.declared.session.Session.{Session}
+use Rattle.gremolunde.specs.States.{isSet, flagOf, conditionMeant, conditionShown, loaderMeant, loaderShown, hexMeant, hexShown, runMeant, runShown, phaseMeant, phaseShown, placeShown, sessionMeant, sessionShown}
+
+flag-back : (t : Bool) → isSet (flagOf t) ≡ t
+flag-back true = refl
+flag-back false = refl
+
+condition-back : (c : Condition) → conditionMeant (conditionShown c) ≡ c
+condition-back Waiting = refl
+condition-back Serving = refl
+condition-back Left = refl
+
+pub loader-back : (l : Loader) → loaderMeant (loaderShown l) ≡ l
+loader-back l =
+    λ i. record {
+      condition = condition-back (l .condition) i;
+      sequence = record { opened = flag-back (l .sequence .opened) i; added = record { groups = l .sequence .added .groups; read = flag-back (l .sequence .added .read) i } };
+      protection = record { groups = l .protection .groups; read = flag-back (l .protection .read) i };
+      key = l .key;
+    }
+
+pub hex-back : (h : Hex) → hexMeant (hexShown h) ≡ h
+hex-back h = λ i. record { linear = h .linear; segment = h .segment; ended = flag-back (h .ended) i; taken = flag-back (h .taken) i }
+
+run-back : (k : RunKind) → runMeant (runShown k) ≡ k
+run-back RunKind.Reset = refl
+run-back RunKind.Jump = refl
+
+phase-back : (p : Phase) → phaseMeant (phaseShown p) (placeShown p) ≡ p
+phase-back Phase.Greeting = refl
+phase-back (Phase.Erase p) = refl
+phase-back (Phase.Write a) = refl
+phase-back (Phase.Verify a) = refl
+phase-back Phase.Run = refl
+phase-back (Phase.Ended Outcome.Valid) = refl
+phase-back (Phase.Ended Outcome.Silence) = refl
+phase-back (Phase.Ended Outcome.Bel) = refl
+phase-back (Phase.Ended Outcome.NoGreeting) = refl
+phase-back (Phase.Ended Outcome.Other) = refl
+
+pub session-back : (s : Session) → sessionMeant (sessionShown s) ≡ s
+session-back s =
+    λ i. record {
+      kind = run-back (s .kind) i;
+      phase = phase-back (s .phase) i;
+      acknowledged = s .acknowledged;
+      total = s .total;
+      named = s .named;
+    }

@@ -1,0 +1,128 @@
+// Hex files for C: the reader, record by record, and the writer.
+ghost use mathlib.Core.Path.{_≡_};
+ghost use lib.ListN.{length};
+ghost use Rattle.basis.specs.Board.{flashSize};
+ghost use Rattle.basis.specs.Lists.{overlay};
+ghost use Rattle.basis.specs.Refusals.{refused};
+ghost use Rattle.gremolunde.specs.Answers.{noReader, hexAnswer, writtenAnswer};
+ghost use Rattle.gremolunde.specs.States.{hexMeant};
+ghost use Rattle.image.specs.Hex.{paperRead, settled, startIn, recordIn, closeOf};
+ghost use Rattle.image.specs.Writer.{paperWritten, told, textOf, writeIn};
+use crate::numbers::of_hex;
+use crate::states::HexState;
+use crate::states::hex_meant;
+use crate::states::hex_shown;
+use basis::units::Address;
+use image::hex::Hex;
+use image::hex::Read;
+use image::writer::Written;
+use image::writer::write;
+
+// The next state of the reader; a refusal hands it back as it came.
+#[repr(C)]
+pub struct HexRead {
+    pub number: u32,
+    pub reader: HexState,
+}
+
+// The address to go on from, and how many characters were written; a refusal hands the address back.
+#[repr(C)]
+pub struct HexWritten {
+    pub number: u32,
+    pub next: u32,
+    pub length: usize,
+}
+
+#[no_mangle]
+pub extern "C" fn gremolunde_hex_start(image: &mut [u8], map: &mut [u8]) -> HexRead
+    ensures { λ r. ⌜
+        (let o = settled (startIn flashSize (now (image .entry)) (now (map .entry))) (now (image .entry)) (now (map .entry)) in
+        (r ≡ hexAnswer noReader (o .answer)) × (now (image .exit) ≡ o .image) × (now (map .exit) ≡ o .map))
+        ⌝ }
+{
+    let none = HexState {
+        linear: 0,
+        segment: 0,
+        ended: 0,
+        taken: 0,
+    };
+    answered(none, Hex::start(image, map))
+}
+
+#[no_mangle]
+pub extern "C" fn gremolunde_hex_record(
+    reader: HexState,
+    line: &[u8],
+    image: &mut [u8],
+    map: &mut [u8],
+) -> HexRead
+    ensures { λ r. ⌜
+        (let o = settled (recordIn flashSize (hexMeant reader) (now (line .entry)) (now (image .entry)) (now (map .entry))) (now (image .entry)) (now (map .entry)) in
+        (r ≡ hexAnswer reader (o .answer)) × (now (image .exit) ≡ o .image) × (now (map .exit) ≡ o .map))
+        ⌝ }
+{
+    let meant = hex_meant(reader);
+    answered(reader, meant.record(line, image, map))
+}
+
+#[no_mangle]
+pub extern "C" fn gremolunde_hex_close(reader: HexState) -> HexRead
+    ensures { λ r. ⌜ r ≡ hexAnswer reader (closeOf (hexMeant reader)) ⌝ }
+{
+    let meant = hex_meant(reader);
+    answered(reader, meant.close())
+}
+
+fn answered(reader: HexState, answer: Read) -> HexRead
+    ensures { λ r. ⌜ r ≡ hexAnswer reader (paperRead answer) ⌝ }
+{
+    match answer {
+        Read::Taken(next) => HexRead {
+            number: 0,
+            reader: hex_shown(next),
+        },
+        Read::Refused(why) => HexRead {
+            number: of_hex(why),
+            reader,
+        },
+    }
+}
+
+#[no_mangle]
+pub extern "C" fn gremolunde_hex_write(
+    image: &[u8],
+    map: &[u8],
+    from: u32,
+    buffer: &mut [u8],
+) -> HexWritten
+    ensures { λ r. ⌜
+        (let a = writeIn flashSize (now (image .entry)) (now (map .entry)) from (length (now (buffer .entry))) in
+        (r ≡ writtenAnswer from (told a)) × (now (buffer .exit) ≡ overlay (textOf a) (now (buffer .entry))))
+        ⌝ }
+{
+    told(from, write(image, map, Address(from), buffer))
+}
+
+fn told(from: u32, answer: Written) -> HexWritten
+    ensures { λ r. ⌜ r ≡ writtenAnswer from (paperWritten answer) ⌝ }
+{
+    match answer {
+        Written::Record { length, next } => HexWritten {
+            number: 0,
+            next: next.0,
+            length,
+        },
+        Written::Size => unwritten(20, from),
+        Written::Short => unwritten(33, from),
+    }
+}
+
+fn unwritten(number: u32, from: u32) -> HexWritten
+    ensures { λ r. ⌜ r ≡ writtenAnswer from (refused number) ⌝ }
+{
+    HexWritten {
+        number,
+        next: from,
+        length: 0,
+    }
+}

@@ -1,0 +1,9 @@
+// The product as C programs link it. What C lends is safe at any value, and each answer is the paper's.
+pub mod files;
+pub mod loading;
+pub mod numbers;
+pub mod packets;
+pub mod records;
+pub mod rehearsals;
+pub mod sessions;
+pub mod states;

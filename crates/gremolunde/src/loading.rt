@@ -1,0 +1,80 @@
+// The loader for C.
+ghost use mathlib.Core.Path.{_≡_};
+ghost use lib.ListN.{length};
+ghost use Rattle.basis.specs.Board.{pages};
+ghost use Rattle.basis.specs.Lists.{overlay};
+ghost use Rattle.basis.specs.Refusals.{bare};
+ghost use Rattle.gremolunde.specs.Answers.{takenAnswer};
+ghost use Rattle.gremolunde.specs.States.{loaderMeant, loaderShown};
+ghost use Rattle.loader.specs.Commands.{after};
+ghost use Rattle.loader.specs.Paper.{paperVerdict};
+ghost use Rattle.loader.specs.State.{factoryOf, resetOf};
+ghost use Rattle.loader.specs.Take.{takeOf, answerOf};
+use crate::numbers::of_loader;
+use crate::states::LoaderState;
+use crate::states::loader_meant;
+use crate::states::loader_shown;
+use loader::state::Loader;
+use loader::take::take;
+use loader::verdict::Verdict;
+
+// How many answer bytes were written, and the next state; a refusal hands the state back as it came.
+#[repr(C)]
+pub struct Taken {
+    pub number: u32,
+    pub answered: usize,
+    pub loader: LoaderState,
+}
+
+#[no_mangle]
+pub extern "C" fn gremolunde_loader_new() -> LoaderState
+    ensures { λ r. ⌜ r ≡ loaderShown factoryOf ⌝ }
+{
+    loader_shown(Loader::factory())
+}
+
+#[no_mangle]
+pub extern "C" fn gremolunde_loader_reset(loader: LoaderState) -> LoaderState
+    ensures { λ r. ⌜ r ≡ loaderShown (resetOf (loaderMeant loader)) ⌝ }
+{
+    let meant = loader_meant(loader);
+    loader_shown(meant.reset())
+}
+
+#[no_mangle]
+pub extern "C" fn gremolunde_loader_take(
+    loader: LoaderState,
+    input: &[u8],
+    flash: &mut [u8],
+    answer: &mut [u8],
+) -> Taken
+    ensures { λ r. ⌜
+        (let l = loaderMeant loader in
+        let x = takeOf pages l (now (input .entry)) (now (flash .entry)) (length (now (answer .entry))) in
+        let e = after l (now (flash .entry)) x in
+        (r ≡ takenAnswer loader (bare x) (e .loader) (length (answerOf l x)))
+        × (now (flash .exit) ≡ e .flash) × (now (answer .exit) ≡ overlay (answerOf l x) (now (answer .entry))))
+        ⌝ }
+{
+    let taken = take(loader_meant(loader), input, flash, answer);
+    let next = taken.loader;
+    let verdict = taken.verdict;
+    told(loader, verdict, next, taken.answered)
+}
+
+fn told(loader: LoaderState, verdict: Verdict, next: Loader, answered: usize) -> Taken
+    ensures { λ r. ⌜ r ≡ takenAnswer loader (paperVerdict verdict) next answered ⌝ }
+{
+    match verdict {
+        Verdict::Accepted => Taken {
+            number: 0,
+            answered,
+            loader: loader_shown(next),
+        },
+        Verdict::Refused(why) => Taken {
+            number: of_loader(why),
+            answered,
+            loader,
+        },
+    }
+}

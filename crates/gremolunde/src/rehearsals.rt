@@ -1,0 +1,64 @@
+// A rehearsal for C: a whole load over a line that loses what it is told to.
+ghost use mathlib.Core.Path.{_≡_};
+ghost use Rattle.gremolunde.specs.Answers.{rehearsedAnswer};
+ghost use Rattle.gremolunde.specs.States.{loaderMeant, runMeant};
+ghost use Rattle.line.specs.Line.{lossAt, rehearseOf, loaded, leftFlash};
+ghost use Rattle.line.specs.Paper.{paperRehearsed};
+use crate::numbers::of_session;
+use crate::sessions::no_session;
+use crate::states::LoaderState;
+use crate::states::SessionState;
+use crate::states::loader_meant;
+use crate::states::loader_shown;
+use crate::states::run_meant;
+use crate::states::session_shown;
+use line::rehearse::Rehearsed;
+use line::rehearse::rehearse;
+
+// Loader and session at the end; a refusal hands the loader back as it came.
+#[repr(C)]
+pub struct Rehearsal {
+    pub number: u32,
+    pub loader: LoaderState,
+    pub session: SessionState,
+}
+
+#[no_mangle]
+pub extern "C" fn gremolunde_rehearse(
+    run: u32,
+    loader: LoaderState,
+    losses: &[u8],
+    image: &[u8],
+    map: &[u8],
+    flash: &mut [u8],
+) -> Rehearsal
+    ensures { λ r. ⌜
+        (let a = rehearseOf (now (image .entry)) (now (map .entry)) (runMeant run) (loaderMeant loader) (lossAt (now (losses .entry))) (now (flash .entry)) in
+        (r ≡ rehearsedAnswer loader (loaded a)) × (now (flash .exit) ≡ leftFlash (now (flash .entry)) a))
+        ⌝ }
+{
+    let kind = run_meant(run);
+    let meant = loader_meant(loader);
+    told(loader, rehearse(kind, meant, losses, image, map, flash))
+}
+
+fn told(loader: LoaderState, answer: Rehearsed) -> Rehearsal
+    ensures { λ r. ⌜ r ≡ rehearsedAnswer loader (paperRehearsed answer) ⌝ }
+{
+    match answer {
+        Rehearsed::Ended(load) => {
+            let left = load.loader;
+            let reached = load.session;
+            Rehearsal {
+                number: 0,
+                loader: loader_shown(left),
+                session: session_shown(reached),
+            }
+        }
+        Rehearsed::Refused(why) => Rehearsal {
+            number: of_session(why),
+            loader,
+            session: no_session(),
+        },
+    }
+}

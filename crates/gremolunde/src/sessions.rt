@@ -1,0 +1,158 @@
+// The host session for C.
+ghost use mathlib.Core.Path.{_≡_};
+ghost use lib.ListN.{length};
+ghost use Rattle.basis.specs.Lists.{overlay};
+ghost use Rattle.gremolunde.specs.Answers.{noSession, steppedAnswer, markAnswer, outcomeAnswer};
+ghost use Rattle.gremolunde.specs.States.{isSet, runMeant, sessionMeant};
+ghost use Rattle.session.specs.Events.{classifyOf};
+ghost use Rattle.session.specs.Paper.{paperStepped, paperMark};
+ghost use Rattle.session.specs.Session.{measured, sentBytes, started, stepOf, provedOf};
+use crate::numbers::of_session;
+use crate::states::SessionState;
+use crate::states::run_meant;
+use crate::states::session_meant;
+use crate::states::session_shown;
+use basis::units::Address;
+use session::phase::Phase;
+use session::phase::number;
+use session::session::Mark;
+use session::session::Session;
+use session::session::Stepped;
+
+// The length of the packet in the buffer, and the next state; a refusal hands the state back as it came.
+#[repr(C)]
+pub struct SessionStepped {
+    pub number: u32,
+    pub length: usize,
+    pub session: SessionState,
+}
+
+#[repr(C)]
+pub struct SessionMark {
+    pub number: u32,
+    pub proved: u8,
+}
+
+#[no_mangle]
+pub extern "C" fn gremolunde_session_start(
+    run: u32,
+    image: &[u8],
+    map: &[u8],
+    buffer: &mut [u8],
+) -> SessionStepped
+    ensures { λ r. ⌜
+        (let a = started (now (image .entry)) (now (map .entry)) (length (now (buffer .entry))) (runMeant run) in
+        (r ≡ steppedAnswer noSession (measured a)) × (now (buffer .exit) ≡ overlay (sentBytes a) (now (buffer .entry))))
+        ⌝ }
+{
+    answered(
+        no_session(),
+        Session::start(run_meant(run), image, map, buffer),
+    )
+}
+
+// What a start that is refused hands back.
+pub fn no_session() -> SessionState
+    ensures { λ r. ⌜ r ≡ noSession ⌝ }
+{
+    SessionState {
+        run: 0,
+        phase: 0,
+        place: 0,
+        acknowledged: 0,
+        total: 0,
+        named: 0,
+    }
+}
+
+#[no_mangle]
+pub extern "C" fn gremolunde_session_step(
+    session: SessionState,
+    silent: u8,
+    answer: &[u8],
+    image: &[u8],
+    map: &[u8],
+    buffer: &mut [u8],
+) -> SessionStepped
+    ensures { λ r. ⌜
+        (let a = stepOf (now (image .entry)) (now (map .entry)) (length (now (buffer .entry))) (sessionMeant session) (classifyOf (isSet silent) (now (answer .entry))) in
+        (r ≡ steppedAnswer session (measured a)) × (now (buffer .exit) ≡ overlay (sentBytes a) (now (buffer .entry))))
+        ⌝ }
+{
+    let meant = session_meant(session);
+    answered(session, meant.step(silent != 0, answer, image, map, buffer))
+}
+
+fn answered(session: SessionState, answer: Stepped) -> SessionStepped
+    ensures { λ r. ⌜ r ≡ steppedAnswer session (paperStepped answer) ⌝ }
+{
+    match answer {
+        Stepped::Next(next) => {
+            let reached = next.session;
+            SessionStepped {
+                number: 0,
+                length: next.len,
+                session: session_shown(reached),
+            }
+        }
+        Stepped::Refused(why) => SessionStepped {
+            number: of_session(why),
+            length: 0,
+            session,
+        },
+    }
+}
+
+#[no_mangle]
+pub extern "C" fn gremolunde_session_proved(
+    session: SessionState,
+    map: &[u8],
+    address: u32,
+) -> SessionMark
+    ensures { λ r. ⌜ r ≡ markAnswer (provedOf (now (map .entry)) (sessionMeant session) address) ⌝ }
+{
+    let meant = session_meant(session);
+    marked(meant.proved(map, Address(address)))
+}
+
+fn marked(answer: Mark) -> SessionMark
+    ensures { λ r. ⌜ r ≡ markAnswer (paperMark answer) ⌝ }
+{
+    match answer {
+        Mark::Proved => SessionMark {
+            number: 0,
+            proved: 1,
+        },
+        Mark::Open => SessionMark {
+            number: 0,
+            proved: 0,
+        },
+        Mark::Size => SessionMark {
+            number: 20,
+            proved: 0,
+        },
+    }
+}
+
+// 0 valid, 40 to 43, or 45 where the session is unfinished.
+#[no_mangle]
+pub extern "C" fn gremolunde_session_outcome(session: SessionState) -> u32
+    ensures { λ r. ⌜ r ≡ outcomeAnswer (sessionMeant session .phase) ⌝ }
+{
+    let meant = session_meant(session);
+    let phase = meant.phase;
+    outcome(phase)
+}
+
+fn outcome(phase: Phase) -> u32
+    ensures { λ r. ⌜ r ≡ outcomeAnswer phase ⌝ }
+{
+    match phase {
+        Phase::Greeting => 45,
+        Phase::Erase(_) => 45,
+        Phase::Write(_) => 45,
+        Phase::Verify(_) => 45,
+        Phase::Run => 45,
+        Phase::Ended(reached) => number(reached) as u32,
+    }
+}

@@ -1,0 +1,72 @@
+-- One turn of a load: an exchange leads from the moment after i exchanges to the one after i + 1, and the load ends.
+use Prim.Native.Nat.{ℕ, _+_, _≤_, _<_}
+use mathlib.Core.Bool.{Bool, true, false}
+use mathlib.Core.List.{List}
+use mathlib.Core.Path.{_≡_, sym, ap, _∙_}
+use native.Mathlib.Numerals.{add-one}
+use native.Mathlib.Omega.{arith}
+use lib.ListN.{length, take, length-append}
+use lib.Seq.{take-append-seam, length-take-le}
+use Rattle.basis.specs.Board.{flashSize, mapSize}
+use Rattle.basis.specs.Choice.{pick}
+use Rattle.basis.specs.Lists.{Bytes, overlay}
+use Rattle.basis.specs.Refusals.{Answer, refused, given}
+use Rattle.line.specs.Laws.Moments.{going, stays}
+use Rattle.line.specs.Line.{Moment, begun, between, stepped, onward, exchangeOf, momentAt, momentOf, Exchanges}
+use Rattle.line.specs.declared.exchange.Ends.{Ends}
+use Rattle.line.specs.declared.exchange.Loss.{Loss}
+use Rattle.loader.specs.declared.state.Loader.{Loader}
+use Rattle.runs.specs.Pieces.{namedCount}
+use Rattle.session.specs.Phases.{ended}
+use Rattle.session.specs.Plan.{total}
+use Rattle.session.specs.Session.{Sent, sentBytes}
+use Rattle.session.specs.declared.phase.RunKind.{RunKind}
+
+-- ---- what an exchange leaves in the packet buffer is what is on the wire
+
+module _ (image m : List ℕ) (o : Loss) (ends : Ends) (before old : List ℕ) (fits : ends .len ≤ length old) where
+  abbrev here : Moment
+  here = momentOf ends before old
+
+  wired : (a : Answer Sent) → (length (onward (between o here) a .wire) ≤ length (overlay (sentBytes a) old)) × (take (length (onward (between o here) a .wire)) (overlay (sentBytes a) old) ≡ onward (between o here) a .wire)
+  wired (refused n) = let e = length-take-le (ends .len) old fits in (omega (arith, e), ap (λ (k : ℕ). take k old) e)
+  wired (given s) = (simp length-append (omega arith), take-append-seam (s .packet) _)
+
+  module _ {oldAnswer flash packet answer : List ℕ} {r : Ends} (x : Exchanges image m o here old oldAnswer r flash packet answer) where
+    pub len-fits : r .len ≤ length packet
+    unfolding exchangeOf
+    len-fits = rw (x .len-is, x .packet-is) (wired (stepped image m o here) .0)
+
+    wire : take (r .len) packet ≡ exchangeOf image m o here .wire
+    unfolding exchangeOf
+    wire = rw (x .len-is, x .packet-is) (wired (stepped image m o here) .1)
+
+    pub exchanged : momentOf r flash packet ≡ exchangeOf image m o here
+    exchanged = λ i. record { loader = x .loader-is i; flash = x .flash-is i; session = x .session-is i; wire = wire i }
+
+-- ---- turns
+
+module _ (image m before : List ℕ) (right : length image ≡ flashSize) (long : length m ≡ mapSize) (size : length before ≡ flashSize)
+    (bytes : Bytes image) (some : 0 < namedCount m) (kind : RunKind) (l : Loader) (losses : ℕ → Loss) (start : Moment) (fresh : start ≡ begun m kind l before) where
+  abbrev at : ℕ → Moment
+  at i = momentAt image m losses start i
+
+  since : (i : ℕ) → at i ≡ momentAt image m losses (begun m kind l before) i
+  since i = ap (λ (x : Moment). momentAt image m losses x i) fresh
+
+  pub not-past : (i : ℕ) (x : Moment) → x ≡ at i → ended (x .session .phase) ≡ false → i ≤ total m
+  not-past i x e t = going image m before right long size bytes some kind l losses i (sym (ap (λ (y : Moment). ended (y .session .phase)) (e ∙ since i)) ∙ t)
+
+  pub done : (i : ℕ) (x : Moment) → x ≡ at i → i ≤ total m + 1 → ended (x .session .phase) ≡ true → at (total m + 1) ≡ x
+  done i x e b t =
+      since (total m + 1)
+      ∙ stays image m before right long size bytes some kind l losses i (total m + 1) b (sym (ap (λ (y : Moment). ended (y .session .phase)) (e ∙ since i)) ∙ t)
+      ∙ sym (since i) ∙ sym e
+
+  pub again : (i : ℕ) (x : Moment) (o : Loss) → x ≡ at i → ended (x .session .phase) ≡ false → o ≡ losses i → exchangeOf image m o x ≡ at (i + 1)
+  unfolding momentAt
+  again i x o e t q =
+      rw add-one
+      (ap (λ (y : Loss). exchangeOf image m y x) q
+      ∙ ap (exchangeOf image m (losses i)) e
+      ∙ sym (ap (λ (b : Bool). pick b (at i) (exchangeOf image m (losses i) (at i))) (sym (ap (λ (y : Moment). ended (y .session .phase)) e) ∙ t)))

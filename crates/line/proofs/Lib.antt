@@ -1,0 +1,3 @@
+pub mod Delivering
+pub mod Driving
+pub mod Beginning

@@ -1,0 +1,46 @@
+-- What demand 3 asks of a moment, in its own words.
+use Prim.Native.Nat.{ℕ}
+use mathlib.Core.Bool.{true, false}
+use mathlib.Core.List.{List}
+use mathlib.Core.Path.{_≡_}
+use lib.ListN.{getD}
+use Rattle.basis.specs.Refusals.{given}
+use Rattle.basis.specs.Units.{pageOf}
+use Rattle.line.specs.Line.{Moment}
+use Rattle.packet.specs.Packet.{command}
+use Rattle.runs.specs.Map.{named}
+use Rattle.runs.specs.Pages.{touched}
+use Rattle.session.specs.Session.{provedOf}
+use Rattle.session.specs.declared.phase.Outcome.{Outcome}
+use Rattle.session.specs.declared.phase.Phase.{Phase}
+use Rattle.session.specs.declared.session.Session.{Session}
+
+-- the byte is marked proved: the session's own `proved` says so
+abbrev pub Proved : List ℕ → Session → ℕ → Type 0
+Proved m s a = provedOf m s a ≡ given true
+
+-- every file byte is proved
+abbrev pub AllProved : List ℕ → Session → Type 0
+AllProved m s = (a : ℕ) → named m a ≡ true → Proved m s a
+
+-- the byte stands in flash as in the file
+abbrev pub Stands : List ℕ → List ℕ → ℕ → Type 0
+Stands flash image a = getD flash a 0 ≡ getD image a 0
+
+-- a run packet is on the wire
+abbrev pub RunOut : Moment → Type 0
+RunOut x = command (x .wire) ≡ 0x52
+
+-- the session has ended valid
+abbrev pub Valid : Session → Type 0
+Valid s = s .phase ≡ Phase.Ended Outcome.Valid
+
+-- the moment is safe, where flash was `before` at the start
+pub record Safe (image m before : List ℕ) (x : Moment) : Type 0 where
+  -- each byte marked proved stands in flash as in the file
+  pub proved-stands : (a : ℕ) → Proved m (x .session) a → Stands (x .flash) image a
+  -- pages the file does not touch are as before
+  pub untouched-stays : (a : ℕ) → touched m (pageOf a) ≡ false → Stands (x .flash) before a
+  -- no run packet goes out and no session ends valid until every file byte is proved
+  pub run-proved : RunOut x → AllProved m (x .session)
+  pub valid-proved : Valid (x .session) → AllProved m (x .session)

@@ -1,0 +1,94 @@
+-- What demand 3 says of `rehearse`: of the verdict and the flash that it leaves.
+use Prim.Native.Nat.{ℕ, _+_, _<_}
+use mathlib.Core.Bool.{true, false}
+use mathlib.Core.List.{List}
+use mathlib.Core.Path.{_≡_, refl, sym, ap, _∙_}
+use native.Mathlib.Omega.{arith}
+use borrow.Author.Tests.{eqb-true, eqb-false, not-false}
+use lib.Dec.{eqb}
+use lib.ListN.{length, getD}
+use Rattle.basis.specs.Board.{flashSize, mapSize}
+use Rattle.basis.specs.Laws.Choice.{both-true}
+use Rattle.basis.specs.Laws.Refusals.{passed, done, apart, given-one}
+use Rattle.basis.specs.Lists.{Bytes}
+use Rattle.basis.specs.Refusals.{Answer, refused, given}
+use Rattle.basis.specs.Units.{pageOf}
+use Rattle.line.specs.Demand.{Stands, Valid}
+use Rattle.line.specs.Laws.Demand.{safe, finite}
+use Rattle.line.specs.Line.{Moment, begun, momentAt, rehearseOf, loaded, leftFlash, Rehearses}
+use Rattle.line.specs.declared.exchange.Loss.{Loss}
+use Rattle.line.specs.declared.rehearse.Load.{Load}
+use Rattle.loader.specs.declared.state.Loader.{Loader}
+use Rattle.runs.specs.Map.{named}
+use Rattle.runs.specs.Pages.{touched}
+use Rattle.runs.specs.Pieces.{namedCount}
+use Rattle.session.specs.Phases.{ended}
+use Rattle.session.specs.Plan.{total}
+use Rattle.session.specs.declared.phase.RunKind.{RunKind}
+use Rattle.session.specs.declared.session.Session.{Session}
+
+module _ (image m : List ℕ) (kind : RunKind) (l : Loader) (losses : ℕ → Loss) (before : List ℕ) where
+  abbrev whole : Answer Moment
+  whole = rehearseOf image m kind l losses before
+
+  -- a rehearsal that is not refused has what demand 3 asks for
+  record Given (x : Moment) : Type 0 where
+    pub right : length image ≡ flashSize
+    pub long : length m ≡ mapSize
+    pub size : length before ≡ flashSize
+    pub some : 0 < namedCount m
+    pub moment-is : x ≡ momentAt image m losses (begun m kind l before) (total m + 1)
+
+  given-is : (x : Moment) → whole ≡ given x → Given x
+  unfolding rehearseOf
+  given-is x e =
+      let p = passed 20 _ _ _ e in
+      let q = passed 32 _ _ _ (p .1) in
+      let b = both-true (eqb (length before) flashSize) _ (not-false _ (p .0)) in
+      let c = both-true (eqb (length image) flashSize) _ (b .1) in
+      let d = both-true (eqb (length m) mapSize) _ (c .1) in
+      record {
+        right = eqb-true (length image) flashSize (c .0);
+        long = eqb-true (length m) mapSize (d .0);
+        size = eqb-true (length before) flashSize (b .0);
+        some = omega (arith, eqb-false (namedCount m) 0 (q .0));
+        moment-is = given-one (sym (q .1) ∙ done _);
+      }
+
+  module _ (bytes : Bytes image) (r : Answer Load) (flash : List ℕ) (h : Rehearses whole before r flash) where
+    -- whatever the verdict, flash differs from before only in touched pages
+    pub untouched-stays : (a : ℕ) → touched m (pageOf a) ≡ false → Stands flash before a
+    untouched-stays a t = go whole refl (h .flash-is)
+      where
+        go : (w : Answer Moment) → whole ≡ w → flash ≡ leftFlash before w → Stands flash before a
+        go (refused n) e f = ap (λ (s : List ℕ). getD s a 0) f
+        go (given x) e f =
+            let g = given-is x e in
+            ap (λ (s : List ℕ). getD s a 0) (f ∙ ap (λ (y : Moment). y .flash) (g .moment-is))
+            ∙ safe image m before (g .right) (g .long) (g .size) bytes (g .some) kind l losses (total m + 1) .untouched-stays a t
+
+    module _ (y : Load) (v : r ≡ given y) where
+      outcome : (x : Moment) × (Given x) × (flash ≡ x .flash) × (y .session ≡ x .session)
+      outcome = go whole refl (sym v ∙ h .result-is) (h .flash-is)
+        where
+          go : (w : Answer Moment) → whole ≡ w → given y ≡ loaded w → flash ≡ leftFlash before w → (x : Moment) × (Given x) × (flash ≡ x .flash) × (y .session ≡ x .session)
+          go (refused n) e s f = absurd (apart (sym s))
+          go (given x) e s f = (x, given-is x e, f, ap (λ (z : Load). z .session) (given-one s))
+
+      -- it has ended
+      pub rehearsal-ends : ended (y .session .phase) ≡ true
+      rehearsal-ends =
+          let o = outcome in
+          let g = o .1 in
+          ap (λ (s : Session). ended (s .phase)) (o .3 ∙ ap (λ (x : Moment). x .session) (g .moment-is))
+          ∙ finite image m before (g .right) (g .long) (g .size) bytes (g .some) kind l losses
+
+      -- and where it says valid, every named byte of flash is as in the file
+      pub valid-stands : Valid (y .session) → (a : ℕ) → named m a ≡ true → Stands flash image a
+      valid-stands t a n =
+          let o = outcome in
+          let g = o .1 in
+          let s = safe image m before (g .right) (g .long) (g .size) bytes (g .some) kind l losses (total m + 1) in
+          let e = o .3 ∙ ap (λ (x : Moment). x .session) (g .moment-is) in
+          ap (λ (f : List ℕ). getD f a 0) (o .2 ∙ ap (λ (x : Moment). x .flash) (g .moment-is))
+          ∙ s .proved-stands a (s .valid-proved (sym (ap (λ (x : Session). x .phase) e) ∙ t) a n)

@@ -1,0 +1,9 @@
+-- The paper's number for each refusal of a rehearsal.
+use Rattle.basis.specs.Refusals.{Answer, refused, given}
+use Rattle.line.specs.declared.rehearse.Load.{Load}
+use Rattle.line.specs.declared.rehearse.Rehearsed.{Rehearsed}
+use Rattle.session.specs.Paper.{paperRefusal}
+
+abbrev pub paperRehearsed : Rehearsed → Answer Load
+paperRehearsed (Rehearsed.Ended x) = given x
+paperRehearsed (Rehearsed.Refused why) = refused (paperRefusal why)

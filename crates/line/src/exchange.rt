@@ -1,0 +1,126 @@
+// One exchange: the session's packet goes to the loader or is lost, the answer comes back or is lost.
+ghost use mathlib.Core.Path.{_≡_};
+ghost use Prim.Native.Nat.{_≤_};
+ghost use lib.ListN.{length};
+ghost use Rattle.basis.specs.Board.{flashSize, mapSize};
+ghost use Rattle.line.specs.Line.{lossOf, lossAt, momentOf, Delivers, Exchanges};
+use loader::state::Loader;
+use loader::take::take;
+use session::session::Session;
+use session::session::Stepped;
+
+// What befalls an exchange.
+pub enum Loss {
+    // Packet and answer arrive.
+    Whole,
+    // The packet is lost.
+    Lost,
+    // The packet arrives, and its answer is lost.
+    Unanswered,
+}
+
+impl Loss {
+    // One byte tells a loss; one that is neither 0 nor 1 loses the answer.
+    pub fn of(byte: u8) -> Loss
+        ensures { λ r. ⌜ r ≡ lossOf byte ⌝ }
+    {
+        if byte == 0 {
+            return Loss::Whole;
+        }
+        if byte == 1 {
+            return Loss::Lost;
+        }
+        Loss::Unanswered
+    }
+
+    // Past the list's end nothing is lost.
+    pub fn at(losses: &[u8], i: usize) -> Loss
+        ensures { λ r. ⌜ r ≡ lossAt (now (losses .entry)) i ⌝ }
+    {
+        if i < losses.len() {
+            return Loss::of(losses[i]);
+        }
+        Loss::Whole
+    }
+}
+
+// Loader and session between two exchanges, with the length of the packet that is out.
+pub struct Ends {
+    pub loader: Loader,
+    pub session: Session,
+    pub len: usize,
+}
+
+// The loader after a packet, and how many bytes of its answer arrive.
+struct Delivered {
+    loader: Loader,
+    arrived: usize,
+}
+
+// No answer is silence.
+pub fn exchange(
+    ends: Ends,
+    loss: Loss,
+    image: &[u8],
+    map: &[u8],
+    flash: &mut [u8],
+    packet: &mut [u8],
+    answer: &mut [u8],
+) -> Ends
+    requires { ⌜ (length (now image) ≡ flashSize) × (length (now map) ≡ mapSize) × (length (now flash) ≡ flashSize) × (length (now packet) ≡ 259) × (length (now answer) ≡ 24) × (ends .len ≤ 259) ⌝ }
+    ensures { λ r. ⌜ Exchanges (now (image .entry)) (now (map .entry)) loss (momentOf ends (now (flash .entry)) (now (packet .entry))) (now (packet .entry)) (now (answer .entry)) r (now (flash .exit)) (now (packet .exit)) (now (answer .exit)) ⌝ }
+{
+    let loader = ends.loader;
+    let session = ends.session;
+    let len = ends.len;
+    let delivered = deliver(loader, loss, &packet[..len], flash, answer);
+    let after = delivered.loader;
+    let arrived = delivered.arrived;
+    match session.step(arrived == 0, &answer[..arrived], image, map, packet) {
+        Stepped::Next(next) => {
+            let session = next.session;
+            Ends {
+                loader: after,
+                session,
+                len: next.len,
+            }
+        }
+        Stepped::Refused(_) => Ends {
+            loader: after,
+            session,
+            len,
+        },
+    }
+}
+
+// The loader's part of an exchange.
+fn deliver(
+    loader: Loader,
+    loss: Loss,
+    packet: &[u8],
+    flash: &mut [u8],
+    answer: &mut [u8],
+) -> Delivered
+    requires { ⌜ length (now answer) ≡ 24 ⌝ }
+    ensures { λ r. ⌜ Delivers loss loader (now (packet .entry)) (now (flash .entry)) (now (answer .entry)) (r .loader) (r .arrived) (now (flash .exit)) (now (answer .exit)) ⌝ }
+{
+    match loss {
+        Loss::Whole => {
+            let taken = take(loader, packet, flash, answer);
+            let after = taken.loader;
+            Delivered {
+                loader: after,
+                arrived: taken.answered,
+            }
+        }
+        Loss::Lost => Delivered { loader, arrived: 0 },
+        Loss::Unanswered => {
+            let taken = take(loader, packet, flash, answer);
+            let after = taken.loader;
+            Delivered {
+                loader: after,
+                arrived: 0,
+            }
+        }
+    }
+}

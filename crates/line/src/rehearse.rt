@@ -1,0 +1,123 @@
+// A whole load of a file into a flash, over a line that loses what it is told to.
+ghost use mathlib.Core.Path.{_≡_};
+ghost use mathlib.Core.Bool.{not};
+ghost use Prim.Native.Nat.{_+_, _<_, _≤_};
+ghost use lib.ListN.{length};
+ghost use Rattle.basis.specs.Board.{flashSize, mapSize};
+ghost use Rattle.line.specs.Line.{begun, momentAt, lossAt, rehearseOf, momentOf, Rehearses};
+ghost use Rattle.line.specs.Paper.{paperRehearsed};
+ghost use Rattle.runs.specs.Pieces.{namedCount};
+ghost use Rattle.session.specs.Phases.{ended};
+ghost use Rattle.session.specs.Plan.{total};
+use crate::exchange::Ends;
+use crate::exchange::Loss;
+use crate::exchange::exchange;
+use basis::board::FLASH;
+use loader::state::Loader;
+use session::phase::RunKind;
+use session::phase::ended;
+use session::session::Refusal;
+use session::session::Session;
+use session::session::Stepped;
+
+// Loader and session at the end.
+pub struct Load {
+    pub loader: Loader,
+    pub session: Session,
+}
+
+pub enum Rehearsed {
+    Ended(Load),
+    Refused(Refusal),
+}
+
+// Each byte of `losses` tells what befalls one exchange; past its end everything arrives.
+pub fn rehearse(
+    kind: RunKind,
+    loader: Loader,
+    losses: &[u8],
+    image: &[u8],
+    map: &[u8],
+    flash: &mut [u8],
+) -> Rehearsed
+    ensures { λ r. ⌜ Rehearses (rehearseOf (now (image .entry)) (now (map .entry)) kind loader (lossAt (now (losses .entry))) (now (flash .entry))) (now (flash .entry)) (paperRehearsed r) (now (flash .exit)) ⌝ }
+{
+    if flash.len() != FLASH as usize {
+        return Rehearsed::Refused(Refusal::Size);
+    }
+    let mut packet = [0u8; 259];
+    let mut answer = [0u8; 24];
+    begin(
+        kind,
+        loader,
+        losses,
+        image,
+        map,
+        flash,
+        &mut packet,
+        &mut answer,
+    )
+}
+
+fn begin(
+    kind: RunKind,
+    loader: Loader,
+    losses: &[u8],
+    image: &[u8],
+    map: &[u8],
+    flash: &mut [u8],
+    packet: &mut [u8],
+    answer: &mut [u8],
+) -> Rehearsed
+    requires { ⌜ (length (now flash) ≡ flashSize) × (length (now packet) ≡ 259) × (length (now answer) ≡ 24) ⌝ }
+    ensures { λ r. ⌜ Rehearses (rehearseOf (now (image .entry)) (now (map .entry)) kind loader (lossAt (now (losses .entry))) (now (flash .entry))) (now (flash .entry)) (paperRehearsed r) (now (flash .exit)) ⌝ }
+{
+    match Session::start(kind, image, map, packet) {
+        Stepped::Refused(why) => Rehearsed::Refused(why),
+        Stepped::Next(next) => {
+            let session = next.session;
+            let first = Ends {
+                loader: loader.reset(),
+                session,
+                len: next.len,
+            };
+            let last = drive(first, losses, image, map, flash, packet, answer);
+            let loader = last.loader;
+            let session = last.session;
+            Rehearsed::Ended(Load { loader, session })
+        }
+    }
+}
+
+// Exchanges until the session has ended.
+fn drive(
+    first: Ends,
+    losses: &[u8],
+    image: &[u8],
+    map: &[u8],
+    flash: &mut [u8],
+    packet: &mut [u8],
+    answer: &mut [u8],
+) -> Ends
+    requires { ⌜ (length (now image) ≡ flashSize) × (length (now map) ≡ mapSize) × (length (now flash) ≡ flashSize) × (length (now packet) ≡ 259) × (length (now answer) ≡ 24) × (0 < namedCount (now map)) × (first .len ≤ 259) × (momentOf first (now flash) (now packet) ≡ begun (now map) (first .session .kind) (first .loader) (now flash)) ⌝ }
+    ensures { λ r. ⌜
+        (let x = momentAt (now (image .entry)) (now (map .entry)) (lossAt (now (losses .entry))) (momentOf first (now (flash .entry)) (now (packet .entry))) (total (now (map .entry)) + 1) in
+        (r .loader ≡ x .loader) × (r .session ≡ x .session) × (now (flash .exit) ≡ x .flash))
+        ⌝ }
+{
+    let mut ends = first;
+    let mut i = 0;
+    while is_open(ends) {
+        ends = exchange(ends, Loss::at(losses, i), image, map, flash, packet, answer);
+        i += 1;
+    }
+    ends
+}
+
+fn is_open(ends: Ends) -> bool
+    ensures { λ r. ⌜ r ≡ not (ended (ends .session .phase)) ⌝ }
+{
+    let session = ends.session;
+    let phase = session.phase;
+    !ended(phase)
+}

@@ -1,0 +1,74 @@
+/* Loads a hex file as a host does: load FILE.hex. The board is a loader in this process; over a serial line `exchange`
+ * sends the packet and waits for the answer. Writes the service log's record to standard output. */
+#include "gremolunde.h"
+#include <stdio.h>
+
+static uint8_t image[GREMOLUNDE_IMAGE], map[GREMOLUNDE_MAP], flash[GREMOLUNDE_FLASH];
+static uint8_t packet[GREMOLUNDE_PACKET], answer[GREMOLUNDE_ANSWER], record[GREMOLUNDE_LOG];
+static gremolunde_loader board;
+
+static int say(const char *what, uint32_t number) {
+    fprintf(stderr, "%s: %lu\n", what, (unsigned long)number);
+    return 1;
+}
+
+/* The next line without its end, or 0; of a line that is longer than any record the rest is left out. */
+static int next_line(FILE *file, uint8_t line[600], size_t *length) {
+    int c;
+    for (*length = 0; (c = getc(file)) != EOF;) {
+        if (c == '\n') {
+            *length -= *length > 0 && line[*length - 1] == '\r';
+            return 1;
+        }
+        if (*length < 600) {
+            line[(*length)++] = (uint8_t)c;
+        }
+    }
+    return *length > 0;
+}
+
+static uint32_t read_file(FILE *file) {
+    uint8_t line[600];
+    size_t length;
+    gremolunde_read read = gremolunde_hex_start(image, sizeof image, map, sizeof map);
+    while (read.number == 0 && next_line(file, line, &length)) {
+        read = gremolunde_hex_record(read.reader, line, length, image, sizeof image, map, sizeof map);
+    }
+    return read.number != 0 ? read.number : gremolunde_hex_close(read.reader).number;
+}
+
+/* Sends the packet; gives the length of the answer, 0 for silence. */
+static size_t exchange(size_t length) {
+    gremolunde_taken taken =
+        gremolunde_loader_take(board, packet, length, flash, sizeof flash, answer, sizeof answer);
+    board = taken.loader;
+    return taken.answered;
+}
+
+int main(int count, char **words) {
+    FILE *file = count == 2 ? fopen(words[1], "rb") : NULL;
+    gremolunde_stepped now;
+    gremolunde_length log;
+    uint32_t number;
+    if (file == NULL) {
+        fprintf(stderr, "usage: load FILE.hex\n");
+        return 2;
+    }
+    number = read_file(file);
+    if (number != 0) {
+        return say("the file is refused", number);
+    }
+    board = gremolunde_loader_new();
+    now = gremolunde_session_start(GREMOLUNDE_RESET, image, sizeof image, map, sizeof map, packet, sizeof packet);
+    while (now.length > 0) {
+        size_t length = exchange(now.length);
+        now = gremolunde_session_step(now.session, length == 0, answer, length, image, sizeof image, map, sizeof map,
+                                      packet, sizeof packet);
+    }
+    log = gremolunde_log_write(now.session, record, sizeof record);
+    if (log.number != 0 || fwrite(record, 1, log.length, stdout) != log.length) {
+        return say("no record", log.number);
+    }
+    number = gremolunde_session_outcome(now.session);
+    return number == 0 ? 0 : say("not valid", number);
+}

@@ -1,0 +1,225 @@
+/* Gremolunde: the serial loader, its files and its host, for C99 and later.
+ *
+ * The library behind this header, libgremolunde.a for x86-64 Linux, is proved: no call reads or writes outside the
+ * bytes that are lent to it, none traps, none fails to return, and each answer is the one that the paper gives. It
+ * keeps no state of its own, allocates nothing and calls nothing but memcpy and memset.
+ *
+ * Answers. Each function answers by value. The first field of an answer is `number`: 0 when it was done, else the
+ * paper's number of the refusal. A refusal hands a state back as it was passed, gives 0 in every other field unless
+ * the function says otherwise, and leaves all lent bytes as they were unless the function says otherwise. A function
+ * that cannot refuse gives its value itself.
+ *
+ * States. gremolunde_loader, gremolunde_hex and gremolunde_session are plain values that the caller keeps, copies and
+ * stores. Every value of every field is safe to pass. Where a field is a flag, 0 is false and all else is true; an
+ * answer has 0 or 1 there.
+ *
+ * Lent bytes. A pointer and the length behind it lend so many bytes for the time of the call. With a length of 0 the
+ * pointer may be null. Bytes that a function may write (a pointer without const) must not overlap other bytes that
+ * the same call lends; those that it only reads may overlap each other. A buffer is written from its start, and its
+ * bytes past what is written stay as they were.
+ */
+#ifndef GREMOLUNDE_H
+#define GREMOLUNDE_H
+
+#include <stddef.h>
+#include <stdint.h>
+
+#ifdef __cplusplus
+extern "C" {
+#endif
+
+/* The sizes that the paper asks for, in bytes: flash, image and map exactly so, the others at least so. */
+#define GREMOLUNDE_FLASH 63488
+#define GREMOLUNDE_IMAGE 63488
+#define GREMOLUNDE_MAP 7936
+#define GREMOLUNDE_PACKET 259
+#define GREMOLUNDE_ANSWER 24
+#define GREMOLUNDE_RECORD 44
+#define GREMOLUNDE_LOG 10
+
+/* A loader, without its flash. */
+typedef struct gremolunde_loader {
+    uint64_t groups;    /* the protected groups, one bit a group, group 0 the lowest */
+    uint64_t added;     /* the groups added to the protect sequence that is open */
+    uint32_t key;       /* 0xFFFFFFFF when cleared */
+    uint8_t condition;  /* 0 waiting, 1 serving, 2 left; any other value counts as left */
+    uint8_t read;       /* flag: read protection is in force */
+    uint8_t opened;     /* flag: a protect sequence is open */
+    uint8_t added_read; /* flag: read protection is added to the sequence */
+} gremolunde_loader;
+
+/* A hex reader, without its image and map. */
+typedef struct gremolunde_hex {
+    uint32_t linear;  /* the linear base */
+    uint32_t segment; /* the segment base */
+    uint8_t ended;    /* flag: the end record was read */
+    uint8_t taken;    /* flag: a data byte was taken */
+} gremolunde_hex;
+
+/* Where a session stands: what it waits for. */
+enum {
+    GREMOLUNDE_GREETING = 0, /* the greeting */
+    GREMOLUNDE_ERASE = 1,    /* the answer to E; place is its first page */
+    GREMOLUNDE_WRITE = 2,    /* the answer to W; place is its address */
+    GREMOLUNDE_VERIFY = 3,   /* the answer to V; place is its address */
+    GREMOLUNDE_RUN = 4,      /* the answer to R */
+    GREMOLUNDE_ENDED = 5     /* nothing; place is the outcome, 0 valid or 40 to 43 */
+};
+
+/* How the board goes on after the last packet: the address of R. */
+enum { GREMOLUNDE_JUMP = 0, GREMOLUNDE_RESET = 1 };
+
+/* A session, without its file. One with a phase or an outcome that is not listed came from no start: a step gives 46,
+ * its outcome and its log record are 45. */
+typedef struct gremolunde_session {
+    uint32_t run;          /* 0 jump; any other value is reset */
+    uint32_t phase;        /* GREMOLUNDE_GREETING to GREMOLUNDE_ENDED */
+    uint32_t place;        /* as the phase says, else 0 */
+    uint32_t acknowledged; /* packets acknowledged */
+    uint32_t total;        /* packets of the file */
+    uint32_t named;        /* named bytes of the file */
+} gremolunde_session;
+
+/* How many bytes were written. */
+typedef struct gremolunde_length {
+    uint32_t number;
+    size_t length;
+} gremolunde_length;
+
+/* What a packet says; its data are the `length` bytes of the input from `place` on, those of V still turned. */
+typedef struct gremolunde_parts {
+    uint32_t number;
+    uint8_t command;
+    uint32_t address;
+    size_t place;
+    size_t length;
+} gremolunde_parts;
+
+/* How many answer bytes were written, and the next loader. */
+typedef struct gremolunde_taken {
+    uint32_t number;
+    size_t answered;
+    gremolunde_loader loader;
+} gremolunde_taken;
+
+/* The next hex reader. */
+typedef struct gremolunde_read {
+    uint32_t number;
+    gremolunde_hex reader;
+} gremolunde_read;
+
+/* The address to go on from, and how many characters were written. */
+typedef struct gremolunde_written {
+    uint32_t number;
+    uint32_t next;
+    size_t length;
+} gremolunde_written;
+
+/* The length of the packet to send, 0 at an end, and the next session. */
+typedef struct gremolunde_stepped {
+    uint32_t number;
+    size_t length;
+    gremolunde_session session;
+} gremolunde_stepped;
+
+/* Whether a byte is marked proved. */
+typedef struct gremolunde_mark {
+    uint32_t number;
+    uint8_t proved;
+} gremolunde_mark;
+
+/* What a log record says. */
+typedef struct gremolunde_record {
+    uint32_t number;
+    uint8_t version;
+    uint8_t outcome;
+    uint32_t acknowledged;
+    uint32_t total;
+    uint32_t bytes;
+} gremolunde_record;
+
+/* Loader and session at the end of a rehearsal. */
+typedef struct gremolunde_rehearsal {
+    uint32_t number;
+    gremolunde_loader loader;
+    gremolunde_session session;
+} gremolunde_rehearsal;
+
+/* The byte turned for V. */
+uint8_t gremolunde_turned(uint8_t byte);
+
+/* A turned byte turned back. */
+uint8_t gremolunde_restored(uint8_t byte);
+
+/* Builds a packet; for V the data are given plain. 20 buffer under 259; 5, 6 as the command table says. */
+gremolunde_length gremolunde_packet_build(uint8_t *buffer, size_t buffer_length, uint8_t command, uint32_t address,
+                                          const uint8_t *plain, size_t plain_length);
+
+/* Reads a packet. 1 to 6 as the loader's table says. */
+gremolunde_parts gremolunde_packet_read(const uint8_t *input, size_t input_length);
+
+/* A loader as it leaves the factory: waiting, nothing protected, the key cleared. */
+gremolunde_loader gremolunde_loader_new(void);
+
+/* A reset: waiting, an open protect sequence dropped, protection and key kept; flash stays too. */
+gremolunde_loader gremolunde_loader_reset(gremolunde_loader loader);
+
+/* Takes one input. 20, 11, 1, 2 with no answer; 3 to 10 with the answer BEL 07, so that `answered` is 1 and the
+ * answer's first byte is written. Flash stays on every refusal. */
+gremolunde_taken gremolunde_loader_take(gremolunde_loader loader, const uint8_t *input, size_t input_length,
+                                        uint8_t *flash, size_t flash_length, uint8_t *answer, size_t answer_length);
+
+/* Starts a file: fills image with 0xFF and map with 0. 20 wrong sizes. */
+gremolunde_read gremolunde_hex_start(uint8_t *image, size_t image_length, uint8_t *map, size_t map_length);
+
+/* Takes one record, its line end removed. 20 to 30. */
+gremolunde_read gremolunde_hex_record(gremolunde_hex reader, const uint8_t *line, size_t line_length, uint8_t *image,
+                                      size_t image_length, uint8_t *map, size_t map_length);
+
+/* Closes a file. 31 no end record, 32 no data byte taken. */
+gremolunde_read gremolunde_hex_close(gremolunde_hex reader);
+
+/* Writes the next record from an address. 20 wrong sizes, 33 buffer under 44; a refusal hands the address back. After
+ * the end record `next` is 0xF801, from where nothing more is written. */
+gremolunde_written gremolunde_hex_write(const uint8_t *image, size_t image_length, const uint8_t *map,
+                                        size_t map_length, uint32_t from, uint8_t *buffer, size_t buffer_length);
+
+/* Starts a session: writes the single byte 08. 20 wrong sizes, 32 nothing named; the session is then all 0. */
+gremolunde_stepped gremolunde_session_start(uint32_t run, const uint8_t *image, size_t image_length,
+                                            const uint8_t *map, size_t map_length, uint8_t *buffer,
+                                            size_t buffer_length);
+
+/* Takes one event: an answer, or silence where the flag `silent` is set, whatever the answer. 20 wrong sizes, 44 after
+ * the end, 46 not this file's session. The endings 40 to 43 are no refusals: see gremolunde_session_outcome. */
+gremolunde_stepped gremolunde_session_step(gremolunde_session session, uint8_t silent, const uint8_t *answer,
+                                           size_t answer_length, const uint8_t *image, size_t image_length,
+                                           const uint8_t *map, size_t map_length, uint8_t *buffer,
+                                           size_t buffer_length);
+
+/* Whether the byte at an address is marked proved. 20 map of another size. */
+gremolunde_mark gremolunde_session_proved(gremolunde_session session, const uint8_t *map, size_t map_length,
+                                          uint32_t address);
+
+/* How a session ended: 0 valid, 40 silence, 41 BEL, 42 no greeting, 43 other bytes or none; 45 unfinished. */
+uint32_t gremolunde_session_outcome(gremolunde_session session);
+
+/* Writes the log record of a session that has ended. 45 unfinished or counts that make no record, 20 buffer under
+ * 10. */
+gremolunde_length gremolunde_log_write(gremolunde_session session, uint8_t *buffer, size_t buffer_length);
+
+/* Reads a log record. 50 to 53. */
+gremolunde_record gremolunde_log_read(const uint8_t *input, size_t input_length);
+
+/* Rehearses a whole load of the file into the flash: the loader is reset, a session started, and exchange follows
+ * exchange until the session has ended. Each byte of `losses` tells what befalls one exchange: 0 nothing, 1 the packet
+ * is lost, any other value the answer is lost; past their end nothing is lost. 20 wrong sizes, 32 nothing named; the
+ * session is then all 0. */
+gremolunde_rehearsal gremolunde_rehearse(uint32_t run, gremolunde_loader loader, const uint8_t *losses,
+                                         size_t losses_length, const uint8_t *image, size_t image_length,
+                                         const uint8_t *map, size_t map_length, uint8_t *flash, size_t flash_length);
+
+#ifdef __cplusplus
+}
+#endif
+
+#endif
