@@ -14,6 +14,7 @@ use Rattle.basis.specs.Laws.Lists.{overlay-next}
 use Rattle.basis.specs.Laws.Sums.{sum-append}
 use Rattle.image.specs.Flash.{stored, copyOf}
 use Rattle.image.specs.Writer.{letterOf, spelt, content, text, step, runLength, runFrom, lowest, stepFrom, writeIn}
+use Rattle.image.specs.Laws.Flash.{copy-overlay}
 use Rattle.image.specs.Laws.Writer.{length-spelt, spelt-append}
 
 module _ (buffer : List ℕ) (a i : ℕ) (s : List ℕ) where
@@ -25,15 +26,6 @@ module _ (buffer : List ℕ) (a i : ℕ) (s : List ℕ) where
   pub spell-ended : length s ≤ i → copyOf buffer (a + 2 * i) (spelt (drop i s)) ≡ buffer
   unfolding stored spelt
   spell-ended h = rw (drop-of-length-le s h)
-
--- bytes copied in behind what was written are written
-pub copy-overlay : (w old s : List ℕ) (k : ℕ) → length w ≡ k → k + length s ≤ length old → copyOf (overlay w old) k s ≡ overlay (w ++ s) old
-unfolding stored
-copy-overlay w old [] k e h = rw append-nil
-copy-overlay w old (x ∷ s) k e h =
-    rw (overlay-next w old k x e (omega arith))
-    (copy-overlay (w ++ (x ∷ [])) old s (k + 1) (simp length-append (omega arith)) (omega arith)
-    ∙ rw (append-assoc w (x ∷ []) s))
 
 -- the sum of two parts makes the checksum of the whole
 pub checksum-parts : (s t : List ℕ) (x : ℕ) → x ≡ (sumOf s + sumOf t) % 256 → (256 - x) % 256 ≡ checksumOf (s ++ t)

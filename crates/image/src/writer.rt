@@ -80,7 +80,7 @@ fn print(address: u16, kind: u8, bytes: &[u8], buffer: &mut [u8]) -> usize
 }
 
 // The bytes as upper case digits, from `at` on.
-fn spell(buffer: &mut [u8], at: usize, bytes: &[u8])
+pub fn spell(buffer: &mut [u8], at: usize, bytes: &[u8])
     requires { ⌜ at + 2 * length (now bytes) ≤ length (now buffer) ⌝ }
     ensures { λ _. ⌜ now (buffer .exit) ≡ copyOf (now (buffer .entry)) at (spelt (now (bytes .entry))) ⌝ }
 {

@@ -1,14 +1,15 @@
 -- Laws of flash and images. What is proved of `stored` holds of stores, copies and erasure alike.
 use Prim.Native.Nat.{ℕ, zero, suc, _+_, _<_, _≤_}
 use mathlib.Core.Path.{_≡_, refl, ap, sym, _∙_}
-use mathlib.Core.List.{List, [], _∷_, _++_}
+use mathlib.Core.List.{List, [], _∷_, _++_, append-assoc, append-nil}
 use native.Mathlib.Nat.{add-zero, add-suc, suc-add, mod-eq-of-lt, not-suc-le-zero}
 use native.Mathlib.Numerals.{add-one}
 use native.Mathlib.Omega.{arith}
-use lib.ListN.{length, take, drop, set, getD, replicate, length-set, length-take, length-drop, length-replicate, getD-replicate, replicate-append-replicate, take-append-drop}
+use lib.ListN.{length, take, drop, set, getD, replicate, length-set, length-take, length-drop, length-replicate, length-append, getD-replicate, replicate-append-replicate, take-append-drop}
 use lib.Seq.{getD-set-same, getD-set-other, getD-take, getD-drop, ext-getD, length-take-le}
 use lib.Bits.{bitAnd, and-comm, and-mask}
-use Rattle.basis.specs.Lists.{Bytes}
+use Rattle.basis.specs.Laws.Lists.{overlay-next}
+use Rattle.basis.specs.Lists.{Bytes, overlay}
 use Rattle.image.specs.Flash.{stored, storeOf, copyOf, eraseOf, new}
 
 module _ (op : ℕ → ℕ → ℕ) where
@@ -54,6 +55,17 @@ module _ (op : ℕ → ℕ → ℕ) where
       rw e
       (stored-at (one flash a x) (a + 1) s k (omega arith) (simp length-set (omega arith))
       ∙ rw (getD-set-other flash a (a + 1 + k) (op (getD flash a 0) x) 0 (λ q. omega arith)))
+
+-- ---- copies
+
+-- bytes copied in behind what was written are written
+pub copy-overlay : (w old s : List ℕ) (k : ℕ) → length w ≡ k → k + length s ≤ length old → copyOf (overlay w old) k s ≡ overlay (w ++ s) old
+unfolding stored
+copy-overlay w old [] k e h = rw append-nil
+copy-overlay w old (x ∷ s) k e h =
+    rw (overlay-next w old k x e (omega arith))
+    (copy-overlay (w ++ (x ∷ [])) old s (k + 1) (simp length-append (omega arith)) (omega arith)
+    ∙ rw (append-assoc w (x ∷ []) s))
 
 -- ---- erasure
 

@@ -1,0 +1,47 @@
+-- `start_with` meets its contract: the session's start decides.
+use mathlib.Core.Path.{sym, ap, _∙_}
+use borrow.Author.Needs.{needs}
+use Rattle.basis.specs.Refusals.{given}
+use Rattle.listing.specs.Laws.Plan.{starts, start-refused}
+use Rattle.session.specs.Paper.{paperStepped}
+use Rattle.listing.proofs.plan.Listing.start_with.Statement.{statement}
+use Rattle.listing.proofs.plan.Listing.start_with.Tie as tie
+
+start-requires : tie.Need-start-requires
+start-requires c κs = search needs
+
+enum-known-next : tie.Need-enum-known-next
+enum-known-next c = search needs
+
+first-requires : tie.Need-first-requires
+first-requires c κs = let a = c .before .before .before .before .before .before .before .before .before .before .args in
+    let s = starts (a .image .now) (a .map .now) _ (c .before .next .given .0 .0) (sym (ap paperStepped (c .before .next .given .1)) ∙ c .before .before .before .before .before .start .ensures .0) in (s .mapSize, s .some, s .counted)
+
+enum-known-x : tie.Need-enum-known-x
+enum-known-x c = search needs
+
+same-length : tie.Need-same-length
+same-length c = search needs
+
+returns : tie.Need-returns
+returns c = let a = c .before .before .before .before .before .before .before .before .before .before .before .args in
+    let s = starts (a .image .now) (a .map .now) _ (c .before .before .next .given .0 .0) (sym (ap paperStepped (c .before .before .next .given .1)) ∙ c .before .before .before .before .before .before .start .ensures .0) in ap given (c .first .ensures) ∙ sym (s .begun)
+
+same-length-2 : tie.Need-same-length-2
+same-length-2 c = search needs
+
+returns-2 : tie.Need-returns-2
+returns-2 c = start-refused (c .before .before .before .before .before .before .before .before .before .before .args .image .now) (c .before .before .before .before .before .before .before .before .before .before .args .map .now) _ _ (sym (ap paperStepped (c .before .x .given .1)) ∙ c .before .before .before .before .before .start .ensures .0)
+
+pub start-with-spec : {M : Type 1} → statement M
+start-with-spec =
+    tie.close
+    (tie.spec
+    start-requires
+    enum-known-next
+    first-requires
+    enum-known-x
+    same-length
+    returns
+    same-length-2
+    returns-2)

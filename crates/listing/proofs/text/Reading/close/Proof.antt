@@ -1,0 +1,43 @@
+-- `close` meets its contract: the last line is taken, then the reader is closed; a refusal stays.
+use borrow.Author.Needs.{needs}
+use Rattle.listing.specs.declared.text.Reading.{Reading}
+use Rattle.listing.proofs.Texts.{close-open, close-refused}
+use Rattle.listing.proofs.text.Reading.close.Statement.{statement}
+use Rattle.listing.proofs.text.Reading.close.Tie as tie
+
+enum-known-self : tie.Need-enum-known-self
+enum-known-self c = search needs
+
+last-requires : tie.Need-last-requires
+last-requires c κs = search needs
+
+shut-requires : tie.Need-shut-requires
+shut-requires c κs = search needs
+
+enum-known-self-2 : tie.Need-enum-known-self-2
+enum-known-self-2 c = search needs
+
+same-length : tie.Need-same-length
+same-length c = search needs
+
+same-length-2 : tie.Need-same-length-2
+same-length-2 c = search needs
+
+returns : tie.Need-returns
+returns c = close-open _ _ _ _ _ _ _ _ _ _ (c .before .before .before .before .before .before .before .before .before .self .given .1) (c .shut .ensures) (c .before .before .before .before .before .last .ensures)
+
+returns-2 : tie.Need-returns-2
+returns-2 c = close-refused _ _ _ _ _ _ _ (c .before .self2 .given .1)
+
+pub close-spec : {M : Type 1} → statement M
+close-spec =
+    tie.close
+    (tie.spec
+    enum-known-self
+    last-requires
+    shut-requires
+    enum-known-self-2
+    same-length
+    same-length-2
+    returns
+    returns-2)

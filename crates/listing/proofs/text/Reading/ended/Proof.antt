@@ -1,0 +1,20 @@
+-- `ended` meets its contract: an open text is a file, a refusal stays.
+use borrow.Author.Needs.{needs}
+use Rattle.listing.proofs.Texts.{ended-refused}
+use Rattle.listing.proofs.text.Reading.ended.Statement.{statement}
+use Rattle.listing.proofs.text.Reading.ended.Tie as tie
+
+enum-told : tie.Need-enum-told
+enum-told c = search needs
+
+enum-known-self : tie.Need-enum-known-self
+enum-known-self c = search needs
+
+returns : tie.Need-returns
+returns c = search needs
+
+returns-2 : tie.Need-returns-2
+returns-2 c = ended-refused _ _ _ (c .before .self .given .1)
+
+pub ended-spec : {M : Type 1} → statement M
+ended-spec = tie.close (tie.spec enum-told enum-known-self returns returns-2)

@@ -1,0 +1,63 @@
+-- `feed` meets its contract: feeding what is left, from here, gives what was to be given.
+use Prim.Native.Nat.{_≤_, _-_}
+use mathlib.Core.Path.{_≡_, refl, sym, _∙_}
+use borrow.Author.Needs.{needs}
+use lib.ListN.{length, drop}
+use Rattle.basis.specs.Board.{flashSize}
+use Rattle.listing.specs.Feed.{paperReading, fed, feedOf}
+use Rattle.listing.specs.Laws.Feed.{feed-next, feed-end}
+use Rattle.listing.proofs.text.Reading.feed.Statement.{statement}
+use Rattle.listing.proofs.text.Reading.feed.Tie as tie
+
+abbrev Inv-loop : tie.InvT-loop
+Inv-loop bytes line₀ image₀ map₀ reading₀ i₀ line image map reading i = (i ≤ length bytes) × (length line ≡ length line₀) × (length image ≡ length image₀) × (length map ≡ length map₀) × (feedOf flashSize (fed (paperReading reading) line image map) (drop i bytes) ≡ feedOf flashSize (fed (paperReading reading₀) line₀ image₀ map₀) bytes)
+
+abbrev μ-loop : tie.MeasureT-loop
+μ-loop bytes line₀ image₀ map₀ reading₀ i₀ line image map reading i = length bytes - i
+
+loop-holds : tie.Need-loop-holds Inv-loop μ-loop
+loop-holds c = (search needs, refl, refl, refl, refl)
+
+shared-slice-read-byte : tie.Need-shared-slice-read-byte Inv-loop μ-loop
+shared-slice-read-byte c = search needs
+
+byte-requires : tie.Need-byte-requires Inv-loop μ-loop
+byte-requires c κs = search needs
+
+add-i : tie.Need-add-i Inv-loop μ-loop
+add-i c = search needs
+
+loop-less : tie.Need-loop-less Inv-loop μ-loop
+loop-less c = search needs
+
+loop-again : tie.Need-loop-again Inv-loop μ-loop
+loop-again c = (search needs, search needs, search needs, search needs, feed-next flashSize _ _ _ _ (c .before .before .before .before .before .before .before .before .before .before .before .loop-test .taken) (c .before .before .before .before .before .before .byte .ensures) ∙ c .before .before .before .before .before .before .before .before .before .before .before .before .loop .inv .4)
+
+same-length : tie.Need-same-length Inv-loop μ-loop
+same-length c = search needs
+
+same-length-2 : tie.Need-same-length-2 Inv-loop μ-loop
+same-length-2 c = search needs
+
+same-length-3 : tie.Need-same-length-3 Inv-loop μ-loop
+same-length-3 c = search needs
+
+returns : tie.Need-returns Inv-loop μ-loop
+returns c = sym (feed-end flashSize _ _ _ (c .loop-test .left)) ∙ c .before .loop .inv .4
+
+pub feed-spec : {M : Type 1} → statement M
+feed-spec =
+    tie.close
+    (tie.spec
+    Inv-loop
+    μ-loop
+    loop-holds
+    shared-slice-read-byte
+    byte-requires
+    add-i
+    loop-less
+    loop-again
+    same-length
+    same-length-2
+    same-length-3
+    returns)

@@ -1,0 +1,25 @@
+-- `shut` meets its contract: what closing the reader says.
+use mathlib.Core.Path.{sym, ap, _∙_}
+use borrow.Author.Needs.{needs}
+use Rattle.image.specs.Hex.{paperRead}
+use Rattle.listing.proofs.Texts.{shut-by}
+use Rattle.listing.proofs.text.Text.shut.Statement.{statement}
+use Rattle.listing.proofs.text.Text.shut.Tie as tie
+
+close-requires : tie.Need-close-requires
+close-requires c κs = search needs
+
+enum-told : tie.Need-enum-told
+enum-told c = search needs
+
+enum-known-refusal : tie.Need-enum-known-refusal
+enum-known-refusal c = search needs
+
+returns : tie.Need-returns
+returns c = shut-by _ _ (sym (ap paperRead (c .enum-told .given .1)) ∙ c .before .before .close .ensures)
+
+returns-2 : tie.Need-returns-2
+returns-2 c = shut-by _ _ (sym (ap paperRead (c .before .refusal .given .1)) ∙ c .before .before .before .close .ensures)
+
+pub shut-spec : {M : Type 1} → statement M
+shut-spec = tie.close (tie.spec close-requires enum-told enum-known-refusal returns returns-2)

@@ -1,0 +1,50 @@
+-- `take` meets its contract: the record's outcome, with the line counted.
+use borrow.Author.Needs.{needs}
+use Rattle.listing.proofs.Texts.{took-given, took-refused}
+use Rattle.listing.proofs.text.Text.take.Statement.{statement}
+use Rattle.listing.proofs.text.Text.take.Tie as tie
+
+wrapping-add-u64-requires : tie.Need-wrapping-add-u64-requires
+wrapping-add-u64-requires c κs = search needs
+
+record-requires : tie.Need-record-requires
+record-requires c κs = search needs
+
+enum-known-next : tie.Need-enum-known-next
+enum-known-next c = search needs
+
+enum-known-refusal : tie.Need-enum-known-refusal
+enum-known-refusal c = search needs
+
+same-length : tie.Need-same-length
+same-length c = search needs
+
+same-length-2 : tie.Need-same-length-2
+same-length-2 c = search needs
+
+returns : tie.Need-returns
+returns c = took-given _ _ (c .before .before .before .before .before .before .before .before .before .before .wrapping-add-u64 .ensures) _ _ _ _ _ (c .before .next .given .1) (c .before .before .before .before .before .before .before .«record» .ensures)
+
+same-length-3 : tie.Need-same-length-3
+same-length-3 c = search needs
+
+same-length-4 : tie.Need-same-length-4
+same-length-4 c = search needs
+
+returns-2 : tie.Need-returns-2
+returns-2 c = took-refused _ _ (c .before .before .before .before .before .before .before .before .before .before .wrapping-add-u64 .ensures) _ _ _ _ _ (c .before .refusal .given .1) (c .before .before .before .before .before .before .before .«record» .ensures)
+
+pub take-spec : {M : Type 1} → statement M
+take-spec =
+    tie.close
+    (tie.spec
+    wrapping-add-u64-requires
+    record-requires
+    enum-known-next
+    enum-known-refusal
+    same-length
+    same-length-2
+    returns
+    same-length-3
+    same-length-4
+    returns-2)

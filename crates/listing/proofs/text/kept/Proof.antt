@@ -1,0 +1,20 @@
+-- `kept` meets its contract: a line that is no longer than asked is taken whole.
+use mathlib.Core.Path.{sym}
+use native.Mathlib.Omega.{arith}
+use borrow.Author.Needs.{needs}
+use lib.ListN.{length-take}
+use lib.Seq.{take-all}
+use Rattle.listing.proofs.text.kept.Statement.{statement}
+use Rattle.listing.proofs.text.kept.Tie as tie
+
+returns : tie.Need-returns
+returns c = sym (take-all _ _ (c .if1 .taken))
+
+slice-aggregate-result : tie.Need-slice-aggregate-result
+slice-aggregate-result c = simp length-take (omega arith)
+
+returns-2 : tie.Need-returns-2
+returns-2 c = search needs
+
+pub kept-spec : {M : Type 1} → statement M
+kept-spec = tie.close (tie.spec returns slice-aggregate-result returns-2)

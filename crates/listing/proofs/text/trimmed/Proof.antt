@@ -1,0 +1,30 @@
+-- `trimmed` meets its contract: the last byte tells.
+use native.Mathlib.Omega.{arith}
+use borrow.Author.Needs.{needs}
+use lib.ListN.{length-take}
+use Rattle.listing.proofs.Texts.{trimmed-empty, trimmed-same, trimmed-cut}
+use Rattle.listing.proofs.text.trimmed.Statement.{statement}
+use Rattle.listing.proofs.text.trimmed.Tie as tie
+
+returns : tie.Need-returns
+returns c = trimmed-empty _ (c .if1 .taken)
+
+sub-end : tie.Need-sub-end
+sub-end c = search needs
+
+shared-slice-read-if2 : tie.Need-shared-slice-read-if2
+shared-slice-read-if2 c = search needs
+
+returns-2 : tie.Need-returns-2
+returns-2 c = trimmed-same _ (c .if2 .taken)
+
+slice-aggregate-result : tie.Need-slice-aggregate-result
+slice-aggregate-result c = simp length-take (omega arith)
+
+returns-3 : tie.Need-returns-3
+returns-3 c = trimmed-cut _ (c .before .if2 .left)
+
+pub trimmed-spec : {M : Type 1} → statement M
+trimmed-spec =
+    tie.close
+    (tie.spec returns sub-end shared-slice-read-if2 returns-2 slice-aggregate-result returns-3)

@@ -1,0 +1,118 @@
+-- A text as it comes, byte by byte, with what is lent: the line buffer, image and map.
+use Prim.Native.Nat.{ℕ, _+_, _%_, _^_}
+use mathlib.Core.List.{List, [], _∷_}
+use lib.Dec.{eqb, ltb}
+use lib.ListN.{length, set, take}
+use Rattle.basis.specs.Choice.{pick}
+use Rattle.basis.specs.Refusals.{Answer, refused, given}
+use Rattle.image.specs.Hex.{Outcome, settled, recordIn}
+use Rattle.image.specs.Hex.{closeOf as closing}
+use Rattle.image.specs.Record.{paperRefusal}
+use Rattle.image.specs.declared.hex.Hex.{Hex}
+use Rattle.listing.specs.Text.{Verdict, refusedAt, whole, Result, result, trimmedOf}
+use Rattle.listing.specs.declared.text.Ended.{Ended}
+use Rattle.listing.specs.declared.text.Reading.{Reading}
+use Rattle.listing.specs.declared.text.Text.{Text}
+
+-- refused at a line with a number, or open
+pub data Progress : Type 0 where
+  stopped : ℕ → ℕ → Progress
+  going : Text → Progress
+
+abbrev pub paperReading : Reading → Progress
+paperReading (Reading.Open t) = going t
+paperReading (Reading.Refused n x) = stopped n (paperRefusal x)
+
+abbrev pub paperEnded : Ended → Verdict
+paperEnded Ended.File = whole
+paperEnded (Ended.Refused n x) = refusedAt n (paperRefusal x)
+
+pub record Fed : Type 0 where
+  pub progress : Progress
+  pub line : List ℕ
+  pub image : List ℕ
+  pub map : List ℕ
+
+abbrev pub fed : Progress → List ℕ → List ℕ → List ℕ → Fed
+fed p line image map = record { progress = p; line = line; image = image; map = map }
+
+-- a text at its start
+abbrev pub begunBy : Answer Hex → Progress
+begunBy (refused k) = stopped 0 k
+begunBy (given h) = going (record { hex = h; lines = 0; len = 0 })
+
+abbrev pub started : Outcome → List ℕ → Fed
+started o line = fed (begunBy (o .answer)) line (o .image) (o .map)
+
+-- the number of the next line, in 64 bits
+abbrev pub nextLine : Text → ℕ
+nextLine t = (t .lines + 1) % 2 ^ 64
+
+-- the next line is taken
+abbrev pub tookBy : Text → Answer Hex → Progress
+tookBy t (refused k) = stopped (nextLine t) k
+tookBy t (given h) = going (record { hex = h; lines = nextLine t; len = 0 })
+
+abbrev pub took : Text → Outcome → List ℕ → Fed
+took t o line = fed (tookBy t (o .answer)) line (o .image) (o .map)
+
+abbrev pub tookLine : ℕ → Text → List ℕ → List ℕ → List ℕ → List ℕ → Fed
+tookLine size t l line image map = took t (settled (recordIn size (t .hex) l image map) image map) line
+
+-- one byte of the open line more
+abbrev pub longer : Text → Text
+longer t = record { hex = t .hex; lines = t .lines; len = t .len + 1 }
+
+-- 0A ends the line; any other byte is kept where the line buffer has room
+unfoldable pub textByte : ℕ → Text → ℕ → List ℕ → List ℕ → List ℕ → Fed
+textByte size t b line image map =
+    pick (eqb b 0x0A) (tookLine size t (trimmedOf (take (t .len) line)) line image map)
+    (pick (ltb (t .len) (length line)) (fed (going (longer t)) (set line (t .len) b) image map)
+    (fed (going t) line image map))
+
+abbrev pub progressByte : ℕ → Progress → ℕ → List ℕ → List ℕ → List ℕ → Fed
+progressByte size (stopped n k) b line image map = fed (stopped n k) line image map
+progressByte size (going t) b line image map = textByte size t b line image map
+
+abbrev pub byteOf : ℕ → Fed → ℕ → Fed
+byteOf size s b = progressByte size (s .progress) b (s .line) (s .image) (s .map)
+
+-- the bytes one by one
+unfoldable pub feedOf : ℕ → Fed → List ℕ → Fed
+feedOf size s [] = s
+feedOf size s (b ∷ t) = feedOf size (byteOf size s b) t
+
+-- the line behind the last 0A, as it stands
+unfoldable pub lastOf : ℕ → Text → List ℕ → List ℕ → List ℕ → Fed
+lastOf size t line image map =
+    pick (eqb (t .len) 0) (fed (going t) line image map) (tookLine size t (take (t .len) line) line image map)
+
+-- the reader is closed
+abbrev pub shutBy : Text → Answer Hex → Progress
+shutBy t (refused k) = stopped 0 k
+shutBy t (given h) = going t
+
+unfoldable pub shutOf : Progress → Progress
+shutOf (stopped n k) = stopped n k
+shutOf (going t) = shutBy t (closing (t .hex))
+
+abbrev pub shutFed : Fed → Fed
+shutFed s = fed (shutOf (s .progress)) (s .line) (s .image) (s .map)
+
+abbrev pub progressClosed : ℕ → Progress → List ℕ → List ℕ → List ℕ → Fed
+progressClosed size (stopped n k) line image map = fed (stopped n k) line image map
+progressClosed size (going t) line image map = shutFed (lastOf size t line image map)
+
+abbrev pub closeOf : ℕ → Fed → Fed
+closeOf size s = progressClosed size (s .progress) (s .line) (s .image) (s .map)
+
+-- what a reading came to
+abbrev pub verdictOf : Progress → Verdict
+verdictOf (stopped n k) = refusedAt n k
+verdictOf (going t) = whole
+
+abbrev pub resultOf : Progress → List ℕ → List ℕ → Result
+resultOf p image map = result (verdictOf p) image map
+
+abbrev pub fedResult : Fed → Result
+fedResult s = resultOf (s .progress) (s .image) (s .map)

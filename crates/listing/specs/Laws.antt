@@ -1,0 +1,5 @@
+pub mod Numbers
+pub mod Feed
+pub mod Reading
+pub mod Plan
+pub mod Determined

@@ -1,0 +1,207 @@
+-- What a text comes to, byte by byte, is what its lines give, however long they are.
+use Prim.Native.Nat.{ℕ, _+_, _-_, _%_, _^_, _≤_, _<_}
+use mathlib.Core.Bool.{true, false, not}
+use mathlib.Core.List.{List, [], _∷_, _++_}
+use mathlib.Core.Path.{_≡_, refl, sym, ap, _∙_}
+use native.Mathlib.Nat.{mod-eq-of-lt}
+use native.Mathlib.Numerals.{add-one}
+use native.Mathlib.Omega.{arith}
+use borrow.Author.Tests.{eq-eqb, ne-eqb, lt-ltb, le-ltb, eqb-true, eqb-false, ltb-true, ltb-false}
+use lib.Dec.{eqb, ltb}
+use lib.ListN.{length, getD, set, take, length-append, length-take, length-set}
+use lib.Seq.{length-take-le, take-all, take-nil, take-append-le, take-suc-set, getD-take}
+use Rattle.basis.specs.Choice.{pick}
+use Rattle.basis.specs.Laws.Choice.{decide}
+use Rattle.basis.specs.Refusals.{Answer, refused, given, first}
+use Rattle.image.specs.Hex.{File, file, settled, sizeWrong, startIn, recordIn}
+use Rattle.image.specs.Hex.{closeOf as closing}
+use Rattle.image.specs.declared.hex.Hex.{Hex}
+use Rattle.listing.specs.Text.{Result, result, trimmedOf, linesFrom, onward, readFrom, readIn}
+use Rattle.listing.specs.Text.{shutBy as verdictBy}
+use Rattle.listing.specs.Feed.{Fed, fed, started, stopped, going, nextLine, took, tookLine, longer, byteOf, textByte, feedOf, lastOf, shutBy, shutOf, shutFed, closeOf, verdictOf, fedResult}
+use Rattle.listing.specs.declared.text.Text.{Text}
+
+-- ---- of a line that is too long, only its first character counts
+
+module _ (size : ℕ) (h : Hex) (image map : List ℕ) where
+  long-record : (l : List ℕ) → 521 < length l → recordIn size h l image map ≡ pick (sizeWrong size image map) (refused 20) (pick (h .ended) (refused 21) (pick (not (eqb (getD l 0 0) 0x3A)) (refused 22) (refused 23)))
+  unfolding first recordIn
+  long-record l g =
+      let some : length l ≡ 0 → ⊥ = λ e. omega arith in
+      let least : 11 ≤ length l = omega arith in
+      rw (ne-eqb _ _ some, le-ltb _ _ least, lt-ltb _ _ g)
+
+  overlong : (a b : List ℕ) → 521 < length a → 521 < length b → getD a 0 0 ≡ getD b 0 0 → recordIn size h a image map ≡ recordIn size h b image map
+  overlong a b p q e =
+      long-record a p
+      ∙ ap (λ (c : ℕ). pick (sizeWrong size image map) (refused 20) (pick (h .ended) (refused 21) (pick (not (eqb c 0x3A)) (refused 22) (refused 23)))) e
+      ∙ sym (long-record b q)
+
+  -- 523 characters of a line are enough
+  record-kept : (n : ℕ) (l : List ℕ) → 523 ≤ n → recordIn size h (take n l) image map ≡ recordIn size h l image map
+  record-kept n l g =
+      decide (ltb n (length l))
+      (λ t. let k = ltb-true n (length l) t in
+      overlong (take n l) l (omega (arith, length-take n l)) (omega arith) (getD-take n l 0 0 (omega arith)))
+      (λ t. rw (take-all n l (ltb-false n (length l) t)))
+
+trimmed-length : (l : List ℕ) → length l ≤ length (trimmedOf l) + 1
+unfolding trimmedOf
+trimmed-length l =
+    decide (eqb (getD l (length l - 1) 0) 0x0D)
+    (λ t. rw t (omega (arith, length-take (length l - 1) l)))
+    (λ t. rw t (omega arith))
+
+trimmed-first : (l : List ℕ) → 1 < length l → getD (trimmedOf l) 0 0 ≡ getD l 0 0
+unfolding trimmedOf
+trimmed-first l h =
+    decide (eqb (getD l (length l - 1) 0) 0x0D)
+    (λ t. rw t (getD-take (length l - 1) l 0 0 (omega arith)))
+    (λ t. rw t)
+
+module _ (size : ℕ) (h : Hex) (image map : List ℕ) where
+  record-trimmed : (n : ℕ) (l : List ℕ) → 523 ≤ n → recordIn size h (trimmedOf (take n l)) image map ≡ recordIn size h (trimmedOf l) image map
+  record-trimmed n l g =
+      decide (ltb n (length l))
+      (λ t. let k = ltb-true n (length l) t in
+      let e : length (take n l) ≡ n = length-take-le n l (omega arith) in
+      overlong size h image map (trimmedOf (take n l)) (trimmedOf l)
+      (omega (arith, trimmed-length (take n l)))
+      (omega (arith, trimmed-length l))
+      (trimmed-first (take n l) (omega arith) ∙ getD-take n l 0 0 (omega arith) ∙ sym (trimmed-first l (omega arith))))
+      (λ t. rw (take-all n l (ltb-false n (length l) t)))
+
+-- ---- the open line, as much of it as the buffer has room for
+
+Held : List ℕ → Text → List ℕ → Type 0
+Held l t line = (t .len ≤ length line) × (take (t .len) line ≡ take (length line) l)
+
+module _ (l : List ℕ) (t : Text) (line : List ℕ) (h : Held l t line) where
+  held-length : length (take (length line) l) ≡ t .len
+  unfolding Held
+  held-length = sym (ap length (h .1)) ∙ length-take-le (t .len) line (h .0)
+
+  held-is : take (t .len) line ≡ take (length line) l
+  unfolding Held
+  held-is = h .1
+
+  held-more : (b : ℕ) → t .len < length line → Held (l ++ (b ∷ [])) (longer t) (set line (t .len) b)
+  unfolding Held
+  held-more b k =
+      let short : length l ≡ t .len = omega (arith, held-length, length-take (length line) l) in
+      let e : take (t .len) line ≡ l = h .1 ∙ take-all (length line) l (omega arith) in
+      (simp length-set (omega arith), rw (add-one, take-suc-set line (t .len) b k, e) (sym (take-all (length (set line (t .len) b)) (l ++ (b ∷ [])) (simp (length-append, length-set) (omega arith)))))
+
+  held-lost : (b : ℕ) → length line ≤ t .len → Held (l ++ (b ∷ [])) t line
+  unfolding Held
+  held-lost b k =
+      let long : length line ≤ length l = omega (arith, held-length, length-take (length line) l, h .0) in
+      (h .0, h .1 ∙ sym (take-append-le (length line) l (b ∷ []) long))
+
+held-none : (t : Text) (line : List ℕ) → t .len ≡ 0 → Held [] t line
+unfolding Held
+held-none t line e = rw e (omega arith, sym (take-nil (length line)))
+
+-- ---- whole texts
+
+verdict-shut : (t : Text) (a : Answer Hex) → verdictOf (shutBy t a) ≡ verdictBy a
+verdict-shut t (refused k) = refl
+verdict-shut t (given h) = refl
+
+module _ (size : ℕ) where
+  -- a refusal stays
+  pub feed-stopped : (n k : ℕ) (line image map text : List ℕ) → feedOf size (fed (stopped n k) line image map) text ≡ fed (stopped n k) line image map
+  unfolding feedOf
+  feed-stopped n k line image map [] = refl
+  feed-stopped n k line image map (b ∷ text) = feed-stopped n k line image map text
+
+  -- what a text comes to from a state on
+  abbrev pub end : Fed → List ℕ → Result
+  end s text = fedResult (closeOf size (feedOf size s text))
+
+  abbrev fresh : Text → Hex → Text
+  fresh t h = record { hex = h; lines = nextLine t; len = 0 }
+
+  went : (t : Text) (line image map text : List ℕ) (a : Answer File) (g : File → Result) → nextLine t ≡ t .lines + 1 → ((f : File) → end (fed (going (fresh t (f .reader))) line (f .image) (f .map)) text ≡ g f) → end (took t (settled a image map) line) text ≡ onward (t .lines + 1) image map a g
+  went t line image map text (refused k) g e ih = rw (feed-stopped (nextLine t) k line image map text, e)
+  went t line image map text (given f) g e ih = ih f
+
+  module _ (line : List ℕ) (room : 523 ≤ length line) where
+    -- the end: the open line is the last one, and nothing is none
+    ends : (l : List ℕ) (t : Text) (image map : List ℕ) → Held l t line → nextLine t ≡ t .lines + 1 → end (fed (going t) line image map) [] ≡ readFrom size (t .lines) (linesFrom l []) (file (t .hex) image map)
+    unfolding Held feedOf linesFrom readFrom lastOf shutOf
+    ends l t image map h e =
+        decide (eqb (length l) 0)
+        (λ z. let n : t .len ≡ 0 = omega (arith, held-length l t line h, length-take (length line) l, eqb-true (length l) 0 z) in
+        rw (z, eq-eqb (t .len) 0 n) (ap (λ v. result v image map) (verdict-shut t (closing (t .hex)))))
+        (λ z. let n : t .len ≡ 0 → ⊥ = λ q. eqb-false (length l) 0 z (omega (arith, held-length l t line h, length-take (length line) l)) in
+        rw (z, ne-eqb (t .len) 0 n, h .1, record-kept size (t .hex) image map (length line) l room)
+        (last (recordIn size (t .hex) l image map)))
+      where
+        last : (a : Answer File) → fedResult (shutFed (took t (settled a image map) line)) ≡ onward (t .lines + 1) image map a (readFrom size (t .lines + 1) [])
+        last (refused k) = rw e
+        last (given f) = ap (λ v. result v (f .image) (f .map)) (verdict-shut (fresh t (f .reader)) (closing (f .reader)))
+
+  numbered : (n k : ℕ) → n + k + 1 < 2 ^ 64 → (n + 1) % 2 ^ 64 ≡ n + 1
+  numbered n k l = mod-eq-of-lt (omega arith)
+
+  -- one byte: it ends the line, is kept, or is lost; and so with the lines that follow
+  module _ (t : Text) (b : ℕ) (line image map : List ℕ) where
+    byte-ends : eqb b 0x0A ≡ true → textByte size t b line image map ≡ tookLine size t (trimmedOf (take (t .len) line)) line image map
+    unfolding textByte
+    byte-ends z = rw z
+
+    module _ (z : eqb b 0x0A ≡ false) where
+      byte-kept : ltb (t .len) (length line) ≡ true → textByte size t b line image map ≡ fed (going (longer t)) (set line (t .len) b) image map
+      unfolding textByte
+      byte-kept k = rw (z, k)
+
+      byte-lost : ltb (t .len) (length line) ≡ false → textByte size t b line image map ≡ fed (going t) line image map
+      unfolding textByte
+      byte-lost k = rw (z, k)
+
+  module _ (l text : List ℕ) (b : ℕ) where
+    lines-end : eqb b 0x0A ≡ true → linesFrom l (b ∷ text) ≡ trimmedOf l ∷ linesFrom [] text
+    unfolding linesFrom
+    lines-end z = rw z
+
+    lines-on : eqb b 0x0A ≡ false → linesFrom l (b ∷ text) ≡ linesFrom (l ++ (b ∷ [])) text
+    unfolding linesFrom
+    lines-on z = rw z
+
+  fed-on : (s : Fed) (b : ℕ) (text : List ℕ) → end s (b ∷ text) ≡ end (byteOf size s b) text
+  unfolding feedOf
+  fed-on s b text = refl
+
+  read-on : (n : ℕ) (l : List ℕ) (ls : List (List ℕ)) (f : File) → readFrom size n (l ∷ ls) f ≡ onward (n + 1) (f .image) (f .map) (recordIn size (f .reader) l (f .image) (f .map)) (readFrom size (n + 1) ls)
+  unfolding readFrom
+  read-on n l ls f = refl
+
+  -- from any state on: the open line and what comes, as lines
+  reads : (text l line image map : List ℕ) (t : Text) → 523 ≤ length line → Held l t line → t .lines + length text + 1 < 2 ^ 64 → end (fed (going t) line image map) text ≡ readFrom size (t .lines) (linesFrom l text) (file (t .hex) image map)
+  reads [] l line image map t room h few = ends line room l t image map h (numbered (t .lines) 0 (omega arith))
+  reads (b ∷ text) l line image map t room h few =
+      let next : nextLine t ≡ t .lines + 1 = numbered (t .lines) (length text) (omega arith) in
+      let f : File = file (t .hex) image map in
+      fed-on (fed (going t) line image map) b text
+      ∙ decide (eqb b 0x0A)
+      (λ z. ap (λ (s : Fed). end s text) (byte-ends t b line image map z ∙ ap (λ (a : Answer File). took t (settled a image map) line) (ap (λ (k : List ℕ). recordIn size (t .hex) (trimmedOf k) image map) (held-is l t line h) ∙ record-trimmed size (t .hex) image map (length line) l room))
+      ∙ went t line image map text (recordIn size (t .hex) (trimmedOf l) image map) (readFrom size (t .lines + 1) (linesFrom [] text)) next
+      (λ g. reads text [] line (g .image) (g .map) (fresh t (g .reader)) room (held-none (fresh t (g .reader)) line refl) (omega (arith, next))
+      ∙ ap (λ (n : ℕ). readFrom size n (linesFrom [] text) g) next)
+      ∙ sym (ap (λ (ls : List (List ℕ)). readFrom size (t .lines) ls f) (lines-end l text b z) ∙ read-on (t .lines) (trimmedOf l) (linesFrom [] text) f))
+      (λ z. decide (ltb (t .len) (length line))
+      (λ k. ap (λ (s : Fed). end s text) (byte-kept t b line image map z k)
+      ∙ reads text (l ++ (b ∷ [])) (set line (t .len) b) image map (longer t) (simp length-set room) (held-more l t line h b (ltb-true (t .len) (length line) k)) (omega arith))
+      (λ k. ap (λ (s : Fed). end s text) (byte-lost t b line image map z k)
+      ∙ reads text (l ++ (b ∷ [])) line image map t room (held-lost l t line h b (ltb-false (t .len) (length line) k)) (omega arith))
+      ∙ sym (ap (λ (ls : List (List ℕ)). readFrom size (t .lines) ls f) (lines-on l text b z)))
+
+  -- from the start on, however the text was cut: what the paper says of its lines
+  pub text-reads : (text line image map : List ℕ) → 523 ≤ length line → length text + 1 < 2 ^ 64 → end (started (settled (startIn size image map) image map) line) text ≡ readIn size text image map
+  unfolding readIn
+  text-reads text line image map room few = go (startIn size image map)
+    where
+      go : (a : Answer File) → end (started (settled a image map) line) text ≡ onward 0 image map a (readFrom size 0 (linesFrom [] text))
+      go (refused k) = rw (feed-stopped 0 k line image map text)
+      go (given f) = reads text [] line (f .image) (f .map) (record { hex = f .reader; lines = 0; len = 0 }) room (held-none (record { hex = f .reader; lines = 0; len = 0 }) line refl) (omega arith)

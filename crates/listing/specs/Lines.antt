@@ -1,0 +1,65 @@
+-- The lines that the programs print.
+use Prim.Native.Nat.{ℕ, _+_}
+use mathlib.Core.List.{List, [], _∷_, _++_}
+use lib.ListN.{getD}
+use Rattle.basis.specs.Refusals.{Answer, refused, given}
+use Rattle.image.specs.Writer.{spelt}
+use Rattle.listing.specs.Numbers.{decimalOf}
+use Rattle.service_log.specs.declared.read.Record.{Record}
+
+-- each line is closed by 0A
+abbrev pub closed : List ℕ
+closed = 0x0A ∷ []
+
+-- a word and a number
+abbrev pub field : List ℕ → ℕ → List ℕ
+field word n = word ++ decimalOf n
+
+-- "REFUSED "
+abbrev pub refusedWord : List ℕ
+refusedWord = 0x52 ∷ 0x45 ∷ 0x46 ∷ 0x55 ∷ 0x53 ∷ 0x45 ∷ 0x44 ∷ 0x20 ∷ []
+
+-- REFUSED, the line number and the number, with single spaces
+unfoldable pub refusalAt : ℕ → ℕ → List ℕ
+refusalAt line k = field refusedWord line ++ (field (0x20 ∷ []) k ++ closed)
+
+-- REFUSED and the number
+unfoldable pub refusalLine : ℕ → List ℕ
+refusalLine k = field refusedWord k ++ closed
+
+-- ---- the plan
+
+-- "STEP KIND PACKET"
+abbrev pub headLine : List ℕ
+headLine =
+    0x53 ∷ 0x54 ∷ 0x45 ∷ 0x50
+    ∷ 0x20
+    ∷ 0x4B ∷ 0x49 ∷ 0x4E ∷ 0x44
+    ∷ 0x20
+    ∷ 0x50 ∷ 0x41 ∷ 0x43 ∷ 0x4B ∷ 0x45 ∷ 0x54
+    ∷ closed
+
+-- step number, command letter and whole packet in hex; the command is the packet's fourth byte
+unfoldable pub stepLine : ℕ → List ℕ → List ℕ
+stepLine n p = decimalOf n ++ (0x20 ∷ getD p 3 0 ∷ 0x20 ∷ (spelt p ++ closed))
+
+-- "TOTAL " and the number of packets
+unfoldable pub totalLine : ℕ → List ℕ
+totalLine n = field (0x54 ∷ 0x4F ∷ 0x54 ∷ 0x41 ∷ 0x4C ∷ 0x20 ∷ []) n ++ closed
+
+-- ---- the log
+
+-- VERSION, OUTCOME, ACKED, TOTAL and BYTES, each with its number
+unfoldable pub recordLine : Record → List ℕ
+recordLine x =
+    field (0x56 ∷ 0x45 ∷ 0x52 ∷ 0x53 ∷ 0x49 ∷ 0x4F ∷ 0x4E ∷ 0x20 ∷ []) (x .version)
+    ++ (field (0x20 ∷ 0x4F ∷ 0x55 ∷ 0x54 ∷ 0x43 ∷ 0x4F ∷ 0x4D ∷ 0x45 ∷ 0x20 ∷ []) (x .outcome)
+    ++ (field (0x20 ∷ 0x41 ∷ 0x43 ∷ 0x4B ∷ 0x45 ∷ 0x44 ∷ 0x20 ∷ []) (x .acknowledged)
+    ++ (field (0x20 ∷ 0x54 ∷ 0x4F ∷ 0x54 ∷ 0x41 ∷ 0x4C ∷ 0x20 ∷ []) (x .total)
+    ++ (field (0x20 ∷ 0x42 ∷ 0x59 ∷ 0x54 ∷ 0x45 ∷ 0x53 ∷ 0x20 ∷ []) (x .bytes)
+    ++ closed))))
+
+-- what a record says, or REFUSED and the number
+abbrev pub logLine : Answer Record → List ℕ
+logLine (refused k) = refusalLine k
+logLine (given x) = recordLine x

@@ -1,0 +1,18 @@
+-- Numbers in decimal.
+use Prim.Native.Nat.{ℕ, zero, suc, _+_, _/_, _%_}
+use mathlib.Core.List.{List, [], _∷_, _++_}
+use lib.Dec.{ltb}
+use Rattle.basis.specs.Choice.{pick}
+
+-- the character of a digit
+abbrev pub digit : ℕ → ℕ
+digit d = 0x30 + d
+
+-- the digits of n, where k more than the last one are enough
+unfoldable pub decimalIn : ℕ → ℕ → List ℕ
+decimalIn zero n = digit n ∷ []
+decimalIn (suc k) n = pick (ltb n 10) (digit n ∷ []) (decimalIn k (n / 10) ++ (digit (n % 10) ∷ []))
+
+-- n digits always are
+unfoldable pub decimalOf : ℕ → List ℕ
+decimalOf n = decimalIn n n

@@ -1,0 +1,90 @@
+-- A plan as text, and its listing page by page.
+use Prim.Native.Nat.{ℕ, zero, suc, _+_, _-_, _≤_, _<_}
+use mathlib.Core.List.{List, [], _∷_, _++_}
+use mathlib.Core.Path.{_≡_}
+use lib.Dec.{ltb}
+use lib.ListN.{length, drop}
+use Rattle.basis.specs.Board.{flashSize}
+use Rattle.basis.specs.Board.{mapSize as mapRoom}
+use Rattle.basis.specs.Choice.{pick}
+use Rattle.basis.specs.Refusals.{Answer, refused, given}
+use Rattle.runs.specs.Pieces.{namedCount}
+use Rattle.session.specs.Paper.{paperRefusal}
+use Rattle.session.specs.Phases.{packetOut, phaseAt}
+use Rattle.session.specs.Plan.{plan, total}
+use Rattle.session.specs.Session.{Sent}
+use Rattle.session.specs.declared.phase.Outcome.{Outcome}
+use Rattle.session.specs.declared.phase.Phase.{Phase}
+use Rattle.session.specs.declared.phase.RunKind.{RunKind}
+use Rattle.listing.specs.Lines.{headLine, stepLine, totalLine}
+use Rattle.listing.specs.declared.plan.Begun.{Begun}
+use Rattle.listing.specs.declared.plan.Listing.{Listing}
+
+-- the lines of packets, n listed before them
+unfoldable pub stepLines : ℕ → List (List ℕ) → List ℕ
+stepLines n [] = []
+stepLines n (p ∷ ps) = stepLine (n + 1) p ++ stepLines (n + 1) ps
+
+-- what the plan program prints of a file
+unfoldable pub planText : List ℕ → List ℕ → List ℕ
+planText image m = headLine ++ (stepLines 0 (plan image m RunKind.Reset) ++ totalLine (total m))
+
+-- ---- a listing
+
+-- the packet behind n listed ones
+abbrev pub packetAt : List ℕ → List ℕ → ℕ → List ℕ
+packetAt image m n = packetOut image m RunKind.Reset (phaseAt m n)
+
+-- its phase; behind the last packet the session ends
+abbrev pub phaseBehind : List ℕ → ℕ → Phase
+phaseBehind m n = pick (ltb n (total m)) (phaseAt m n) (Phase.Ended Outcome.Valid)
+
+abbrev pub listingAt : List ℕ → ℕ → Listing
+listingAt m n = record { phase = phaseBehind m n; listed = n; total = total m }
+
+-- a listing of this file
+pub record Listed (image m : List ℕ) (l : Listing) : Type 0 where
+  pub imageSize : length image ≡ flashSize
+  pub mapSize : length m ≡ mapRoom
+  pub some : 0 < namedCount m
+  pub stands : l ≡ listingAt m (l .listed)
+  pub within : l .listed ≤ total m
+
+abbrev pub paperBegun : Begun → Answer Listing
+paperBegun (Begun.Listing l) = given l
+paperBegun (Begun.Refused x) = refused (paperRefusal x)
+
+-- it begins where the session starts
+abbrev pub begunOf : List ℕ → Answer Sent → Answer Listing
+begunOf m (refused n) = refused n
+begunOf m (given x) = given (listingAt m 0)
+
+-- ---- a page
+
+-- 20 digits, a letter, 259 bytes, two spaces and 0A
+abbrev pub longestLine : ℕ
+longestLine = 542
+
+-- what is written, and how many packets are listed behind it
+pub record Page : Type 0 where
+  pub text : List ℕ
+  pub listed : ℕ
+
+abbrev pub page : List ℕ → ℕ → Page
+page s n = record { text = s; listed = n }
+
+abbrev pub behind : List ℕ → Page → Page
+behind s g = page (s ++ g .text) (g .listed)
+
+-- whole lines, as long as the longest one has room
+unfoldable pub pageOf : ℕ → ℕ → List (List ℕ) → Page
+pageOf room n [] = page [] n
+pageOf room n (p ∷ ps) =
+    pick (ltb room longestLine) (page [] n)
+    (behind (stepLine (n + 1) p) (pageOf (room - length (stepLine (n + 1) p)) (n + 1) ps))
+
+-- k pages one after another, each in a buffer of so many bytes
+unfoldable pub pagesOf : ℕ → ℕ → ℕ → List (List ℕ) → List ℕ
+pagesOf zero room n ps = []
+pagesOf (suc k) room n ps =
+    pageOf room n ps .text ++ pagesOf k room (pageOf room n ps .listed) (drop (pageOf room n ps .listed - n) ps)

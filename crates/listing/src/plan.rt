@@ -1,0 +1,182 @@
+// A plan's lines: what a load that ends with a reset sends, packet by packet.
+ghost use mathlib.Core.Path.{_≡_};
+ghost use Prim.Native.Nat.{_+_, _*_, _≤_, _<_};
+ghost use lib.ListN.{length, getD, drop};
+ghost use Rattle.basis.specs.Board.{mapSize};
+ghost use Rattle.basis.specs.Lists.{overlay};
+ghost use Rattle.image.specs.Flash.{copyOf};
+ghost use Rattle.runs.specs.Pieces.{namedCount};
+ghost use Rattle.session.specs.Plan.{plan, total};
+ghost use Rattle.session.specs.Session.{started};
+ghost use Rattle.session.specs.declared.phase.RunKind.{RunKind};
+ghost use Rattle.listing.specs.Lines.{headLine, stepLine, totalLine};
+ghost use Rattle.listing.specs.Plan.{Listed, listingAt, paperBegun, begunOf, packetAt, longestLine, pageOf};
+use crate::numbers::decimal;
+use crate::numbers::field;
+use basis::buffers::write;
+use image::writer::spell;
+use session::cursor::after;
+use session::phase::Phase;
+use session::phase::RunKind;
+use session::sending::send;
+use session::session::Refusal;
+use session::session::Session;
+use session::session::Stepped;
+
+// No step's line is longer: 20 digits, a letter, 259 bytes, two spaces and 0A.
+pub const LONGEST: usize = 542;
+
+// So many of the packets are listed; the next one is that of the phase.
+pub struct Listing {
+    pub phase: Phase,
+    pub listed: u32,
+    pub total: u32,
+}
+
+pub enum Begun {
+    Listing(Listing),
+    Refused(Refusal),
+}
+
+// The listing behind what was written, and how much that is.
+pub struct Page {
+    pub listing: Listing,
+    pub len: usize,
+}
+
+impl Listing {
+    // Refused as the session's start is.
+    pub fn start(image: &[u8], map: &[u8]) -> Begun
+        ensures { λ r. ⌜ paperBegun r ≡ begunOf (now (map .entry)) (started (now (image .entry)) (now (map .entry)) 259 RunKind.Reset) ⌝ }
+    {
+        let mut packet = [0u8; 259];
+        Listing::start_with(image, map, &mut packet)
+    }
+
+    fn start_with(image: &[u8], map: &[u8], packet: &mut [u8]) -> Begun
+        ensures { λ r. ⌜ paperBegun r ≡ begunOf (now (map .entry)) (started (now (image .entry)) (now (map .entry)) (length (now (packet .entry))) RunKind.Reset) ⌝ }
+    {
+        match Session::start(RunKind::Reset, image, map, packet) {
+            Stepped::Next(next) => Begun::Listing(Listing::first(map, next.session)),
+            Stepped::Refused(x) => Begun::Refused(x),
+        }
+    }
+
+    // Nothing is listed; the first packet is the one that follows the greeting.
+    fn first(map: &[u8], session: Session) -> Listing
+        requires { ⌜ (length (now map) ≡ mapSize) × (0 < namedCount (now map)) × (session .total ≡ total (now map)) ⌝ }
+        ensures { λ r. ⌜ r ≡ listingAt (now (map .entry)) 0 ⌝ }
+    {
+        Listing {
+            phase: after(map, Phase::Greeting),
+            listed: 0,
+            total: session.total,
+        }
+    }
+
+    // Whole lines of the packets that are left, as long as the longest one has room.
+    pub fn page(self, image: &[u8], map: &[u8], buffer: &mut [u8]) -> Page
+        requires { ⌜ Listed (now image) (now map) self ⌝ }
+        ensures { λ r. ⌜
+            (let g = pageOf (length (now (buffer .entry))) (self .listed) (drop (self .listed) (plan (now (image .entry)) (now (map .entry)) RunKind.Reset)) in
+            (r .listing ≡ listingAt (now (map .entry)) (g .listed)) × (r .len ≡ length (g .text)) × (now (buffer .exit) ≡ overlay (g .text) (now (buffer .entry))))
+            ⌝ }
+    {
+        let mut listing = self;
+        let mut at = 0;
+        while listing.listed < listing.total {
+            if buffer.len() - at < LONGEST {
+                return Page { listing, len: at };
+            }
+            let next = listing.line(image, map, buffer, at);
+            listing = next.listing;
+            at = next.len;
+        }
+        Page { listing, len: at }
+    }
+
+    // The next packet's line, from `at` on.
+    fn line(self, image: &[u8], map: &[u8], buffer: &mut [u8], at: usize) -> Page
+        requires { ⌜ Listed (now image) (now map) self × (self .listed < self .total) × (at + longestLine ≤ length (now buffer)) ⌝ }
+        ensures { λ r. ⌜
+            (let s = stepLine (self .listed + 1) (packetAt (now (image .entry)) (now (map .entry)) (self .listed)) in
+            (r .listing ≡ listingAt (now (map .entry)) (self .listed + 1)) × (r .len ≡ at + length s) × (now (buffer .exit) ≡ copyOf (now (buffer .entry)) at s) × (length s ≤ longestLine))
+            ⌝ }
+    {
+        let mut packet = [0u8; 259];
+        self.line_with(image, map, &mut packet, buffer, at)
+    }
+
+    fn line_with(
+        self,
+        image: &[u8],
+        map: &[u8],
+        packet: &mut [u8],
+        buffer: &mut [u8],
+        at: usize,
+    ) -> Page
+        requires { ⌜ Listed (now image) (now map) self × (self .listed < self .total) × (length (now packet) ≡ 259) × (at + longestLine ≤ length (now buffer)) ⌝ }
+        ensures { λ r. ⌜
+            (let s = stepLine (self .listed + 1) (packetAt (now (image .entry)) (now (map .entry)) (self .listed)) in
+            (r .listing ≡ listingAt (now (map .entry)) (self .listed + 1)) × (r .len ≡ at + length s) × (now (buffer .exit) ≡ copyOf (now (buffer .entry)) at s) × (length s ≤ longestLine))
+            ⌝ }
+    {
+        let phase = self.phase;
+        let listed = self.listed + 1;
+        let n = send(image, map, RunKind::Reset, phase, packet);
+        let len = step_line(buffer, at, listed as u64, &packet[..n]);
+        let listing = Listing {
+            phase: after(map, phase),
+            listed,
+            total: self.total,
+        };
+        Page { listing, len }
+    }
+}
+
+// The line above the steps.
+pub fn head_line(buffer: &mut [u8]) -> usize
+    requires { ⌜ 64 ≤ length (now buffer) ⌝ }
+    ensures { λ r. ⌜ (r ≡ length headLine) × (now (buffer .exit) ≡ overlay headLine (now (buffer .entry))) ⌝ }
+{
+    write(buffer, b"STEP KIND PACKET\n");
+    17
+}
+
+// The line below them.
+pub fn total_line(buffer: &mut [u8], total: u32) -> usize
+    requires { ⌜ 64 ≤ length (now buffer) ⌝ }
+    ensures { λ r. ⌜ (r ≡ length (totalLine total)) × (now (buffer .exit) ≡ overlay (totalLine total) (now (buffer .entry))) ⌝ }
+{
+    let end = field(buffer, 0, b"TOTAL ", total as u64);
+    buffer[end] = 0x0A;
+    end + 1
+}
+
+// Step number, command letter and whole packet, from `at` on; gives the place behind them.
+fn step_line(buffer: &mut [u8], at: usize, step: u64, packet: &[u8]) -> usize
+    requires { ⌜ at + 2 * length (now packet) + 24 ≤ length (now buffer) ⌝ }
+    ensures { λ r. ⌜
+        (let s = stepLine step (now (packet .entry)) in
+        (r ≡ at + length s) × (now (buffer .exit) ≡ copyOf (now (buffer .entry)) at s) × (length s ≤ 2 * length (now (packet .entry)) + 24))
+        ⌝ }
+{
+    let end = decimal(buffer, at, step);
+    buffer[end] = b' ';
+    buffer[end + 1] = letter(packet);
+    buffer[end + 2] = b' ';
+    spell(buffer, end + 3, packet);
+    let last = end + 3 + 2 * packet.len();
+    buffer[last] = 0x0A;
+    last + 1
+}
+
+// The command is the packet's fourth byte.
+fn letter(packet: &[u8]) -> u8
+    ensures { λ r. ⌜ r ≡ getD (now (packet .entry)) 3 0 ⌝ }
+{
+    if packet.len() <= 3 {
+        return 0;
+    }
+    packet[3]
+}

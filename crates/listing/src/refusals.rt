@@ -1,0 +1,56 @@
+// The line of a refusal.
+ghost use mathlib.Core.Path.{_≡_};
+ghost use Prim.Native.Nat.{_≤_};
+ghost use lib.ListN.{length};
+ghost use Rattle.basis.specs.Lists.{overlay};
+ghost use Rattle.image.specs.Record.{paperRefusal};
+ghost use Rattle.listing.specs.Lines.{refusalAt, refusalLine};
+use crate::numbers::field;
+use image::record::Refusal;
+
+// REFUSED, the line and the number.
+pub fn refusal_at(buffer: &mut [u8], line: u64, refusal: Refusal) -> usize
+    requires { ⌜ 64 ≤ length (now buffer) ⌝ }
+    ensures { λ r. ⌜
+        (let s = refusalAt line (paperRefusal refusal) in
+        (r ≡ length s) × (now (buffer .exit) ≡ overlay s (now (buffer .entry))))
+        ⌝ }
+{
+    let first = field(buffer, 0, b"REFUSED ", line);
+    let end = field(buffer, first, b" ", number(refusal));
+    buffer[end] = 0x0A;
+    end + 1
+}
+
+// REFUSED and the number.
+pub fn refusal_line(buffer: &mut [u8], number: u64) -> usize
+    requires { ⌜ 64 ≤ length (now buffer) ⌝ }
+    ensures { λ r. ⌜
+        (let s = refusalLine number in
+        (r ≡ length s) × (now (buffer .exit) ≡ overlay s (now (buffer .entry))))
+        ⌝ }
+{
+    let end = field(buffer, 0, b"REFUSED ", number);
+    buffer[end] = 0x0A;
+    end + 1
+}
+
+fn number(refusal: Refusal) -> u64
+    ensures { λ r. ⌜ r ≡ paperRefusal refusal ⌝ }
+{
+    match refusal {
+        Refusal::Size => 20,
+        Refusal::Ended => 21,
+        Refusal::Colon => 22,
+        Refusal::Length => 23,
+        Refusal::Digit => 24,
+        Refusal::Count => 25,
+        Refusal::Sum => 26,
+        Refusal::Kind => 27,
+        Refusal::Shape => 28,
+        Refusal::Place => 29,
+        Refusal::Twice => 30,
+        Refusal::NoEnd => 31,
+        Refusal::NoData => 32,
+    }
+}

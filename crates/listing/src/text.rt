@@ -1,0 +1,200 @@
+// Hex text, byte by byte: each line is a record, and how the text is cut into reads does not matter.
+ghost use mathlib.Core.Path.{_≡_};
+ghost use Prim.Native.Nat.{_≤_};
+ghost use lib.ListN.{length, take};
+ghost use Rattle.basis.specs.Board.{flashSize};
+ghost use Rattle.image.specs.Hex.{settled, startIn, recordIn};
+ghost use Rattle.listing.specs.Text.{result, trimmedOf, readIn};
+ghost use Rattle.listing.specs.Feed.{paperReading, paperEnded, verdictOf, fed, begunBy, tookBy, textByte, byteOf, feedOf, lastOf, shutOf, closeOf};
+use image::hex::Hex;
+use image::hex::Read;
+use image::record::Refusal;
+
+// How much of a line is kept: a record of 521 characters, its 0D, and one more to tell a longer line.
+pub const LINE: usize = 523;
+
+// The reader, the lines that it has taken, and how many bytes of the open line are kept.
+pub struct Text {
+    pub hex: Hex,
+    pub lines: u64,
+    pub len: usize,
+}
+
+pub enum Reading {
+    Open(Text),
+    // The line is counted from 1; 0 where none is to blame.
+    Refused { at: u64, refusal: Refusal },
+}
+
+// What a whole text came to.
+pub enum Ended {
+    File,
+    Refused { at: u64, refusal: Refusal },
+}
+
+impl Reading {
+    // A text at its start, with image and map as the hex reader starts them.
+    pub fn start(image: &mut [u8], map: &mut [u8]) -> Reading
+        ensures { λ r. ⌜
+            (let o = settled (startIn flashSize (now (image .entry)) (now (map .entry))) (now (image .entry)) (now (map .entry)) in
+            (paperReading r ≡ begunBy (o .answer)) × (now (image .exit) ≡ o .image) × (now (map .exit) ≡ o .map))
+            ⌝ }
+    {
+        match Hex::start(image, map) {
+            Read::Taken(hex) => Reading::Open(Text {
+                hex,
+                lines: 0,
+                len: 0,
+            }),
+            Read::Refused(refusal) => Reading::Refused { at: 0, refusal },
+        }
+    }
+
+    // The next bytes of the text, as many as came. After a refusal they count for nothing.
+    pub fn feed(self, bytes: &[u8], line: &mut [u8], image: &mut [u8], map: &mut [u8]) -> Reading
+        ensures { λ r. ⌜ fed (paperReading r) (now (line .exit)) (now (image .exit)) (now (map .exit)) ≡ feedOf flashSize (fed (paperReading self) (now (line .entry)) (now (image .entry)) (now (map .entry))) (now (bytes .entry)) ⌝ }
+    {
+        let mut reading = self;
+        let mut i = 0;
+        while i < bytes.len() {
+            reading = reading.byte(bytes[i], line, image, map);
+            i += 1;
+        }
+        reading
+    }
+
+    fn byte(self, b: u8, line: &mut [u8], image: &mut [u8], map: &mut [u8]) -> Reading
+        ensures { λ r. ⌜ fed (paperReading r) (now (line .exit)) (now (image .exit)) (now (map .exit)) ≡ byteOf flashSize (fed (paperReading self) (now (line .entry)) (now (image .entry)) (now (map .entry))) b ⌝ }
+    {
+        match self {
+            Reading::Open(text) => text.byte(b, line, image, map),
+            Reading::Refused { at, refusal } => Reading::Refused { at, refusal },
+        }
+    }
+
+    // The text has ended: what stands behind the last 0A is a line as it stands, and the reader is closed.
+    pub fn close(self, line: &[u8], image: &mut [u8], map: &mut [u8]) -> Reading
+        ensures { λ r. ⌜ fed (paperReading r) (now (line .entry)) (now (image .exit)) (now (map .exit)) ≡ closeOf flashSize (fed (paperReading self) (now (line .entry)) (now (image .entry)) (now (map .entry))) ⌝ }
+    {
+        match self {
+            Reading::Open(text) => text.last(line, image, map).shut(),
+            Reading::Refused { at, refusal } => Reading::Refused { at, refusal },
+        }
+    }
+
+    // What a text that is closed came to.
+    fn ended(self) -> Ended
+        ensures { λ r. ⌜ paperEnded r ≡ verdictOf (paperReading self) ⌝ }
+    {
+        match self {
+            Reading::Open(_) => Ended::File,
+            Reading::Refused { at, refusal } => Ended::Refused { at, refusal },
+        }
+    }
+
+    // 31 and 32, which no line is to blame for.
+    fn shut(self) -> Reading
+        ensures { λ r. ⌜ paperReading r ≡ shutOf (paperReading self) ⌝ }
+    {
+        match self {
+            Reading::Open(text) => text.shut(),
+            Reading::Refused { at, refusal } => Reading::Refused { at, refusal },
+        }
+    }
+}
+
+impl Text {
+    fn byte(self, b: u8, line: &mut [u8], image: &mut [u8], map: &mut [u8]) -> Reading
+        ensures { λ r. ⌜ fed (paperReading r) (now (line .exit)) (now (image .exit)) (now (map .exit)) ≡ textByte flashSize self b (now (line .entry)) (now (image .entry)) (now (map .entry)) ⌝ }
+    {
+        let n = self.len;
+        if b == 0x0A {
+            return self.take(trimmed(kept(line, n)), image, map);
+        }
+        if n < line.len() {
+            line[n] = b;
+            let hex = self.hex;
+            return Reading::Open(Text {
+                hex,
+                lines: self.lines,
+                len: n + 1,
+            });
+        }
+        Reading::Open(self)
+    }
+
+    // What stands behind the last 0A; nothing is no line.
+    fn last(self, line: &[u8], image: &mut [u8], map: &mut [u8]) -> Reading
+        ensures { λ r. ⌜ fed (paperReading r) (now (line .entry)) (now (image .exit)) (now (map .exit)) ≡ lastOf flashSize self (now (line .entry)) (now (image .entry)) (now (map .entry)) ⌝ }
+    {
+        let n = self.len;
+        if n == 0 {
+            return Reading::Open(self);
+        }
+        self.take(kept(line, n), image, map)
+    }
+
+    // One line: the next record.
+    fn take(self, line: &[u8], image: &mut [u8], map: &mut [u8]) -> Reading
+        ensures { λ r. ⌜
+            (let o = settled (recordIn flashSize (self .hex) (now (line .entry)) (now (image .entry)) (now (map .entry))) (now (image .entry)) (now (map .entry)) in
+            (paperReading r ≡ tookBy self (o .answer)) × (now (image .exit) ≡ o .image) × (now (map .exit) ≡ o .map))
+            ⌝ }
+    {
+        let hex = self.hex;
+        let at = std::num::wrapping_add_u64(self.lines, 1);
+        match hex.record(line, image, map) {
+            Read::Taken(next) => Reading::Open(Text {
+                hex: next,
+                lines: at,
+                len: 0,
+            }),
+            Read::Refused(refusal) => Reading::Refused { at, refusal },
+        }
+    }
+
+    fn shut(self) -> Reading
+        ensures { λ r. ⌜ paperReading r ≡ shutOf (paperReading (Reading.Open self)) ⌝ }
+    {
+        let hex = self.hex;
+        match hex.close() {
+            Read::Taken(_) => Reading::Open(self),
+            Read::Refused(refusal) => Reading::Refused { at: 0, refusal },
+        }
+    }
+}
+
+// A whole text at once.
+pub fn read(text: &[u8], image: &mut [u8], map: &mut [u8]) -> Ended
+    ensures { λ r. ⌜ result (paperEnded r) (now (image .exit)) (now (map .exit)) ≡ readIn flashSize (now (text .entry)) (now (image .entry)) (now (map .entry)) ⌝ }
+{
+    let mut line = [0u8; LINE];
+    let started = Reading::start(image, map);
+    let reading = started.feed(text, &mut line, image, map);
+    reading.close(&line, image, map).ended()
+}
+
+// The first `n` bytes, or all where there are fewer.
+fn kept(line: &[u8], n: usize) -> &[u8]
+    ensures { λ r. ⌜ now r ≡ take n (now (line .entry)) ⌝ }
+{
+    if line.len() <= n {
+        return line;
+    }
+    &line[..n]
+}
+
+// A line without the one 0D that may stand at its end.
+fn trimmed(line: &[u8]) -> &[u8]
+    ensures { λ r. ⌜ now r ≡ trimmedOf (now (line .entry)) ⌝ }
+{
+    let n = line.len();
+    if n == 0 {
+        return line;
+    }
+    let end = n - 1;
+    if line[end] != 0x0D {
+        return line;
+    }
+    &line[..end]
+}

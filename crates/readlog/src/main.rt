@@ -1,0 +1,58 @@
+// Reads one log record on standard input and prints what it says, or why it is none.
+ghost use Prim.Native.Nat.{_≤_};
+ghost use lib.ListN.{length};
+use libc::STDERR_FILENO;
+use libc::STDIN_FILENO;
+use libc::STDOUT_FILENO;
+use listing::log::log_line;
+
+enum Input {
+    Bytes(usize),
+    Failed,
+}
+
+fn main() {
+    // one byte more than a record has, to tell a longer input
+    let mut input = [0u8; 11];
+    let mut line = [0u8; 160];
+    run(&mut input, &mut line);
+}
+
+fn run(input: &mut [u8], line: &mut [u8])
+    requires { ⌜ 160 ≤ length (now line) ⌝ }
+{
+    let Input::Bytes(n) = fill(input) else {
+        io::write_all(STDERR_FILENO, b"readlog: standard input cannot be read\n");
+        return;
+    };
+    if input.len() < n {
+        return;
+    }
+    let len = log_line(&input[..n], line);
+    if line.len() < len {
+        return;
+    }
+    if !io::write_all(STDOUT_FILENO, &line[..len]) {
+        io::write_all(
+            STDERR_FILENO,
+            b"readlog: standard output cannot be written\n",
+        );
+    }
+}
+
+// Reads until the buffer is full or the input ends.
+fn fill(input: &mut [u8]) -> Input {
+    let mut at = 0;
+    while at < input.len() {
+        let got = libc::read(STDIN_FILENO, &mut input[at..]);
+        if got < 0 {
+            return Input::Failed;
+        }
+        let n = io::count(got, &input[at..]);
+        if n == 0 {
+            return Input::Bytes(at);
+        }
+        at += n;
+    }
+    Input::Bytes(at)
+}
