@@ -1,5 +1,5 @@
-//! A serial loader, its files and its host, written from the paper alone,
-//! to be compared with the product.
+//! A serial loader, its files and its host, in the paper's order. The product
+//! is compared with it, so nothing is shared with the product.
 
 pub mod refusal;
 pub mod units;
