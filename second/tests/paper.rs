@@ -421,6 +421,19 @@ fn greeted(reading: &Reading, run: Run) -> Session {
 }
 
 #[test]
+fn full_file_is_one_erase_and_254_pieces() {
+    let reading = Reading {
+        image: vec![0x00; FLASH_BYTES],
+        map: vec![0xFF; MAP_BYTES],
+        ..Reading::new()
+    };
+    let session = reading.session(Run::Reset);
+    assert_eq!((session.total, session.named), (1 + 2 * 254 + 1, 63_488));
+    let (_, erase) = reading.step(session, Event::Answer(GREETING)).unwrap();
+    assert_eq!(erase, built(Command::Erase, 0, &[124]));
+}
+
+#[test]
 fn start_refusals() {
     let reading = Reading::new();
     let start = |image: &[u8], map: &[u8], length: usize| {
