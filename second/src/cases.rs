@@ -12,7 +12,7 @@ use crate::refusal::Refusal;
 use crate::session::{Event, Phase, Run, Session};
 use crate::units::{FLASH_BYTES, MAP_BYTES};
 
-/// What a built packet must not leave standing in its place.
+/// What fills the packet buffer before a packet is built.
 const BEFOREHAND: u8 = 0xAA;
 
 /// The values a line brings out, or its refusal with any answer.
@@ -331,7 +331,7 @@ fn lone<'a>(words: &[&'a str]) -> Option<&'a str> {
 
 fn bytes(word: &str) -> Option<Vec<u8>> {
     let digits = word.as_bytes();
-    if digits.len() % 2 != 0 {
+    if !digits.len().is_multiple_of(2) {
         return None;
     }
     digits
