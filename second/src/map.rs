@@ -2,7 +2,7 @@
 
 use crate::packet::PIECE;
 use crate::refusal::Refusal;
-use crate::units::{Page, FLASH_END, MAP_BYTES, PAGE_BYTES};
+use crate::units::{ByteAddress, Page, FLASH_END, MAP_BYTES, PAGE_BYTES};
 
 const WORD_BITS: u32 = u64::BITS;
 const PIECE_BITS: u32 = PIECE as u32;
@@ -15,28 +15,89 @@ pub struct Map<'a>(&'a [u8]);
 #[derive(Clone, Copy, Debug, PartialEq, Eq)]
 pub struct Survey {
     pub named: u32,
-    pub erases: u32,
     pub pieces: u32,
+    pub pages: Pages,
+    /// The lowest named address, the end of flash where there is none.
+    pub first: u32,
+    pub sought: Sought,
 }
 
 impl Survey {
-    pub fn total(self) -> u32 {
-        self.erases + 2 * self.pieces + 1
+    pub fn erases(&self) -> u32 {
+        self.pages.runs()
+    }
+
+    pub fn total(&self) -> u32 {
+        self.erases() + 2 * self.pieces + 1
     }
 }
 
-/// A maximal run of pages that hold a named byte.
-#[derive(Clone, Copy, Debug, PartialEq, Eq)]
-pub struct PageRun {
-    pub first: Page,
-    pub count: u8,
+/// What a survey found of the piece that it was sent to look for.
+#[derive(Clone, Copy, Debug, Default, PartialEq, Eq)]
+pub struct Sought {
+    /// Its index, counted from 0, if a piece starts there.
+    pub index: Option<u32>,
+    /// The start of the next piece above.
+    pub next: Option<u32>,
 }
 
-/// Named bytes sent in one packet.
-#[derive(Clone, Copy, Debug, PartialEq, Eq)]
-pub struct Piece {
-    pub start: u32,
-    pub length: u32,
+impl Sought {
+    /// Looks at the piece starts of one word, of which so many went before.
+    fn look(&mut self, address: u32, base: u32, starts: u64, before: u32) {
+        let mut above = starts;
+        if address >= base {
+            let Some(bit) = bit_in_word(address, base) else {
+                return;
+            };
+            let below = bit - 1;
+            if starts & bit != 0 {
+                self.index = Some(before + (starts & below).count_ones());
+            }
+            above = starts & !(below | bit);
+        }
+        if above != 0 {
+            self.next = Some(base + above.trailing_zeros());
+        }
+    }
+}
+
+fn bit_in_word(address: u32, base: u32) -> Option<u64> {
+    (address - base < WORD_BITS).then(|| 1 << (address - base))
+}
+
+/// One bit for each page that holds a named byte.
+#[derive(Clone, Copy, Debug, Default, PartialEq, Eq)]
+pub struct Pages(u128);
+
+impl Pages {
+    fn runs(self) -> u32 {
+        self.starts().count_ones()
+    }
+
+    /// The first page of the lowest run.
+    pub fn first(self) -> Page {
+        Page(self.0.trailing_zeros())
+    }
+
+    /// The index, counted from 0, of the maximal run that starts here.
+    pub fn run_index(self, first: Page) -> Option<u32> {
+        let bit = 1u128.checked_shl(first.0)?;
+        (self.starts() & bit != 0).then(|| (self.starts() & (bit - 1)).count_ones())
+    }
+
+    /// The first page of the next run above.
+    pub fn run_after(self, first: Page) -> Option<Page> {
+        let above = self.starts() & (u128::MAX << first.0 << 1);
+        (above != 0).then(|| Page(above.trailing_zeros()))
+    }
+
+    pub fn run_length(self, first: Page) -> u8 {
+        (self.0 >> first.0).trailing_ones() as u8
+    }
+
+    fn starts(self) -> u128 {
+        self.0 & !(self.0 << 1)
+    }
 }
 
 impl<'a> Map<'a> {
@@ -67,52 +128,33 @@ impl<'a> Map<'a> {
         (end - start).min(limit)
     }
 
-    pub fn survey(self) -> Survey {
-        let mut named = 0;
-        let mut pieces = 0;
-        let mut sweep = Sweep::default();
-        for word in self.words() {
-            named += word.count_ones();
-            pieces += sweep.piece_starts(word).count_ones();
-        }
-        Survey {
-            named,
-            erases: run_starts(self.pages()).count_ones(),
-            pieces,
-        }
-    }
-
-    /// The page run of this index, counted from 0.
-    pub fn page_run(self, index: u32) -> Option<PageRun> {
-        let pages = self.pages();
-        let mut starts = run_starts(pages);
-        for _ in 0..index {
-            starts &= starts.wrapping_sub(1);
-        }
-        (starts != 0).then(|| {
-            let first = starts.trailing_zeros();
-            PageRun {
-                first: Page(first),
-                count: (pages >> first).trailing_ones() as u8,
-            }
-        })
-    }
-
-    /// The piece of this index, counted from 0.
-    pub fn piece(self, index: u32) -> Option<Piece> {
-        let mut left = index;
+    /// One pass over the map; it looks for the piece at an address on its way.
+    pub fn survey(self, sought: Option<ByteAddress>) -> Survey {
+        let mut survey = Survey {
+            named: 0,
+            pieces: 0,
+            pages: Pages::default(),
+            first: FLASH_END,
+            sought: Sought::default(),
+        };
         let mut sweep = Sweep::default();
         for word in self.words() {
             let base = sweep.base;
             let starts = sweep.piece_starts(word);
-            if left < starts.count_ones() {
-                let start = base + nth_bit(starts, left);
-                let length = self.run_length(start, PIECE_BITS);
-                return Some(Piece { start, length });
+            if word == 0 {
+                continue;
             }
-            left -= starts.count_ones();
+            if survey.named == 0 {
+                survey.first = base + word.trailing_zeros();
+            }
+            if let (Some(address), None) = (sought, survey.sought.next) {
+                survey.sought.look(address.0, base, starts, survey.pieces);
+            }
+            survey.named += word.count_ones();
+            survey.pieces += starts.count_ones();
+            survey.pages.0 |= 1 << (base / PAGE_BYTES);
         }
-        None
+        survey
     }
 
     /// The index of the piece that holds a named byte.
@@ -140,15 +182,6 @@ impl<'a> Map<'a> {
     fn word(self, index: u32) -> u64 {
         let at = index as usize * 8;
         u64::from_le_bytes(self.0[at..at + 8].try_into().expect("eight bytes"))
-    }
-
-    /// One bit for each page that holds a named byte.
-    fn pages(self) -> u128 {
-        self.0
-            .chunks_exact(PAGE_BYTES as usize / 8)
-            .enumerate()
-            .filter(|(_, page)| page.iter().any(|byte| *byte != 0))
-            .fold(0, |pages, (page, _)| pages | 1 << page)
     }
 
     /// The lowest address from here on whose bit is set in the word as seen.
@@ -218,21 +251,14 @@ impl Sweep {
     }
 }
 
-fn run_starts(pages: u128) -> u128 {
-    pages & !(pages << 1)
-}
-
-/// The place of the set bit of this index, counted from 0 at the lowest.
-fn nth_bit(mut bits: u64, index: u32) -> u32 {
-    for _ in 0..index {
-        bits &= bits - 1;
-    }
-    bits.trailing_zeros()
-}
-
 #[cfg(test)]
 mod tests {
     use super::*;
+
+    struct Piece {
+        start: u32,
+        length: u32,
+    }
 
     /// Runs of named bytes found one address at a time.
     fn pieces_one_by_one(map: Map) -> Vec<Piece> {
@@ -259,18 +285,26 @@ mod tests {
     fn check_each(bytes: &[u8], stride: usize) {
         let map = Map::new(bytes).unwrap();
         let expected = pieces_one_by_one(map);
-        let survey = map.survey();
+        let survey = map.survey(None);
         assert_eq!(survey.pieces as usize, expected.len());
         let named: u32 = expected.iter().map(|piece| piece.length).sum();
         assert_eq!(survey.named, named);
+        let first = expected.first().map_or(FLASH_END, |piece| piece.start);
+        assert_eq!(survey.first, first);
         for (index, piece) in expected.iter().enumerate().step_by(stride) {
-            assert_eq!(map.piece(index as u32), Some(*piece));
-            let last = piece.start + piece.length - 1;
-            assert_eq!(map.piece_of(piece.start), Some(index as u32));
-            assert_eq!(map.piece_of(last), Some(index as u32));
+            let (start, last) = (piece.start, piece.start + piece.length - 1);
+            let sought = |address| map.survey(Some(ByteAddress(address))).sought;
+            let next = expected.get(index + 1).map(|piece| piece.start);
+            let index = Some(index as u32);
+            assert_eq!(sought(start), Sought { index, next });
+            if start < last {
+                assert_eq!(sought(last), Sought { index: None, next });
+            }
+            assert_eq!(map.run_length(start, PIECE_BITS), piece.length);
+            assert_eq!(map.piece_of(start), index);
+            assert_eq!(map.piece_of(last), index);
         }
-        assert_eq!(map.piece(survey.pieces), None);
-        assert_eq!(map.page_run(survey.erases), None);
+        assert_eq!(map.survey(Some(ByteAddress(u32::MAX))).sought.index, None);
         assert_eq!(map.is_empty(), expected.is_empty());
     }
 
@@ -319,16 +353,17 @@ mod tests {
     #[test]
     fn page_runs_are_maximal() {
         let bytes = map_of_runs(&[(0, 1), (512, 1), (0x7FF, 2), (0xF600, 1)]);
-        let map = Map::new(&bytes).unwrap();
-        let run = |first, count| {
-            Some(PageRun {
-                first: Page(first),
-                count,
-            })
-        };
-        assert_eq!(map.page_run(0), run(0, 2));
-        assert_eq!(map.page_run(1), run(3, 2));
-        assert_eq!(map.page_run(2), run(123, 1));
-        assert_eq!(map.survey().erases, 3);
+        let pages = Map::new(&bytes).unwrap().survey(None).pages;
+        assert_eq!(pages.runs(), 3);
+        assert_eq!(pages.first(), Page(0));
+        let runs = [(0, 2, Some(3)), (3, 2, Some(123)), (123, 1, None)];
+        for (index, (first, length, next)) in (0..).zip(runs) {
+            assert_eq!(pages.run_index(Page(first)), Some(index));
+            assert_eq!(pages.run_length(Page(first)), length);
+            assert_eq!(pages.run_after(Page(first)), next.map(Page));
+        }
+        for page in [1, 2, 4, 122, 124, 127, 128, u32::MAX] {
+            assert_eq!(pages.run_index(Page(page)), None);
+        }
     }
 }

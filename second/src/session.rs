@@ -5,6 +5,7 @@ use crate::loader::{ACK, BACKSPACE, BEL, GREETING};
 use crate::map::{Map, Survey};
 use crate::packet::{self, Command};
 use crate::refusal::Refusal;
+use crate::units::{ByteAddress, Page};
 
 /// The greeting's first bytes, which must be exact; so must its last two.
 const GREETING_FIXED: usize = 15;
@@ -47,13 +48,25 @@ pub enum Event<'a> {
     Silence,
 }
 
+/// What a session waits for, and the place of the packet it sent.
 #[derive(Clone, Copy, Debug, PartialEq, Eq)]
 pub enum Phase {
-    /// The greeting is awaited.
     Greeting,
-    /// The answer to the packet after those acknowledged is awaited.
-    Packets,
+    Erase(Page),
+    Write(ByteAddress),
+    Verify(ByteAddress),
+    Run,
     Ended(Outcome),
+}
+
+impl Phase {
+    /// The address whose piece a survey looks for.
+    fn piece(self) -> Option<ByteAddress> {
+        match self {
+            Phase::Write(start) | Phase::Verify(start) => Some(start),
+            _ => None,
+        }
+    }
 }
 
 /// A value the caller keeps; it is checked against the file at every step.
@@ -72,7 +85,7 @@ enum Heard {
     Ending(Outcome),
 }
 
-/// The file a session is checked against, with the packets it asks for.
+/// The file a session is checked against, looked over for its phase.
 struct File<'a> {
     image: &'a [u8],
     map: Map<'a>,
@@ -88,8 +101,8 @@ impl Session {
         buffer: &mut [u8],
     ) -> Result<(Session, usize), Refusal> {
         check_lent(image, map, buffer)?;
-        let file = File::new(image, map)?;
-        if file.survey.named == 0 {
+        let survey = Map::new(map)?.survey(None);
+        if survey.named == 0 {
             return Err(Refusal::NoData);
         }
         buffer[0] = BACKSPACE;
@@ -97,8 +110,8 @@ impl Session {
             run,
             phase: Phase::Greeting,
             acknowledged: 0,
-            total: file.survey.total(),
-            named: file.survey.named,
+            total: survey.total(),
+            named: survey.named,
         };
         Ok((session, 1))
     }
@@ -116,7 +129,7 @@ impl Session {
         if let Phase::Ended(_) = self.phase {
             return Err(Refusal::SessionEnded);
         }
-        let file = File::new(image, map)?;
+        let file = File::new(image, map, self.phase)?;
         if !self.belongs_to(&file.survey) {
             return Err(Refusal::OtherFile);
         }
@@ -130,12 +143,12 @@ impl Session {
     /// session's has no such byte.
     pub fn proved(&self, map: &[u8], address: u32) -> Result<bool, Refusal> {
         let map = Map::new(map)?;
-        let survey = map.survey();
+        let survey = map.survey(None);
         if !self.counts_match(&survey) {
             return Ok(false);
         }
-        let sent_before = survey.erases + survey.pieces;
-        let verified = self.acknowledged.saturating_sub(sent_before);
+        let written = survey.erases() + survey.pieces;
+        let verified = self.acknowledged.saturating_sub(written);
         Ok(map.piece_of(address).is_some_and(|piece| piece < verified))
     }
 
@@ -145,12 +158,9 @@ impl Session {
 
     /// Whether a start over such a file and acknowledgements lead here.
     fn belongs_to(&self, survey: &Survey) -> bool {
-        let reached = match self.phase {
-            Phase::Greeting => self.acknowledged == 0,
-            Phase::Packets => self.acknowledged < self.total,
-            Phase::Ended(_) => false,
-        };
-        self.counts_match(survey) && survey.named > 0 && reached
+        self.counts_match(survey)
+            && survey.named > 0
+            && survey.sent_before(self.phase) == Some(self.acknowledged)
     }
 
     fn hear(&self, event: Event) -> Heard {
@@ -167,20 +177,14 @@ impl Session {
     }
 
     fn go_on(self, file: &File, buffer: &mut [u8]) -> Result<(Session, usize), Refusal> {
-        let acknowledged = match self.phase {
-            Phase::Greeting => 0,
-            _ => self.acknowledged + 1,
-        };
+        let phase = file.survey.after(self.phase);
+        let greeted = self.phase == Phase::Greeting;
         let next = Session {
-            phase: Phase::Packets,
-            acknowledged,
+            phase,
+            acknowledged: self.acknowledged + u32::from(!greeted),
             ..self
         };
-        if acknowledged == self.total {
-            return Ok((next.ended(Outcome::Valid), 0));
-        }
-        let length = file.packet(acknowledged, self.run, buffer)?;
-        Ok((next, length))
+        Ok((next, file.packet(phase, self.run, buffer)?))
     }
 
     fn ended(self, outcome: Outcome) -> Session {
@@ -191,41 +195,68 @@ impl Session {
     }
 }
 
-impl<'a> File<'a> {
-    fn new(image: &'a [u8], map: &'a [u8]) -> Result<File<'a>, Refusal> {
-        let map = Map::new(map)?;
-        Ok(File {
-            image,
-            map,
-            survey: map.survey(),
-        })
-    }
-
-    /// Builds the packet of this index, counted from 0.
-    fn packet(&self, index: u32, run: Run, buffer: &mut [u8]) -> Result<usize, Refusal> {
-        let Survey { erases, pieces, .. } = self.survey;
-        if index < erases {
-            self.erase(index, buffer)
-        } else if index < erases + pieces {
-            self.piece(Command::Write, index - erases, buffer)
-        } else if index < erases + 2 * pieces {
-            self.piece(Command::Verify, index - erases - pieces, buffer)
-        } else {
-            packet::build(buffer, Command::Run.byte(), run.address(), &[])
+impl Survey {
+    /// How many packets go before the one a phase waits on, if it is one of
+    /// the file's.
+    fn sent_before(&self, phase: Phase) -> Option<u32> {
+        let piece = self.sought.index;
+        match phase {
+            Phase::Greeting => Some(0),
+            Phase::Erase(first) => self.pages.run_index(first),
+            Phase::Write(_) => piece.map(|index| self.erases() + index),
+            Phase::Verify(_) => piece.map(|index| self.erases() + self.pieces + index),
+            Phase::Run => Some(self.total() - 1),
+            Phase::Ended(_) => None,
         }
     }
 
-    fn erase(&self, index: u32, buffer: &mut [u8]) -> Result<usize, Refusal> {
-        let run = self.map.page_run(index).ok_or(Refusal::OtherFile)?;
-        let address = run.first.start().0;
-        packet::build(buffer, Command::Erase.byte(), address, &[run.count])
+    /// The phase that an expected answer leads to.
+    fn after(&self, phase: Phase) -> Phase {
+        let (first, next) = (ByteAddress(self.first), self.sought.next.map(ByteAddress));
+        match phase {
+            Phase::Greeting => Phase::Erase(self.pages.first()),
+            Phase::Erase(page) => match self.pages.run_after(page) {
+                Some(next) => Phase::Erase(next),
+                None => Phase::Write(first),
+            },
+            Phase::Write(_) => next.map_or(Phase::Verify(first), Phase::Write),
+            Phase::Verify(_) => next.map_or(Phase::Run, Phase::Verify),
+            Phase::Run => Phase::Ended(Outcome::Valid),
+            Phase::Ended(outcome) => Phase::Ended(outcome),
+        }
+    }
+}
+
+impl<'a> File<'a> {
+    fn new(image: &'a [u8], map: &'a [u8], phase: Phase) -> Result<File<'a>, Refusal> {
+        let map = Map::new(map)?;
+        let survey = map.survey(phase.piece());
+        Ok(File { image, map, survey })
     }
 
-    fn piece(&self, command: Command, index: u32, buffer: &mut [u8]) -> Result<usize, Refusal> {
-        let piece = self.map.piece(index).ok_or(Refusal::OtherFile)?;
-        let start = piece.start as usize;
-        let data = &self.image[start..start + piece.length as usize];
-        packet::build(buffer, command.byte(), piece.start, data)
+    /// Builds the packet that a phase waits on; none for an ending.
+    fn packet(&self, phase: Phase, run: Run, buffer: &mut [u8]) -> Result<usize, Refusal> {
+        match phase {
+            Phase::Erase(first) => {
+                let count = self.survey.pages.run_length(first);
+                packet::build(buffer, Command::Erase.byte(), first.start().0, &[count])
+            }
+            Phase::Write(start) => self.piece(Command::Write, start, buffer),
+            Phase::Verify(start) => self.piece(Command::Verify, start, buffer),
+            Phase::Run => packet::build(buffer, Command::Run.byte(), run.address(), &[]),
+            Phase::Greeting | Phase::Ended(_) => Ok(0),
+        }
+    }
+
+    fn piece(
+        &self,
+        command: Command,
+        start: ByteAddress,
+        buffer: &mut [u8],
+    ) -> Result<usize, Refusal> {
+        let length = self.map.run_length(start.0, packet::PIECE as u32);
+        let data = &self.image[start.0 as usize..(start.0 + length) as usize];
+        packet::build(buffer, command.byte(), start.0, data)
     }
 }
 

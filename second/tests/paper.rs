@@ -7,7 +7,7 @@ use second::loader::{Condition, Loader, Protection, GREETING, NO_KEY};
 use second::log;
 use second::packet::{self, Command};
 use second::session::{Event, Outcome, Phase, Run, Session};
-use second::units::{FLASH_BYTES, MAP_BYTES};
+use second::units::{ByteAddress, Page, FLASH_BYTES, MAP_BYTES};
 use second::Refusal;
 
 fn built(command: Command, address: u32, data: &[u8]) -> Vec<u8> {
@@ -458,7 +458,7 @@ fn greeting_is_exact_where_the_paper_says() {
         let (next, _) = reading.step(session, Event::Answer(&greeting)).unwrap();
         let free = (15..22).contains(&place);
         let expected = match free {
-            true => Phase::Packets,
+            true => Phase::Erase(Page(1)),
             false => Phase::Ended(Outcome::WrongGreeting),
         };
         assert_eq!(next.phase, expected);
@@ -523,7 +523,24 @@ fn step_refusals() {
     assert_eq!(made_up(|s| s.named = 3), Err(46));
     assert_eq!(made_up(|s| s.acknowledged = 4), Err(46));
     assert_eq!(made_up(|s| s.acknowledged = u32::MAX), Err(46));
-    assert_eq!(made_up(|s| s.acknowledged = 3), Ok(()));
+    assert_eq!(made_up(|s| s.acknowledged = 1), Err(46));
+    assert_eq!(made_up(|s| s.phase = Phase::Erase(Page(0))), Err(46));
+    assert_eq!(made_up(|s| s.phase = Phase::Erase(Page(u32::MAX))), Err(46));
+    let at = |phase: fn(ByteAddress) -> Phase, start, acknowledged| {
+        let session = Session {
+            phase: phase(ByteAddress(start)),
+            acknowledged,
+            ..session
+        };
+        reading.step(session, ack).map(|_| ())
+    };
+    assert_eq!(at(Phase::Write, 0x200, 1), Ok(()));
+    assert_eq!(at(Phase::Write, 0x200, 2), Err(46));
+    assert_eq!(at(Phase::Write, 0x201, 1), Err(46));
+    assert_eq!(at(Phase::Verify, 0x200, 2), Ok(()));
+    assert_eq!(at(Phase::Verify, 0x200, 1), Err(46));
+    assert_eq!(at(|_| Phase::Run, 0, 3), Ok(()));
+    assert_eq!(at(|_| Phase::Run, 0, 2), Err(46));
     let wrong_greeting = |s: &mut Session| (s.phase, s.acknowledged) = (Phase::Greeting, 1);
     assert_eq!(made_up(wrong_greeting), Err(46));
     let empty = Session {
@@ -542,7 +559,7 @@ fn verdict_comes_within_the_packets_and_one_event() {
     assert_eq!(session.total, 2 + 2 * 3 + 1);
     assert_eq!(session.named, 256);
     let mut events = 1;
-    while session.phase == Phase::Packets {
+    while !matches!(session.phase, Phase::Ended(_)) {
         (session, _) = reading.step(session, Event::Answer(&[0x06])).unwrap();
         events += 1;
     }
@@ -569,7 +586,7 @@ fn log_of_the_plan() {
     };
     assert_eq!(refused(|_| ()), Refusal::Size);
     let all_45: [fn(&mut Session); 8] = [
-        |s| s.phase = Phase::Packets,
+        |s| s.phase = Phase::Run,
         |s| s.phase = Phase::Ended(Outcome::Silent),
         |s| s.acknowledged = 3,
         |s| (s.acknowledged, s.total) = (3, 3),
