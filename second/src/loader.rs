@@ -23,37 +23,39 @@ pub enum Condition {
     Left,
 }
 
-/// Bits 0 to 30 are the groups, bit 31 is read protection.
 #[derive(Clone, Copy, Debug, Default, PartialEq, Eq)]
-pub struct Protection(pub u32);
+pub struct Protection {
+    /// One bit a group, group 0 the lowest.
+    pub groups: u64,
+    pub read: bool,
+}
 
 impl Protection {
-    const READ: u32 = 1 << 31;
-
     /// What a P packet of type 0x0F adds.
     fn named_by(address: u32) -> Result<Protection, Refusal> {
+        let mut named = Protection::default();
         if address < FLASH_END {
-            Ok(Protection(1 << ByteAddress(address).group().0))
+            named.groups = 1 << ByteAddress(address).group().0;
         } else if address <= READ_PROTECTION_LAST {
-            Ok(Protection(Self::READ))
+            named.read = true;
         } else {
-            Err(Refusal::Address)
+            return Err(Refusal::Address);
         }
+        Ok(named)
     }
 
     fn joined(self, other: Protection) -> Protection {
-        Protection(self.0 | other.0)
-    }
-
-    fn forbids_reading(self) -> bool {
-        self.0 & Self::READ != 0
+        Protection {
+            groups: self.groups | other.groups,
+            read: self.read || other.read,
+        }
     }
 
     /// Whether a byte of this part of flash, which is not empty, is protected.
     fn forbids_changing(self, part: &Range<u32>) -> bool {
         let first = ByteAddress(part.start).group().0;
         let last = ByteAddress(part.end - 1).group().0;
-        (first..=last).any(|group| self.0 >> group & 1 != 0)
+        (first..=last).any(|group| self.groups >> group & 1 != 0)
     }
 }
 
@@ -180,7 +182,7 @@ impl Loader {
 
     fn verify(&self, address: u32, data: &[u8], flash: &[u8]) -> Result<(), Refusal> {
         let part = bytes(address, data.len())?;
-        if self.protection.forbids_reading() {
+        if self.protection.read {
             return Err(Refusal::Protected);
         }
         let sent = data.iter().map(|byte| packet::restored(*byte));

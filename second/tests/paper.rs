@@ -56,6 +56,10 @@ impl Served {
     }
 }
 
+fn protection(groups: u64, read: bool) -> Protection {
+    Protection { groups, read }
+}
+
 fn ack() -> Result<Vec<u8>, u8> {
     Ok(vec![0x06])
 }
@@ -188,10 +192,10 @@ fn protection_takes_effect_at_the_closing_packet() {
     assert_eq!(served.give(Command::Protect, 0xF7FF, &[0x0F]), ack());
     assert_eq!(served.give(Command::Protect, 0x1_0000, &[0x0F]), Err(7));
     assert_eq!(served.give(Command::Protect, 0xFFFF, &[0x0F]), ack());
-    assert_eq!(served.loader.protection, Protection(0));
+    assert_eq!(served.loader.protection, Protection::default());
     assert_eq!(served.give(Command::Protect, 0x1234_5678, &[0x01]), ack());
     assert_eq!(served.loader.key, 0x1234_5678);
-    assert_eq!(served.loader.protection, Protection(0xC000_0001));
+    assert_eq!(served.loader.protection, protection(0x4000_0001, true));
     assert_eq!(served.give(Command::Write, 0x7FF, &[0]), Err(8));
     assert_eq!(served.give(Command::Write, 0x800, &[0xFF]), ack());
     assert_eq!(served.give(Command::Erase, 0x600, &[1]), Err(8));
@@ -199,20 +203,20 @@ fn protection_takes_effect_at_the_closing_packet() {
     assert_eq!(served.give(Command::Erase, 0x800, &[116]), ack());
     assert_eq!(served.give(Command::Verify, 0x800, &[0x00]), Err(8));
     assert_eq!(served.give(Command::Erase, 0, &[0]), ack());
-    assert_eq!(served.loader.protection, Protection(0));
+    assert_eq!(served.loader.protection, Protection::default());
     assert_eq!(served.loader.key, NO_KEY);
 }
 
 #[test]
 fn reset_drops_a_sequence_and_keeps_protection() {
     let mut served = Served::new(0xFF);
-    served.loader.protection = Protection(5);
+    served.loader.protection = protection(5, false);
     served.loader.key = 6;
     assert_eq!(served.give(Command::Protect, 0, &[0x00]), ack());
     served.loader.reset();
     let expected = Loader {
         condition: Condition::Waiting,
-        protection: Protection(5),
+        protection: protection(5, false),
         key: 6,
         sequence: None,
     };
