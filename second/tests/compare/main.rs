@@ -1,0 +1,57 @@
+//! The product compared with the second program, call by call and byte by
+//! byte, on random requests that are the same in every run.
+
+mod boundary;
+mod files;
+mod loaders;
+mod logs;
+mod maps;
+mod packets;
+mod pair;
+mod random;
+mod root;
+mod sessions;
+mod tally;
+mod wire;
+
+use std::thread;
+
+use pair::Pair;
+use tally::Tally;
+
+type Compare = fn(&mut Pair);
+
+const PARTS: [(&str, Compare); 5] = [
+    ("packet", packets::compare),
+    ("loader", loaders::compare),
+    ("hex", files::compare),
+    ("session", sessions::compare),
+    ("log", logs::compare),
+];
+
+#[test]
+fn library() {
+    let tallies: Vec<Tally> = thread::scope(|scope| {
+        let parts = PARTS.map(|(_, compare)| scope.spawn(move || compared(compare)));
+        parts.map(|part| part.join().expect("alike")).into()
+    });
+    let mut whole = Tally::new();
+    println!("part, calls compared, how often each number was seen");
+    for ((name, _), tally) in PARTS.iter().zip(&tallies) {
+        println!("{name:10} {:7} {}", tally.compared, tally.line());
+        whole.add(tally);
+    }
+    println!("{:10} {:7} {}", "all", whole.compared, whole.line());
+    whole.check();
+}
+
+#[test]
+fn a_place_where_a_phase_has_none() {
+    compared(sessions::places_where_there_are_none);
+}
+
+fn compared(compare: Compare) -> Tally {
+    let mut pair = Pair::open();
+    compare(&mut pair);
+    pair.close()
+}
