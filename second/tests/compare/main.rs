@@ -9,6 +9,7 @@ mod maps;
 mod packets;
 mod pair;
 mod random;
+mod rehearsals;
 mod root;
 mod sessions;
 mod tally;
@@ -21,12 +22,13 @@ use tally::Tally;
 
 type Compare = fn(&mut Pair);
 
-const PARTS: [(&str, Compare); 5] = [
+const PARTS: [(&str, Compare); 6] = [
     ("packet", packets::compare),
     ("loader", loaders::compare),
     ("hex", files::compare),
     ("session", sessions::compare),
     ("log", logs::compare),
+    ("rehearsal", rehearsals::compare),
 ];
 
 #[test]

@@ -1,6 +1,6 @@
 //! Random maps of named bytes.
 
-use second::map;
+use second::map::{self, Map};
 use second::units::{FLASH_END, MAP_BYTES, PAGE_BYTES};
 
 use crate::random::Random;
@@ -64,4 +64,10 @@ pub fn of_runs(runs: &[(u32, u32)]) -> Vec<u8> {
         }
     }
     bytes
+}
+
+/// The next named address, or this one where there is none.
+pub fn named_from(map: &[u8], address: u32) -> u32 {
+    let map = Map::new(map).expect("a map");
+    map.next_named(address).unwrap_or(address)
 }

@@ -249,7 +249,7 @@ fn marks(pair: &mut Pair, random: &mut Random, state: SessionState) {
         let near = random.within(FLASH_END - 2, FLASH_END + 2);
         let sent = state.place.wrapping_add(random.below(256));
         let before = state.place.wrapping_sub(random.below(256));
-        let named = named_from(pair, inside);
+        let named = maps::named_from(pair.look(MAP), inside);
         let address = random.pick(&[any, inside, near, sent, before, named, named]);
         let map = match random.below(24) {
             0 => MAP.with_length(MAP.length() - 1),
@@ -258,12 +258,6 @@ fn marks(pair: &mut Pair, random: &mut Random, state: SessionState) {
         };
         pair.session_proved(state, map, address);
     }
-}
-
-/// The next named address, or this one where there is none.
-fn named_from(pair: &Pair, address: u32) -> u32 {
-    let map = second::map::Map::new(pair.look(MAP)).expect("a map");
-    map.next_named(address).unwrap_or(address)
 }
 
 /// A greeting and an R have no place, so a session that says one is no
