@@ -73,7 +73,7 @@ fn load(text: &[u8], image: &mut [u8], map: &mut [u8]) -> Result<(), Refused> {
 }
 
 /// Drops 0A and one 0D before it; a 0D with no 0A stays.
-fn without_end(line: &[u8]) -> &[u8] {
+pub fn without_end(line: &[u8]) -> &[u8] {
     match line.strip_suffix(b"\n") {
         Some(ended) => ended.strip_suffix(b"\r").unwrap_or(ended),
         None => line,

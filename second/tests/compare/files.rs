@@ -15,7 +15,7 @@ const LINE: Part = Part::new(2, 9, 2000);
 const RECORD: Part = Part::new(3, 100, 60);
 
 const FILES: u32 = 240;
-const END: &[u8] = b":00000001FF";
+pub const END: &[u8] = b":00000001FF";
 
 pub fn compare(pair: &mut Pair) {
     let mut random = Random::new(3);
@@ -70,7 +70,7 @@ fn record(pair: &mut Pair, random: &mut Random, state: ReaderState, text: &[u8])
     line(pair, state, text, image, map).1
 }
 
-fn line(
+pub fn line(
     pair: &mut Pair,
     state: ReaderState,
     text: &[u8],
@@ -120,7 +120,7 @@ fn made_up(random: &mut Random) -> ReaderState {
 }
 
 /// A record's text, right or wrong in one of the table's ways.
-fn text(random: &mut Random) -> Vec<u8> {
+pub fn text(random: &mut Random) -> Vec<u8> {
     let mut text = sound(random);
     match random.below(24) {
         0 => text[0] = random.byte(),

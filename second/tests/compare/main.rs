@@ -2,12 +2,15 @@
 //! byte, on random requests that are the same in every run.
 
 mod boundary;
+mod caselines;
+mod examples;
 mod files;
 mod loaders;
 mod logs;
 mod maps;
 mod packets;
 mod pair;
+mod programs;
 mod random;
 mod rehearsals;
 mod root;
@@ -22,13 +25,14 @@ use tally::Tally;
 
 type Compare = fn(&mut Pair);
 
-const PARTS: [(&str, Compare); 6] = [
+const PARTS: [(&str, Compare); 7] = [
     ("packet", packets::compare),
     ("loader", loaders::compare),
     ("hex", files::compare),
     ("session", sessions::compare),
     ("log", logs::compare),
     ("rehearsal", rehearsals::compare),
+    ("examples", examples::compare),
 ];
 
 #[test]
@@ -50,6 +54,21 @@ fn library() {
 #[test]
 fn a_place_where_a_phase_has_none() {
     compared(sessions::places_where_there_are_none);
+}
+
+#[test]
+fn plan() {
+    println!("plan: {} texts", programs::compare_plan());
+}
+
+#[test]
+fn readlog() {
+    println!("readlog: {} inputs", programs::compare_readlog());
+}
+
+#[test]
+fn cases() {
+    println!("cases: {} lines", caselines::compare());
 }
 
 fn compared(compare: Compare) -> Tally {

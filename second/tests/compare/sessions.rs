@@ -132,6 +132,16 @@ fn expected(phase: Phase) -> &'static [u8] {
     }
 }
 
+/// Goes through the whole session of the file and gives its named bytes.
+pub fn walk(pair: &mut Pair) -> u32 {
+    let (_, mut state) = pair.session_start(1, IMAGE, MAP, PACKET);
+    while state.phase != 5 {
+        (_, _, state) = step_right(pair, state);
+    }
+    pair.session_outcome(state);
+    state.named
+}
+
 /// One state of the file: what it answers to, and what is near it.
 fn look_at(pair: &mut Pair, random: &mut Random, state: SessionState) {
     pair.session_outcome(state);
