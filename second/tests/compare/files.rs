@@ -11,6 +11,8 @@ use crate::random::Random;
 
 pub const IMAGE: Part = Part::new(0, 333, FLASH_END);
 pub const MAP: Part = Part::new(1, 4001, MAP_BYTES as u32);
+/// The image as it is lent with a byte too many, which nothing may meet.
+pub const NEXT_TO_IMAGE: Part = Part::new(0, 333, FLASH_END + 1);
 const LINE: Part = Part::new(2, 9, 2000);
 const RECORD: Part = Part::new(3, 100, 60);
 
@@ -79,6 +81,8 @@ pub fn line(
 ) -> (u8, ReaderState) {
     let part = match text.len() as u32 {
         0 => Part::NULL,
+        length if length % 7 == 0 => NEXT_TO_IMAGE.behind(length),
+        length if length % 7 == 1 => MAP.before(length),
         length => LINE.with_length(length),
     };
     if !text.is_empty() {
@@ -222,12 +226,14 @@ fn write(pair: &mut Pair, random: &mut Random) {
         let any = random.word();
         let near = random.within(0xF7E0, 0xF804);
         let inside = random.below(FLASH_END);
-        let from = random.pick(&[0, any, near, inside, inside, inside, inside]);
+        let from = random.pick(&[0, any, near, near, inside, inside, inside]);
         let (image, map) = lent(random);
         let buffer = match random.below(8) {
             0 => RECORD.with_length(random.within(40, 44)),
             1 => RECORD.with_length(random.below(44)),
             2 if random.once_in(4) => Part::NULL,
+            2 | 4 => NEXT_TO_IMAGE.behind(44),
+            3 => MAP.before(44),
             _ => RECORD.with_length(random.within(44, 60)),
         };
         pair.hex_write(image, map, from, buffer);

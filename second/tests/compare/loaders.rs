@@ -10,7 +10,7 @@ use crate::random::Random;
 
 pub const FLASH: Part = Part::new(0, 1000, FLASH_END);
 const INPUT: Part = Part::new(1, 3, 300);
-const ANSWER: Part = Part::new(2, 50, 24);
+const ANSWER: Part = Part::new(2, 500, 24);
 
 const RUNS: u32 = 12;
 const INPUTS: u32 = 2500;
@@ -33,7 +33,12 @@ pub fn compare(pair: &mut Pair) {
 
 fn one_input(pair: &mut Pair, random: &mut Random, state: LoaderState) -> LoaderState {
     let bytes = input(pair, random, state);
-    let mut input = INPUT.with_length(bytes.len() as u32);
+    let length = bytes.len() as u32;
+    let mut input = match random.below(8) {
+        0 | 1 => FLASH.before(length),
+        2 => ANSWER.before(length),
+        _ => INPUT.with_length(length),
+    };
     pair.set(input, &bytes);
     if bytes.is_empty() && random.once_in(2) {
         input = Part::NULL;
@@ -185,9 +190,10 @@ fn verify(pair: &Pair, random: &mut Random, address: u32) -> Vec<u8> {
 }
 
 fn length(random: &mut Random) -> u32 {
-    match random.below(6) {
+    match random.below(8) {
         0 => random.pick(&[249, 250]),
         1 => random.within(1, 250),
+        2 | 3 => random.within(1, 70),
         _ => random.within(1, 9),
     }
 }
@@ -196,7 +202,7 @@ fn length(random: &mut Random) -> u32 {
 fn address(random: &mut Random) -> u32 {
     match random.below(10) {
         0 => random.word(),
-        1 => random.below(4),
+        1 => random.pick(&[0, 1, 2, 3, 16, 40]),
         2 => random.within(FLASH_END - 260, FLASH_END + 4),
         3 => random.below(0x1_0010),
         4 => (random.within(1, 31) * GROUP_BYTES) - random.below(4),

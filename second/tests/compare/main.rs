@@ -1,5 +1,7 @@
 //! The product compared with the second program, call by call and byte by
-//! byte, on random requests that are the same in every run.
+//! byte, on random requests that are the same in every run. The product's
+//! driver and programs must have been built; GREMOLUNDE_ROOT names a root other
+//! than the repository's. With `--nocapture` the counts are printed.
 
 mod boundary;
 mod caselines;

@@ -59,7 +59,7 @@ fn edge(random: &mut Random) -> u32 {
 pub fn of_runs(runs: &[(u32, u32)]) -> Vec<u8> {
     let mut bytes = vec![0; MAP_BYTES];
     for (start, length) in runs {
-        for address in *start..(start + length).min(FLASH_END) {
+        for address in *start..start.saturating_add(*length).min(FLASH_END) {
             map::name(&mut bytes, address);
         }
     }

@@ -6,7 +6,7 @@ use crate::pair::{Pair, Part};
 use crate::random::Random;
 
 const COMMANDS: [u8; 5] = *b"EWVPR";
-const OUTPUT: Part = Part::new(0, 77, 300);
+const OUTPUT: Part = Part::new(0, 777, 300);
 const INPUT: Part = Part::new(1, 5, 300);
 
 pub fn compare(pair: &mut Pair) {
@@ -52,7 +52,11 @@ pub fn compare(pair: &mut Pair) {
 }
 
 fn build(pair: &mut Pair, random: &mut Random, output: Part, command: u8, length: u32) {
-    let input = INPUT.with_length(length);
+    let input = random.pick(&[
+        INPUT.with_length(length),
+        output.before(length),
+        output.behind(length),
+    ]);
     let mut plain = random.bytes(length);
     if command == b'P' && length == 1 {
         plain[0] = random.pick(&[OPEN, ADD, CLOSE, 0x02, 0x10]);

@@ -41,6 +41,16 @@ impl Part {
         Part { length, ..self }
     }
 
+    /// So many bytes that end where this part begins.
+    pub fn before(self, length: u32) -> Part {
+        Part::new(self.buffer, self.offset - length, length)
+    }
+
+    /// So many bytes that begin where this part ends.
+    pub fn behind(self, length: u32) -> Part {
+        Part::new(self.buffer, self.offset + self.length, length)
+    }
+
     pub fn length(self) -> u32 {
         self.length
     }

@@ -5,7 +5,7 @@ use second::session::{Event, Phase};
 use second::units::{FLASH_END, MAP_BYTES};
 
 use crate::boundary::SessionState;
-use crate::files::{lent, IMAGE, MAP};
+use crate::files::{lent, IMAGE, MAP, NEXT_TO_IMAGE};
 use crate::maps;
 use crate::pair::{Pair, Part};
 use crate::random::Random;
@@ -40,6 +40,7 @@ fn map(random: &mut Random, kind: u32) -> Vec<u8> {
         1 => vec![0x55; MAP_BYTES],
         2 => random.bytes(MAP_BYTES as u32),
         3 => maps::of_runs(&[(FLASH_END - 1, 1)]),
+        4..=8 => maps::of_runs(&[(FLASH_END - kind * kind / 2, FLASH_END)]),
         _ => match kind % 4 {
             0 => maps::few(random),
             1 => maps::pieces(random),
@@ -217,6 +218,8 @@ fn buffer(random: &mut Random) -> Part {
         0 => PACKET.with_length(258),
         1 => PACKET.with_length(random.below(259)),
         2 => Part::NULL,
+        3..=6 => NEXT_TO_IMAGE.behind(259),
+        7 => MAP.before(259),
         _ => PACKET.with_length(random.within(259, 300)),
     }
 }
