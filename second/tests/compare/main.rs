@@ -40,7 +40,11 @@ const PARTS: [(&str, Compare); 7] = [
 #[test]
 fn library() {
     let tallies: Vec<Tally> = thread::scope(|scope| {
-        let parts = PARTS.map(|(_, compare)| scope.spawn(move || compared(compare)));
+        let parts = PARTS.map(|(name, compare)| {
+            let thread = thread::Builder::new().name(name.to_string());
+            let part = thread.spawn_scoped(scope, move || compared(compare));
+            part.expect("a thread")
+        });
         parts.map(|part| part.join().expect("alike")).into()
     });
     let mut whole = Tally::new();
