@@ -1,6 +1,7 @@
 //! The product and the second program side by side: each call is made on both.
 
 use second::hex::{self, Reader};
+use second::line::{self, Exchange};
 use second::loader::Loader;
 use second::log;
 use second::packet;
@@ -439,6 +440,44 @@ impl Pair {
         number
     }
 
+    /// The number and what the load left, the session all 0 after a refusal.
+    pub fn rehearse(
+        &mut self,
+        told: u32,
+        state: LoaderState,
+        losses: Part,
+        file: (Part, Part),
+        flash: Part,
+    ) -> (u8, LoaderState, SessionState) {
+        let (image, map) = file;
+        let mut flash_bytes = self.lent(flash);
+        let mut loader = state.meaning();
+        let rehearsed = match flash_bytes.len() {
+            FLASH_BYTES => line::rehearse(
+                run(told),
+                self.look(image),
+                self.look(map),
+                &mut loader,
+                &mut flash_bytes,
+                &exchanges(self.look(losses)),
+            ),
+            _ => Err(Refusal::Size),
+        };
+        let (number, next, session) = match rehearsed {
+            Ok(session) => (0, loader.into(), session.into()),
+            Err(refusal) => (refusal.number(), state, SessionState::default()),
+        };
+        let answer = Message::default()
+            .word(number.into())
+            .loader(next)
+            .session(session)
+            .bytes(&self.changes(flash, &flash_bytes));
+        let request = Message::new(0x60).word(told).loader(state).part(losses);
+        let request = request.part(image).part(map).part(flash);
+        self.call(request, answer, number);
+        (number, next, session)
+    }
+
     pub fn log_write(&mut self, state: SessionState, buffer: Part) -> usize {
         let mut bytes = self.lent(buffer);
         let written = match state.meaning() {
@@ -467,6 +506,16 @@ impl Pair {
         };
         self.call(Message::new(0x51).part(input), answer, number);
     }
+}
+
+/// What the header says each byte of a list of losses tells.
+fn exchanges(losses: &[u8]) -> Vec<Exchange> {
+    let exchange = |loss: &u8| match loss {
+        0 => Exchange::Whole,
+        1 => Exchange::PacketLost,
+        _ => Exchange::AnswerLost,
+    };
+    losses.iter().map(exchange).collect()
 }
 
 fn numbered(done: Result<usize, Refusal>) -> (u8, usize) {
