@@ -1,0 +1,369 @@
+//! The map of named bytes, one bit an address, read a word at a time.
+
+use crate::packet::PIECE;
+use crate::refusal::Refusal;
+use crate::units::{ByteAddress, Page, FLASH_END, MAP_BYTES, PAGE_BYTES};
+
+const WORD_BITS: u32 = u64::BITS;
+const PIECE_BITS: u32 = PIECE as u32;
+
+/// A map of the right size.
+#[derive(Clone, Copy)]
+pub struct Map<'a>(&'a [u8]);
+
+/// What a file makes a session send.
+#[derive(Clone, Copy, Debug, PartialEq, Eq)]
+pub struct Survey {
+    pub named: u32,
+    pub pieces: u32,
+    pub pages: Pages,
+    /// The lowest named address, the end of flash where there is none.
+    pub first: u32,
+    pub sought: Sought,
+}
+
+impl Survey {
+    pub fn erases(&self) -> u32 {
+        self.pages.runs()
+    }
+
+    pub fn total(&self) -> u32 {
+        self.erases() + 2 * self.pieces + 1
+    }
+}
+
+/// What a survey found of the piece that it was sent to look for.
+#[derive(Clone, Copy, Debug, Default, PartialEq, Eq)]
+pub struct Sought {
+    /// Its index, counted from 0, if a piece starts there.
+    pub index: Option<u32>,
+    /// The start of the next piece above.
+    pub next: Option<u32>,
+}
+
+impl Sought {
+    /// Looks at the piece starts of one word, of which so many went before.
+    fn look(&mut self, address: u32, base: u32, starts: u64, before: u32) {
+        let mut above = starts;
+        if address >= base {
+            let Some(bit) = bit_in_word(address, base) else {
+                return;
+            };
+            let below = bit - 1;
+            if starts & bit != 0 {
+                self.index = Some(before + (starts & below).count_ones());
+            }
+            above = starts & !(below | bit);
+        }
+        if above != 0 {
+            self.next = Some(base + above.trailing_zeros());
+        }
+    }
+}
+
+fn bit_in_word(address: u32, base: u32) -> Option<u64> {
+    (address - base < WORD_BITS).then(|| 1 << (address - base))
+}
+
+/// One bit for each page that holds a named byte.
+#[derive(Clone, Copy, Debug, Default, PartialEq, Eq)]
+pub struct Pages(u128);
+
+impl Pages {
+    fn runs(self) -> u32 {
+        self.starts().count_ones()
+    }
+
+    /// The first page of the lowest run.
+    pub fn first(self) -> Page {
+        Page(self.0.trailing_zeros())
+    }
+
+    /// The index, counted from 0, of the maximal run that starts here.
+    pub fn run_index(self, first: Page) -> Option<u32> {
+        let bit = 1u128.checked_shl(first.0)?;
+        (self.starts() & bit != 0).then(|| (self.starts() & (bit - 1)).count_ones())
+    }
+
+    /// The first page of the next run above.
+    pub fn run_after(self, first: Page) -> Option<Page> {
+        let above = self.starts() & (u128::MAX << first.0 << 1);
+        (above != 0).then(|| Page(above.trailing_zeros()))
+    }
+
+    pub fn run_length(self, first: Page) -> u8 {
+        (self.0 >> first.0).trailing_ones() as u8
+    }
+
+    fn starts(self) -> u128 {
+        self.0 & !(self.0 << 1)
+    }
+}
+
+impl<'a> Map<'a> {
+    pub fn new(bytes: &'a [u8]) -> Result<Map<'a>, Refusal> {
+        if bytes.len() == MAP_BYTES {
+            Ok(Map(bytes))
+        } else {
+            Err(Refusal::Size)
+        }
+    }
+
+    pub fn names(self, address: u32) -> bool {
+        address < FLASH_END && self.0[address as usize / 8] >> (address % 8) & 1 != 0
+    }
+
+    pub fn is_empty(self) -> bool {
+        self.words().all(|word| word == 0)
+    }
+
+    /// The lowest named address from here on.
+    pub fn next_named(self, from: u32) -> Option<u32> {
+        self.next_where(from, |word| word)
+    }
+
+    /// How many bytes from here on are named without a gap, up to a limit.
+    pub fn run_length(self, start: u32, limit: u32) -> u32 {
+        let end = self.next_where(start, |word| !word).unwrap_or(FLASH_END);
+        (end - start).min(limit)
+    }
+
+    /// One pass over the map; it looks for the piece at an address on its way.
+    pub fn survey(self, sought: Option<ByteAddress>) -> Survey {
+        let mut survey = Survey {
+            named: 0,
+            pieces: 0,
+            pages: Pages::default(),
+            first: FLASH_END,
+            sought: Sought::default(),
+        };
+        let mut sweep = Sweep::default();
+        for word in self.words() {
+            let base = sweep.base;
+            let starts = sweep.piece_starts(word);
+            if word == 0 {
+                continue;
+            }
+            if survey.named == 0 {
+                survey.first = base + word.trailing_zeros();
+            }
+            if let (Some(address), None) = (sought, survey.sought.next) {
+                survey.sought.look(address.0, base, starts, survey.pieces);
+            }
+            survey.named += word.count_ones();
+            survey.pieces += starts.count_ones();
+            survey.pages.0 |= 1 << (base / PAGE_BYTES);
+        }
+        survey
+    }
+
+    /// The index of the piece that holds a named byte.
+    pub fn piece_of(self, address: u32) -> Option<u32> {
+        if !self.names(address) {
+            return None;
+        }
+        let mut begun = 0;
+        let mut sweep = Sweep::default();
+        for word in self.words().take((address / WORD_BITS) as usize) {
+            begun += sweep.piece_starts(word).count_ones();
+        }
+        let starts = sweep.piece_starts(self.word(address / WORD_BITS));
+        let up_to = u64::MAX >> (WORD_BITS - 1 - address % WORD_BITS);
+        begun += (starts & up_to).count_ones();
+        Some(begun - 1)
+    }
+
+    fn words(self) -> impl Iterator<Item = u64> + 'a {
+        self.0
+            .chunks_exact(8)
+            .map(|chunk| u64::from_le_bytes(chunk.try_into().expect("eight bytes")))
+    }
+
+    fn word(self, index: u32) -> u64 {
+        let at = index as usize * 8;
+        u64::from_le_bytes(self.0[at..at + 8].try_into().expect("eight bytes"))
+    }
+
+    /// The lowest address from here on whose bit is set in the word as seen.
+    fn next_where(self, from: u32, seen: impl Fn(u64) -> u64) -> Option<u32> {
+        if from >= FLASH_END {
+            return None;
+        }
+        let first = from / WORD_BITS;
+        let mut word = seen(self.word(first)) & (u64::MAX << (from % WORD_BITS));
+        for index in first..FLASH_END / WORD_BITS {
+            if index > first {
+                word = seen(self.word(index));
+            }
+            if word != 0 {
+                return Some(index * WORD_BITS + word.trailing_zeros());
+            }
+        }
+        None
+    }
+}
+
+/// Names one address; the caller keeps it inside the map.
+pub fn name(map: &mut [u8], address: u32) {
+    map[address as usize / 8] |= 1 << (address % 8);
+}
+
+/// An upward pass over the map's words.
+#[derive(Default)]
+struct Sweep {
+    /// Address of the next word's lowest bit.
+    base: u32,
+    /// Start of the run that reaches up to the next word.
+    open: Option<u32>,
+}
+
+impl Sweep {
+    /// The bits of the next word at which a piece starts.
+    fn piece_starts(&mut self, word: u64) -> u64 {
+        let carried = u64::from(self.open.is_some());
+        let begun = word & !(word << 1 | carried);
+        let starts = begun | self.cut(word);
+        self.pass(word);
+        starts
+    }
+
+    /// The bit at which the open run is cut; a word is too short for two cuts.
+    fn cut(&self, word: u64) -> u64 {
+        let Some(start) = self.open else { return 0 };
+        let past = (self.base - start) % PIECE_BITS;
+        let ahead = if past == 0 { 0 } else { PIECE_BITS - past };
+        if ahead < word.trailing_ones() {
+            1 << ahead
+        } else {
+            0
+        }
+    }
+
+    fn pass(&mut self, word: u64) {
+        let reaching = word.leading_ones();
+        let end = self.base + WORD_BITS;
+        self.open = match reaching {
+            0 => None,
+            WORD_BITS => self.open.or(Some(self.base)),
+            _ => Some(end - reaching),
+        };
+        self.base = end;
+    }
+}
+
+#[cfg(test)]
+mod tests {
+    use super::*;
+
+    struct Piece {
+        start: u32,
+        length: u32,
+    }
+
+    /// Runs of named bytes found one address at a time.
+    fn pieces_one_by_one(map: Map) -> Vec<Piece> {
+        let mut pieces: Vec<Piece> = Vec::new();
+        for address in (0..FLASH_END).filter(|address| map.names(*address)) {
+            match pieces.last_mut() {
+                Some(last) if last.start + last.length == address && last.length < PIECE_BITS => {
+                    last.length += 1
+                }
+                _ => pieces.push(Piece {
+                    start: address,
+                    length: 1,
+                }),
+            }
+        }
+        pieces
+    }
+
+    fn check(bytes: &[u8]) {
+        check_each(bytes, 1);
+    }
+
+    /// Looks closer at one piece in so many.
+    fn check_each(bytes: &[u8], stride: usize) {
+        let map = Map::new(bytes).unwrap();
+        let expected = pieces_one_by_one(map);
+        let survey = map.survey(None);
+        assert_eq!(survey.pieces as usize, expected.len());
+        let named: u32 = expected.iter().map(|piece| piece.length).sum();
+        assert_eq!(survey.named, named);
+        let first = expected.first().map_or(FLASH_END, |piece| piece.start);
+        assert_eq!(survey.first, first);
+        for (index, piece) in expected.iter().enumerate().step_by(stride) {
+            let (start, last) = (piece.start, piece.start + piece.length - 1);
+            let sought = |address| map.survey(Some(ByteAddress(address))).sought;
+            let next = expected.get(index + 1).map(|piece| piece.start);
+            let index = Some(index as u32);
+            assert_eq!(sought(start), Sought { index, next });
+            if start < last {
+                assert_eq!(sought(last), Sought { index: None, next });
+            }
+            assert_eq!(map.run_length(start, PIECE_BITS), piece.length);
+            assert_eq!(map.piece_of(start), index);
+            assert_eq!(map.piece_of(last), index);
+        }
+        assert_eq!(map.survey(Some(ByteAddress(u32::MAX))).sought.index, None);
+        assert_eq!(map.is_empty(), expected.is_empty());
+    }
+
+    fn map_of_runs(runs: &[(u32, u32)]) -> Vec<u8> {
+        let mut bytes = vec![0; MAP_BYTES];
+        for (start, length) in runs {
+            for address in *start..start + length {
+                name(&mut bytes, address);
+            }
+        }
+        bytes
+    }
+
+    #[test]
+    fn pieces_are_those_found_one_by_one() {
+        check(&map_of_runs(&[]));
+        check(&map_of_runs(&[(0, FLASH_END)]));
+        check(&map_of_runs(&[(FLASH_END - 1, 1)]));
+        for start in [0, 1, 6, 63, 64, 65, 511] {
+            for length in [1, 63, 64, 65, 249, 250, 251, 500, 501, 1000] {
+                check(&map_of_runs(&[(start, length), (start + length + 1, 260)]));
+            }
+        }
+        check_each(&[0x55; MAP_BYTES], 101);
+    }
+
+    #[test]
+    fn pieces_of_scattered_runs() {
+        let mut seed = 1u32;
+        for _ in 0..20 {
+            let mut runs = Vec::new();
+            let mut start = 0;
+            loop {
+                seed = seed.wrapping_mul(1_664_525).wrapping_add(1_013_904_223);
+                let (gap, length) = (seed >> 24, (seed >> 8) % 700);
+                if start + gap + length > FLASH_END {
+                    break;
+                }
+                runs.push((start + gap, length));
+                start += gap + length;
+            }
+            check(&map_of_runs(&runs));
+        }
+    }
+
+    #[test]
+    fn page_runs_are_maximal() {
+        let bytes = map_of_runs(&[(0, 1), (512, 1), (0x7FF, 2), (0xF600, 1)]);
+        let pages = Map::new(&bytes).unwrap().survey(None).pages;
+        assert_eq!(pages.runs(), 3);
+        assert_eq!(pages.first(), Page(0));
+        let runs = [(0, 2, Some(3)), (3, 2, Some(123)), (123, 1, None)];
+        for (index, (first, length, next)) in (0..).zip(runs) {
+            assert_eq!(pages.run_index(Page(first)), Some(index));
+            assert_eq!(pages.run_length(Page(first)), length);
+            assert_eq!(pages.run_after(Page(first)), next.map(Page));
+        }
+        for page in [1, 2, 4, 122, 124, 127, 128, u32::MAX] {
+            assert_eq!(pages.run_index(Page(page)), None);
+        }
+    }
+}

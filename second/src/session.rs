@@ -1,0 +1,275 @@
+//! The host session: from a file to packets, from answers to a verdict.
+
+use crate::hex::check_sizes;
+use crate::loader::{ACK, BACKSPACE, BEL, GREETING};
+use crate::map::{Map, Survey};
+use crate::packet::{self, Command};
+use crate::refusal::Refusal;
+use crate::units::{ByteAddress, Page};
+
+/// The greeting's first bytes, which must be exact; so must its last two.
+const GREETING_FIXED: usize = 15;
+
+#[derive(Clone, Copy, Debug, Default, PartialEq, Eq)]
+pub enum Run {
+    #[default]
+    Reset,
+    Jump,
+}
+
+impl Run {
+    fn address(self) -> u32 {
+        match self {
+            Run::Reset => 1,
+            Run::Jump => 0,
+        }
+    }
+}
+
+#[derive(Clone, Copy, Debug, PartialEq, Eq)]
+#[repr(u8)]
+pub enum Outcome {
+    Valid = 0,
+    Silent = 40,
+    Refused = 41,
+    WrongGreeting = 42,
+    WrongAnswer = 43,
+}
+
+impl Outcome {
+    pub fn number(self) -> u8 {
+        self as u8
+    }
+}
+
+#[derive(Clone, Copy, Debug, PartialEq, Eq)]
+pub enum Event<'a> {
+    Answer(&'a [u8]),
+    Silence,
+}
+
+/// What a session waits for, and the place of the packet it sent.
+#[derive(Clone, Copy, Debug, PartialEq, Eq)]
+pub enum Phase {
+    Greeting,
+    Erase(Page),
+    Write(ByteAddress),
+    Verify(ByteAddress),
+    Run,
+    Ended(Outcome),
+}
+
+impl Phase {
+    /// The address whose piece a survey looks for.
+    fn piece(self) -> Option<ByteAddress> {
+        match self {
+            Phase::Write(start) | Phase::Verify(start) => Some(start),
+            _ => None,
+        }
+    }
+}
+
+/// A value the caller keeps; it is checked against the file at every step.
+#[derive(Clone, Copy, Debug, PartialEq, Eq)]
+pub struct Session {
+    pub run: Run,
+    pub phase: Phase,
+    pub acknowledged: u32,
+    pub total: u32,
+    pub named: u32,
+}
+
+/// An event as the session takes it.
+enum Heard {
+    Expected,
+    Ending(Outcome),
+}
+
+/// The file a session is checked against, looked over for its phase.
+struct File<'a> {
+    image: &'a [u8],
+    map: Map<'a>,
+    survey: Survey,
+}
+
+impl Session {
+    /// Starts a session and writes the single byte 08.
+    pub fn start(
+        run: Run,
+        image: &[u8],
+        map: &[u8],
+        buffer: &mut [u8],
+    ) -> Result<(Session, usize), Refusal> {
+        check_lent(image, map, buffer)?;
+        let survey = Map::new(map)?.survey(None);
+        if survey.named == 0 {
+            return Err(Refusal::NoData);
+        }
+        buffer[0] = BACKSPACE;
+        let session = Session {
+            run,
+            phase: Phase::Greeting,
+            acknowledged: 0,
+            total: survey.total(),
+            named: survey.named,
+        };
+        Ok((session, 1))
+    }
+
+    /// Takes one event and hands back the next state with the length of the
+    /// packet written, 0 for an ending.
+    pub fn step(
+        self,
+        event: Event,
+        image: &[u8],
+        map: &[u8],
+        buffer: &mut [u8],
+    ) -> Result<(Session, usize), Refusal> {
+        check_lent(image, map, buffer)?;
+        if let Phase::Ended(_) = self.phase {
+            return Err(Refusal::SessionEnded);
+        }
+        let file = File::new(image, map, self.phase)?;
+        if !self.belongs_to(&file.survey) {
+            return Err(Refusal::OtherFile);
+        }
+        match self.hear(event) {
+            Heard::Expected => self.go_on(&file, buffer),
+            Heard::Ending(outcome) => Ok((self.ended(outcome), 0)),
+        }
+    }
+
+    /// Whether V of this byte was acknowledged; a file that is not the
+    /// session's has no such byte.
+    pub fn proved(&self, map: &[u8], address: u32) -> Result<bool, Refusal> {
+        let map = Map::new(map)?;
+        let survey = map.survey(None);
+        if !self.counts_match(&survey) {
+            return Ok(false);
+        }
+        let written = survey.erases() + survey.pieces;
+        let verified = self.acknowledged.saturating_sub(written);
+        Ok(map.piece_of(address).is_some_and(|piece| piece < verified))
+    }
+
+    fn counts_match(&self, survey: &Survey) -> bool {
+        self.total == survey.total() && self.named == survey.named
+    }
+
+    /// Whether a start over such a file and acknowledgements lead here.
+    fn belongs_to(&self, survey: &Survey) -> bool {
+        self.counts_match(survey)
+            && survey.named > 0
+            && survey.sent_before(self.phase) == Some(self.acknowledged)
+    }
+
+    fn hear(&self, event: Event) -> Heard {
+        let Event::Answer(answer) = event else {
+            return Heard::Ending(Outcome::Silent);
+        };
+        match (self.phase, answer) {
+            (Phase::Greeting, _) if is_greeting(answer) => Heard::Expected,
+            (Phase::Greeting, _) => Heard::Ending(Outcome::WrongGreeting),
+            (_, [ACK]) => Heard::Expected,
+            (_, [BEL]) => Heard::Ending(Outcome::Refused),
+            (_, _) => Heard::Ending(Outcome::WrongAnswer),
+        }
+    }
+
+    fn go_on(self, file: &File, buffer: &mut [u8]) -> Result<(Session, usize), Refusal> {
+        let phase = file.survey.after(self.phase);
+        let greeted = self.phase == Phase::Greeting;
+        let next = Session {
+            phase,
+            acknowledged: self.acknowledged + u32::from(!greeted),
+            ..self
+        };
+        Ok((next, file.packet(phase, self.run, buffer)?))
+    }
+
+    fn ended(self, outcome: Outcome) -> Session {
+        Session {
+            phase: Phase::Ended(outcome),
+            ..self
+        }
+    }
+}
+
+impl Survey {
+    /// How many packets go before the one a phase waits on, if it is one of
+    /// the file's.
+    fn sent_before(&self, phase: Phase) -> Option<u32> {
+        let piece = self.sought.index;
+        match phase {
+            Phase::Greeting => Some(0),
+            Phase::Erase(first) => self.pages.run_index(first),
+            Phase::Write(_) => piece.map(|index| self.erases() + index),
+            Phase::Verify(_) => piece.map(|index| self.erases() + self.pieces + index),
+            Phase::Run => Some(self.total() - 1),
+            Phase::Ended(_) => None,
+        }
+    }
+
+    /// The phase that an expected answer leads to.
+    fn after(&self, phase: Phase) -> Phase {
+        let (first, next) = (ByteAddress(self.first), self.sought.next.map(ByteAddress));
+        match phase {
+            Phase::Greeting => Phase::Erase(self.pages.first()),
+            Phase::Erase(page) => match self.pages.run_after(page) {
+                Some(next) => Phase::Erase(next),
+                None => Phase::Write(first),
+            },
+            Phase::Write(_) => next.map_or(Phase::Verify(first), Phase::Write),
+            Phase::Verify(_) => next.map_or(Phase::Run, Phase::Verify),
+            Phase::Run => Phase::Ended(Outcome::Valid),
+            Phase::Ended(outcome) => Phase::Ended(outcome),
+        }
+    }
+}
+
+impl<'a> File<'a> {
+    fn new(image: &'a [u8], map: &'a [u8], phase: Phase) -> Result<File<'a>, Refusal> {
+        let map = Map::new(map)?;
+        let survey = map.survey(phase.piece());
+        Ok(File { image, map, survey })
+    }
+
+    /// Builds the packet that a phase waits on; none for an ending.
+    fn packet(&self, phase: Phase, run: Run, buffer: &mut [u8]) -> Result<usize, Refusal> {
+        match phase {
+            Phase::Erase(first) => {
+                let count = self.survey.pages.run_length(first);
+                packet::build(buffer, Command::Erase.byte(), first.start().0, &[count])
+            }
+            Phase::Write(start) => self.piece(Command::Write, start, buffer),
+            Phase::Verify(start) => self.piece(Command::Verify, start, buffer),
+            Phase::Run => packet::build(buffer, Command::Run.byte(), run.address(), &[]),
+            Phase::Greeting | Phase::Ended(_) => Ok(0),
+        }
+    }
+
+    fn piece(
+        &self,
+        command: Command,
+        start: ByteAddress,
+        buffer: &mut [u8],
+    ) -> Result<usize, Refusal> {
+        let length = self.map.run_length(start.0, packet::PIECE as u32);
+        let data = &self.image[start.0 as usize..(start.0 + length) as usize];
+        packet::build(buffer, command.byte(), start.0, data)
+    }
+}
+
+fn check_lent(image: &[u8], map: &[u8], buffer: &[u8]) -> Result<(), Refusal> {
+    check_sizes(image, map)?;
+    if buffer.len() < packet::LONGEST {
+        return Err(Refusal::Size);
+    }
+    Ok(())
+}
+
+fn is_greeting(answer: &[u8]) -> bool {
+    answer.len() == GREETING.len()
+        && answer.starts_with(&GREETING[..GREETING_FIXED])
+        && answer.ends_with(&GREETING[GREETING.len() - 2..])
+}

@@ -1,0 +1,69 @@
+//! Hex files that other tools have written, read by both sides.
+
+use std::fs;
+use std::path::PathBuf;
+
+use second::listing;
+
+use crate::files::{line, IMAGE, MAP};
+use crate::pair::Pair;
+use crate::root;
+use crate::sessions;
+
+/// How reading a file ends.
+#[derive(Clone, Copy, Debug, PartialEq, Eq)]
+enum Read {
+    Named(u32),
+    Refused { line: usize, number: u8 },
+}
+
+const EXAMPLES: [(&str, Read); 10] = [
+    ("aligned", Read::Named(96)),
+    ("unaligned", Read::Named(301)),
+    ("large", Read::Named(12_000)),
+    ("linear", Read::Named(301)),
+    ("segment", Read::Named(301)),
+    ("holes", Read::Named(192)),
+    ("past-end", refused(3, 29)),
+    ("past-segment", refused(2, 29)),
+    ("past-linear", refused(2, 29)),
+    ("start", refused(7, 28)),
+];
+
+const fn refused(line: usize, number: u8) -> Read {
+    Read::Refused { line, number }
+}
+
+/// Every example's text.
+pub fn texts() -> impl Iterator<Item = Vec<u8>> {
+    EXAMPLES.iter().map(|(name, _)| text(name))
+}
+
+pub fn compare(pair: &mut Pair) {
+    for buffer in 0..4 {
+        pair.fill_buffer(buffer, 0x5A);
+    }
+    for (name, expected) in EXAMPLES {
+        assert_eq!(read(pair, &text(name)), expected, "{name}");
+    }
+}
+
+fn text(name: &str) -> Vec<u8> {
+    let path: PathBuf = root::repository().join(format!("examples/{name}.hex"));
+    fs::read(path).unwrap_or_else(|error| panic!("examples/{name}.hex: {error}"))
+}
+
+/// Reads a file to its end or first refusal, then walks its session.
+fn read(pair: &mut Pair, text: &[u8]) -> Read {
+    let (_, mut state) = pair.hex_start(IMAGE, MAP);
+    for (index, ended) in listing::lines(text).enumerate() {
+        let record = listing::without_end(ended);
+        let (number, next) = line(pair, state, record, IMAGE, MAP);
+        if number != 0 {
+            return refused(index + 1, number);
+        }
+        state = next;
+    }
+    assert_eq!(pair.hex_close(state), 0);
+    Read::Named(sessions::walk(pair))
+}

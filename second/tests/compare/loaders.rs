@@ -1,0 +1,218 @@
+//! The loader: long runs of mixed inputs over one flash.
+
+use second::packet::{self, turned, ADD, CLOSE, OPEN};
+use second::units::{FLASH_END, GROUP_BYTES, PAGE_BYTES};
+
+use crate::boundary::LoaderState;
+use crate::packets::seal;
+use crate::pair::{Pair, Part};
+use crate::random::Random;
+
+pub const FLASH: Part = Part::new(0, 1000, FLASH_END);
+const INPUT: Part = Part::new(1, 3, 300);
+const ANSWER: Part = Part::new(2, 500, 24);
+
+const RUNS: u32 = 12;
+const INPUTS: u32 = 2500;
+
+pub fn compare(pair: &mut Pair) {
+    let mut random = Random::new(2);
+    for run in 0..RUNS {
+        pair.fill_buffer(0, random.byte());
+        pair.fill_buffer(2, 0xAA);
+        if run % 2 == 0 {
+            let bytes = random.bytes(FLASH_END);
+            pair.set(FLASH, &bytes);
+        }
+        let mut state = pair.loader_new();
+        for _ in 0..INPUTS {
+            state = one_input(pair, &mut random, state);
+        }
+    }
+}
+
+fn one_input(pair: &mut Pair, random: &mut Random, state: LoaderState) -> LoaderState {
+    let bytes = input(pair, random, state);
+    let length = bytes.len() as u32;
+    let mut input = match random.below(8) {
+        0 | 1 => FLASH.before(length),
+        2 => ANSWER.before(length),
+        _ => INPUT.with_length(length),
+    };
+    pair.set(input, &bytes);
+    if bytes.is_empty() && random.once_in(2) {
+        input = Part::NULL;
+    }
+    if random.once_in(12) {
+        let made_up = made_up(random, state);
+        pair.loader_take(made_up, input, FLASH, ANSWER);
+        pair.loader_reset(made_up);
+    }
+    let (flash, answer) = lent(random);
+    let (_, _, next) = pair.loader_take(state, input, flash, answer);
+    let leaves = next.condition == 2;
+    if (leaves && random.once_in(2)) || random.once_in(150) {
+        return pair.loader_reset(next);
+    }
+    next
+}
+
+/// Flash and answer buffer, at times of a wrong size.
+fn lent(random: &mut Random) -> (Part, Part) {
+    let length = random.within(24, 40);
+    let whole = (FLASH, ANSWER.with_length(length));
+    match random.below(60) {
+        0 => (FLASH.with_length(FLASH_END - 1), whole.1),
+        1 => (FLASH.with_length(FLASH_END + 1), whole.1),
+        2 => (FLASH.with_length(random.below(FLASH_END)), whole.1),
+        3 => (Part::NULL, whole.1),
+        4 => (FLASH, ANSWER.with_length(random.below(24))),
+        5 => (FLASH, Part::NULL),
+        _ => whole,
+    }
+}
+
+/// A state near this one, or nothing like it.
+fn made_up(random: &mut Random, state: LoaderState) -> LoaderState {
+    let other = LoaderState {
+        groups: random.long() & random.long(),
+        added: random.long() & random.long(),
+        key: random.word(),
+        condition: random.pick(&[0, 1, 1, 1, 1, 2, 3, 255]),
+        read: flag(random),
+        opened: flag(random),
+        added_read: flag(random),
+    };
+    match random.below(4) {
+        0 => LoaderState {
+            condition: other.condition,
+            ..state
+        },
+        1 => LoaderState {
+            opened: other.opened,
+            added: other.added,
+            added_read: other.added_read,
+            ..state
+        },
+        _ => other,
+    }
+}
+
+fn flag(random: &mut Random) -> u8 {
+    let any = random.byte();
+    random.pick(&[0, 0, 0, 1, any])
+}
+
+fn input(pair: &Pair, random: &mut Random, state: LoaderState) -> Vec<u8> {
+    if state.condition == 0 && !random.once_in(4) {
+        return vec![0x08];
+    }
+    let mut bytes = packet(pair, random, state);
+    match random.below(40) {
+        0 => random.damage(&mut bytes),
+        1 => {
+            random.damage(&mut bytes);
+            seal(&mut bytes);
+        }
+        2 => bytes = outside_the_table(random, bytes),
+        3 => {
+            let length = random.below(8);
+            bytes = random.bytes(length);
+        }
+        4 => bytes = vec![0x08],
+        5 => bytes = vec![0x07, 0x0E, random.below(5) as u8],
+        _ => {}
+    }
+    bytes
+}
+
+/// A sound packet with a command, a count or a type of no row.
+fn outside_the_table(random: &mut Random, mut packet: Vec<u8>) -> Vec<u8> {
+    match random.below(3) {
+        0 => packet[3] = random.byte(),
+        1 => packet[3] = random.pick(b"EPR"),
+        _ => packet = built(b'E', random.word(), &[random.byte()]),
+    }
+    if random.once_in(2) {
+        packet[3] = random.pick(b"PR");
+    }
+    seal(&mut packet);
+    packet
+}
+
+/// A packet of the table, with an eye on an open sequence.
+fn packet(pair: &Pair, random: &mut Random, state: LoaderState) -> Vec<u8> {
+    let address = address(random);
+    if state.opened != 0 && !random.once_in(4) {
+        let kind = random.pick(&[ADD, ADD, CLOSE, OPEN]);
+        return built(b'P', address, &[kind]);
+    }
+    match random.below(20) {
+        0 if random.once_in(8) => built(b'E', 0, &[0]),
+        0..=3 => {
+            let any = random.byte();
+            let count = random.pick(&[0, 1, 1, 2, 3, 5, 123, 124, 125, any]);
+            built(b'E', address, &[count])
+        }
+        4..=9 => {
+            let length = length(random);
+            built(b'W', address, &random.bytes(length))
+        }
+        10..=16 => verify(pair, random, address),
+        17 => built(b'P', address, &[OPEN]),
+        18 => {
+            let kind = random.pick(&[OPEN, ADD, CLOSE]);
+            built(b'P', address, &[kind])
+        }
+        _ => {
+            let run = random.pick(&[0, 1, 2, 3, 4, 5, address]);
+            built(b'R', run, &[])
+        }
+    }
+}
+
+/// V of what flash holds, at times with one byte other than it is.
+fn verify(pair: &Pair, random: &mut Random, address: u32) -> Vec<u8> {
+    let length = length(random);
+    let end = u64::from(address) + u64::from(length);
+    let mut plain = match end <= u64::from(FLASH_END) {
+        true => pair.look(FLASH)[address as usize..end as usize].to_vec(),
+        false => random.bytes(length),
+    };
+    if random.once_in(3) {
+        let place = random.place(&plain);
+        plain[place] ^= 1 << random.below(8);
+    }
+    if random.once_in(8) {
+        plain.iter_mut().for_each(|byte| *byte = turned(*byte));
+    }
+    built(b'V', address, &plain)
+}
+
+fn length(random: &mut Random) -> u32 {
+    match random.below(8) {
+        0 => random.pick(&[249, 250]),
+        1 => random.within(1, 250),
+        2 | 3 => random.within(1, 70),
+        _ => random.within(1, 9),
+    }
+}
+
+/// Addresses of every kind: in flash, at the edges, past its end.
+fn address(random: &mut Random) -> u32 {
+    match random.below(10) {
+        0 => random.word(),
+        1 => random.pick(&[0, 1, 2, 3, 16, 40]),
+        2 => random.within(FLASH_END - 260, FLASH_END + 4),
+        3 => random.below(0x1_0010),
+        4 => (random.within(1, 31) * GROUP_BYTES) - random.below(4),
+        5 => (random.within(1, 124) * PAGE_BYTES) - random.below(4),
+        _ => random.below(FLASH_END),
+    }
+}
+
+pub fn built(command: u8, address: u32, data: &[u8]) -> Vec<u8> {
+    let mut buffer = [0; packet::LONGEST];
+    let length = packet::build(&mut buffer, command, address, data).expect("of the table");
+    buffer[..length].to_vec()
+}

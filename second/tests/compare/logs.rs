@@ -1,0 +1,96 @@
+//! The service log: records written from sessions, and read.
+
+use crate::boundary::SessionState;
+use crate::pair::{Pair, Part};
+use crate::random::Random;
+
+const RECORD: Part = Part::new(0, 60, 10);
+const INPUT: Part = Part::new(1, 7, 20);
+
+pub fn compare(pair: &mut Pair) {
+    let mut random = Random::new(5);
+    pair.fill_buffer(0, 0x5A);
+    for _ in 0..6000 {
+        write(pair, &mut random);
+    }
+    for _ in 0..150 {
+        read_damaged(pair, &mut random);
+    }
+    for _ in 0..6000 {
+        let length = random.pick(&[8, 9, 10, 10, 10, 10, 11, 20]);
+        let mut bytes = random.bytes(length);
+        bytes[..3].copy_from_slice(&[0, 8, 1]);
+        bytes[3] = random.pick(&[0, 40, 41, 42, 43, bytes[3]]);
+        read(pair, &bytes);
+    }
+    pair.log_read(Part::NULL);
+}
+
+fn write(pair: &mut Pair, random: &mut Random) {
+    let state = session(random);
+    let length = random.pick(&[0, 9, 10, 10, 10, 10, 11, 30]);
+    let buffer = match length {
+        0 => Part::NULL,
+        _ => RECORD.with_length(length),
+    };
+    let written = pair.log_write(state, buffer);
+    pair.session_outcome(state);
+    if written > 0 {
+        let bytes = pair.look(buffer).to_vec();
+        read(pair, &bytes);
+    }
+}
+
+/// A session that has mostly ended, with counts around each limit.
+fn session(random: &mut Random) -> SessionState {
+    let (any, low) = (random.word(), random.below(70_000));
+    let total = random.pick(&[0, 3, 4, 5, 6, 510, 0xFFFF, 0x1_0000, 0x1_0004, low, any]);
+    let acknowledged = match random.below(6) {
+        0 => 0,
+        1 => total.wrapping_sub(1),
+        2 => total.wrapping_add(1),
+        3 => any,
+        _ => total,
+    };
+    SessionState {
+        run: random.below(3),
+        phase: random.pick(&[5, 5, 5, 5, 5, 5, 5, 0, 1, 4, 6, any]),
+        place: random.pick(&[0, 0, 0, 0, 40, 41, 42, 43, 44, 39, any]),
+        acknowledged,
+        total,
+        named: random.pick(&[0, 1, 2, 63_488, 63_489, 65_535, 65_536, 65_537, low]),
+    }
+}
+
+/// A valid record, and it with each byte damaged and at each length.
+fn read_damaged(pair: &mut Pair, random: &mut Random) {
+    let total = random.within(4, 0xFFFF) as u16;
+    let outcome = random.pick(&[0, 40, 41, 42, 43]);
+    let acknowledged = match outcome {
+        0 => total,
+        42 => 0,
+        _ => random.below(total.into()) as u16,
+    };
+    let named = random.within(1, 63_488) as u16;
+    let mut valid = vec![0, 8, 1, outcome];
+    for count in [acknowledged, total, named] {
+        valid.extend(count.to_be_bytes());
+    }
+    read(pair, &valid);
+    for place in 0..valid.len() {
+        for bit in 0..8 {
+            let mut damaged = valid.clone();
+            damaged[place] ^= 1 << bit;
+            read(pair, &damaged);
+        }
+        read(pair, &valid[..place]);
+    }
+    valid.extend(random.bytes(1));
+    read(pair, &valid);
+}
+
+fn read(pair: &mut Pair, bytes: &[u8]) {
+    let part = INPUT.with_length(bytes.len() as u32);
+    pair.set(part, bytes);
+    pair.log_read(part);
+}

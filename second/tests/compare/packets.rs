@@ -1,0 +1,128 @@
+//! Packets: turned bytes, the builder and the reader.
+
+use second::packet::{self, ADD, CLOSE, OPEN};
+
+use crate::pair::{Pair, Part};
+use crate::random::Random;
+
+const COMMANDS: [u8; 5] = *b"EWVPR";
+const OUTPUT: Part = Part::new(0, 777, 300);
+const INPUT: Part = Part::new(1, 5, 300);
+
+pub fn compare(pair: &mut Pair) {
+    let mut random = Random::new(1);
+    for byte in 0..=255 {
+        pair.turned(byte);
+        pair.restored(byte);
+    }
+    pair.fill_buffer(0, 0xAA);
+    for command in 0..=255 {
+        for length in [0, 1, 2, 250, 251] {
+            build(pair, &mut random, OUTPUT, command, length);
+        }
+    }
+    for command in COMMANDS {
+        for length in 0..=300 {
+            build(pair, &mut random, OUTPUT, command, length);
+        }
+        for length in 0..=300 {
+            let plain = random.within(0, 2);
+            build(
+                pair,
+                &mut random,
+                OUTPUT.with_length(length),
+                command,
+                plain,
+            );
+        }
+    }
+    for kind in 0..=255 {
+        pair.set(INPUT.with_length(1), &[kind]);
+        pair.packet_build(OUTPUT, b'P', random.word(), INPUT.with_length(1));
+    }
+    pair.packet_build(Part::NULL, b'R', 1, Part::NULL);
+    pair.packet_build(OUTPUT, b'R', 1, Part::NULL);
+    for _ in 0..3000 {
+        let output = OUTPUT.with_length(random.within(250, 300));
+        let command = random.pick(&COMMANDS);
+        let length = random.within(0, 252);
+        build(pair, &mut random, output, command, length);
+    }
+    read(pair, &mut random);
+}
+
+fn build(pair: &mut Pair, random: &mut Random, output: Part, command: u8, length: u32) {
+    let input = random.pick(&[
+        INPUT.with_length(length),
+        output.before(length),
+        output.behind(length),
+    ]);
+    let mut plain = random.bytes(length);
+    if command == b'P' && length == 1 {
+        plain[0] = random.pick(&[OPEN, ADD, CLOSE, 0x02, 0x10]);
+    }
+    pair.set(input, &plain);
+    pair.packet_build(output, command, random.word(), input);
+}
+
+fn read(pair: &mut Pair, random: &mut Random) {
+    pair.packet_read(Part::NULL);
+    for count in 0..=255 {
+        for command in COMMANDS {
+            read_input(pair, &raw(random, command, count));
+            for _ in 0..8 {
+                let mut input = raw(random, command, count);
+                random.damage(&mut input);
+                read_input(pair, &input);
+            }
+        }
+        for length in 0..=12 {
+            let mut input = raw(random, b'W', count);
+            input.truncate(length);
+            read_input(pair, &input);
+        }
+    }
+    for command in 0..=255 {
+        let count = random.within(5, 8) as u8;
+        read_input(pair, &raw(random, command, count));
+    }
+    for kind in 0..=255 {
+        let mut input = raw(random, b'P', 6);
+        input[packet::FRONT] = kind;
+        seal(&mut input);
+        read_input(pair, &input);
+    }
+    for _ in 0..3000 {
+        let length = random.within(0, 12);
+        let mut input = random.bytes(length);
+        for (byte, start) in input.iter_mut().zip([0x07, 0x0E]) {
+            *byte = if random.once_in(8) { *byte } else { start };
+        }
+        read_input(pair, &input);
+    }
+}
+
+fn read_input(pair: &mut Pair, input: &[u8]) {
+    let part = INPUT.with_length(input.len() as u32);
+    pair.set(part, input);
+    pair.packet_read(part);
+}
+
+/// A packet with this count, right in its sum if in nothing else.
+fn raw(random: &mut Random, command: u8, count: u8) -> Vec<u8> {
+    let mut packet = vec![0x07, 0x0E, count];
+    packet.extend(random.bytes(u32::from(count) + 1));
+    packet[3] = command;
+    if command == b'P' && count == 6 {
+        packet[packet::FRONT] = random.pick(&[OPEN, ADD, CLOSE]);
+    }
+    seal(&mut packet);
+    packet
+}
+
+/// Makes the last byte the right checksum.
+pub fn seal(packet: &mut [u8]) {
+    if let [_, _, summed @ .., last] = packet {
+        *last = packet::checksum(summed);
+    }
+}

@@ -1,0 +1,165 @@
+//! The product's programs on whole texts, byte for byte.
+
+use std::io::{Read, Write};
+use std::process::Stdio;
+use std::thread;
+
+use second::listing;
+
+use crate::examples;
+use crate::files;
+use crate::random::Random;
+use crate::root;
+
+const PLANS: u32 = 700;
+const LOGS: u32 = 400;
+
+/// What a program prints for an input.
+pub fn printed(path: &str, input: &[u8]) -> Vec<u8> {
+    let mut child = root::program(path)
+        .stdin(Stdio::piped())
+        .stdout(Stdio::piped())
+        .spawn()
+        .expect("the program starts");
+    let mut stdin = child.stdin.take().expect("a pipe");
+    let mut stdout = child.stdout.take().expect("a pipe");
+    let mut output = Vec::new();
+    thread::scope(|scope| {
+        // a program may end before it has read everything
+        scope.spawn(move || stdin.write_all(input).ok());
+        stdout.read_to_end(&mut output).expect("its output");
+    });
+    let status = child.wait().expect("its status");
+    assert!(status.success(), "{path}: {status}");
+    output
+}
+
+pub fn alike(path: &str, input: &[u8], expected: &[u8]) {
+    let given = printed(path, input);
+    if given != expected {
+        panic!(
+            "{path} differs\ninput    {:?}\nexpected {:?}\ngiven    {:?}",
+            String::from_utf8_lossy(input),
+            String::from_utf8_lossy(expected),
+            String::from_utf8_lossy(&given)
+        );
+    }
+}
+
+pub fn compare_plan() -> usize {
+    let mut random = Random::new(7);
+    let fixed: [&[u8]; 4] = [b"", b"\n", b"\r\n", b":020200001234B6\n:00000001FF\n"];
+    let mut texts: Vec<Vec<u8>> = fixed.map(<[u8]>::to_vec).into();
+    texts.extend(examples::texts());
+    texts.extend((0..PLANS).map(|_| plan_text(&mut random)));
+    for text in &texts {
+        alike("target/bin/plan", text, listing::plan(text).as_bytes());
+    }
+    texts.len()
+}
+
+pub fn compare_readlog() -> usize {
+    let mut random = Random::new(8);
+    for _ in 0..LOGS {
+        let input = log_input(&mut random);
+        let expected = listing::readlog(&input);
+        alike("target/bin/readlog", &input, expected.as_bytes());
+    }
+    LOGS as usize
+}
+
+/// A hex file, right or wrong in some way, with line ends of some kind.
+fn plan_text(random: &mut Random) -> Vec<u8> {
+    if random.once_in(20) {
+        let length = random.below(300);
+        return random.bytes(length);
+    }
+    let mut records = data_records(random);
+    if random.once_in(2) {
+        let place = random.below(records.len() as u32 + 1) as usize;
+        records.insert(place, odd_record(random));
+    }
+    if !random.once_in(8) {
+        records.push(files::END.to_vec());
+    }
+    if random.once_in(12) {
+        records.push(odd_record(random));
+    }
+    if random.once_in(10) && !records.is_empty() {
+        let again = records[random.below(records.len() as u32) as usize].clone();
+        records.insert(0, again);
+    }
+    let style = match random.below(16) {
+        0 => random.pick(&[&b"\r\r\n"[..], b"\r", b" \n"]),
+        _ => random.pick(&[&b"\n"[..], b"\r\n"]),
+    };
+    let mixed = random.once_in(6);
+    let mut text = Vec::new();
+    for record in records {
+        text.extend(record);
+        let other = random.pick(&[&b"\n"[..], b"\r\n"]);
+        text.extend(if mixed { other } else { style });
+    }
+    match random.below(6) {
+        0 => drop(text.pop()),
+        1 => text.extend(style),
+        2 if random.once_in(2) => random.damage(&mut text),
+        _ => {}
+    }
+    text
+}
+
+/// Data records that do not meet, in any order.
+fn data_records(random: &mut Random) -> Vec<Vec<u8>> {
+    let mut records = Vec::new();
+    let mut address = random.below(0xF000);
+    let count = random.below(24);
+    for _ in 0..count {
+        let longest = random.pick(&[1, 16, 16, 32, 255]);
+        let length = random.within(1, longest);
+        if address + length > 0xF800 {
+            break;
+        }
+        let data = random.bytes(length);
+        let place = random.below(records.len() as u32 + 1) as usize;
+        records.insert(place, files::encoded(address as u16, 0, &data));
+        let gap = random.pick(&[0, 0, 0, 1, 300, 2000]);
+        address += length + gap;
+    }
+    records
+}
+
+/// Any record, or a line longer than every record.
+fn odd_record(random: &mut Random) -> Vec<u8> {
+    if random.once_in(6) {
+        let digits = random.pick(&[521, 522, 523, 1000, 5000]);
+        let mut line = vec![b'0'; digits];
+        line[0] = b':';
+        return line;
+    }
+    files::text(random)
+}
+
+/// A log record with counts around each limit, often damaged.
+fn log_input(random: &mut Random) -> Vec<u8> {
+    let total: u16 = random.pick(&[4, 5, 6, 510, 0xFFFF, 3]);
+    let acknowledged = random.pick(&[0, total - 1, total, total, total.wrapping_add(1)]);
+    let named: u16 = random.pick(&[1, 2, 300, 63_488, 63_489, 0]);
+    let outcome = match acknowledged == total {
+        true => random.pick(&[0, 0, 0, 0, 40]),
+        false => random.pick(&[40, 41, 42, 43, 0, 44]),
+    };
+    let mut input = vec![0, 8, 1, outcome];
+    for count in [acknowledged, total, named] {
+        input.extend(count.to_be_bytes());
+    }
+    match random.below(6) {
+        0 | 1 => random.damage(&mut input),
+        2 => {
+            let length = random.pick(&[0, 1, 9, 10, 11, 5000]);
+            input = random.bytes(length);
+        }
+        _ => {}
+    }
+    input
+}

@@ -1,0 +1,681 @@
+//! The paper's printed cases and limits.
+
+use second::hex::{self, Reader};
+use second::line::{rehearse, Exchange};
+use second::listing;
+use second::loader::{Condition, Loader, Protection, GREETING, NO_KEY};
+use second::log;
+use second::packet::{self, Command};
+use second::session::{Event, Outcome, Phase, Run, Session};
+use second::units::{ByteAddress, Page, FLASH_BYTES, MAP_BYTES};
+use second::Refusal;
+
+fn built(command: Command, address: u32, data: &[u8]) -> Vec<u8> {
+    let mut buffer = [0; packet::LONGEST];
+    let length = packet::build(&mut buffer, command.byte(), address, data).unwrap();
+    buffer[..length].to_vec()
+}
+
+/// A loader that serves, with its flash.
+struct Served {
+    loader: Loader,
+    flash: Vec<u8>,
+}
+
+impl Served {
+    fn new(filling: u8) -> Served {
+        let mut served = Served {
+            loader: Loader::factory(),
+            flash: vec![filling; FLASH_BYTES],
+        };
+        assert_eq!(served.input(&[0x08]), Ok(GREETING.to_vec()));
+        served
+    }
+
+    /// Takes an input, and sees that refusals leave everything as it stood.
+    fn input(&mut self, input: &[u8]) -> Result<Vec<u8>, u8> {
+        let mut answer = [0xAA; 30];
+        let (loader, flash) = (self.loader, self.flash.clone());
+        match self.loader.take(input, &mut self.flash, &mut answer) {
+            Ok(length) => {
+                assert!(answer[length..].iter().all(|byte| *byte == 0xAA));
+                Ok(answer[..length].to_vec())
+            }
+            Err(refusal) => {
+                let written = usize::from(refusal.answered());
+                assert!(answer[..written].iter().all(|byte| *byte == 0x07));
+                assert!(answer[written..].iter().all(|byte| *byte == 0xAA));
+                assert!(self.loader == loader && self.flash == flash);
+                Err(refusal.number())
+            }
+        }
+    }
+
+    fn give(&mut self, command: Command, address: u32, data: &[u8]) -> Result<Vec<u8>, u8> {
+        self.input(&built(command, address, data))
+    }
+}
+
+fn protection(groups: u64, read: bool) -> Protection {
+    Protection { groups, read }
+}
+
+fn ack() -> Result<Vec<u8>, u8> {
+    Ok(vec![0x06])
+}
+
+#[test]
+fn bytes_are_turned_as_table_5_says() {
+    assert_eq!(packet::turned(0x81), 0x0C);
+    assert_eq!(packet::turned(0x12), 0x90);
+    assert_eq!(packet::turned(0x34), 0xA1);
+    for byte in 0..=255u8 {
+        let product = u32::from(byte) * 8 % 256 + u32::from(byte) / 32;
+        assert_eq!(u32::from(packet::turned(byte)), product);
+        assert_eq!(packet::restored(packet::turned(byte)), byte);
+    }
+}
+
+#[test]
+fn printed_packet_checksums() {
+    let last = |bytes: Vec<u8>| *bytes.last().unwrap();
+    assert_eq!(last(built(Command::Run, 1, &[])), 0xA8);
+    assert_eq!(last(built(Command::Protect, 0x1234_5678, &[1])), 0x95);
+    assert_eq!(last(built(Command::Protect, 0xF800, &[0x0F])), 0xA3);
+    assert_eq!(last(built(Command::Protect, 0x800, &[0x0F])), 0x93);
+}
+
+#[test]
+fn builder_refuses_in_order_and_leaves_the_buffer() {
+    let refused = |length: usize, command: u8, data: &[u8]| {
+        let mut buffer = vec![0xAA; length];
+        let refusal = packet::build(&mut buffer, command, 0, data).unwrap_err();
+        assert!(buffer.iter().all(|byte| *byte == 0xAA));
+        refusal
+    };
+    assert_eq!(refused(258, 0x00, &[0; 251]), Refusal::Size);
+    assert_eq!(refused(259, 0x00, &[0; 251]), Refusal::Command);
+    for (command, data) in [
+        (b'E', &[][..]),
+        (b'E', &[1, 1]),
+        (b'W', &[]),
+        (b'W', &[0; 251]),
+        (b'V', &[]),
+        (b'V', &[0; 251]),
+        (b'P', &[]),
+        (b'P', &[2]),
+        (b'P', &[0, 0]),
+        (b'R', &[0]),
+    ] {
+        assert_eq!(refused(259, command, data), Refusal::Shape);
+    }
+}
+
+#[test]
+fn builder_touches_nothing_past_the_packet() {
+    let mut buffer = [0xAA; 300];
+    let length = packet::build(&mut buffer, b'V', 0xFFFF_FFFF, &[0x12; 250]).unwrap();
+    assert_eq!(length, 259);
+    assert!(buffer[8..258].iter().all(|byte| *byte == 0x90));
+    assert!(buffer[259..].iter().all(|byte| *byte == 0xAA));
+}
+
+#[test]
+fn reader_refuses_in_order() {
+    let number = |input: &[u8]| packet::read(input).unwrap_err().number();
+    assert_eq!(number(&[]), 1);
+    assert_eq!(number(&[0x07]), 1);
+    assert_eq!(number(&[0x07, 0x0F, 4]), 1);
+    assert_eq!(number(&[0x07, 0x0E]), 2);
+    assert_eq!(number(&[0x07, 0x0E, 4]), 3);
+    assert_eq!(number(&[0x07, 0x0E, 5]), 2);
+    assert_eq!(number(&[0x07, 0x0E, 5, 0, 0, 0, 0, 0, 0]), 4);
+    assert_eq!(number(&[0x07, 0x0E, 5, 0, 0, 0, 0, 0, 0xFB]), 5);
+    assert_eq!(number(&[0x07, 0x0E, 5, b'E', 0, 0, 0, 0, 0xB6]), 6);
+}
+
+#[test]
+fn loader_refuses_20_then_11() {
+    let mut loader = Loader::factory();
+    let mut take = |input: &[u8], flash: usize, answer: usize| {
+        let (mut flash, mut answer) = (vec![0; flash], vec![0; answer]);
+        loader.take(input, &mut flash, &mut answer)
+    };
+    assert_eq!(take(&[], FLASH_BYTES - 1, 24), Err(Refusal::Size));
+    assert_eq!(take(&[], FLASH_BYTES + 1, 24), Err(Refusal::Size));
+    assert_eq!(take(&[], FLASH_BYTES, 23), Err(Refusal::Size));
+    assert_eq!(take(&[], FLASH_BYTES, 24), Err(Refusal::NotServing));
+    assert_eq!(take(&[8, 8], FLASH_BYTES, 24), Err(Refusal::NotServing));
+    assert_eq!(take(&[8], FLASH_BYTES, 100), Ok(24));
+}
+
+#[test]
+fn erase_limits() {
+    let mut served = Served::new(0x00);
+    assert_eq!(served.give(Command::Erase, 0x01FF, &[1]), ack());
+    assert!(served.flash[..512].iter().all(|byte| *byte == 0xFF));
+    assert!(served.flash[512..].iter().all(|byte| *byte == 0x00));
+    assert_eq!(served.give(Command::Erase, 0xF600, &[2]), Err(7));
+    assert_eq!(served.give(Command::Erase, 0xF600, &[1]), ack());
+    assert_eq!(served.give(Command::Erase, 1, &[0]), Err(7));
+    assert_eq!(served.give(Command::Erase, 0xF800, &[1]), Err(7));
+    assert_eq!(served.give(Command::Erase, 0xFFFF_FFFF, &[255]), Err(7));
+    assert_eq!(served.give(Command::Erase, 0, &[125]), Err(7));
+    assert_eq!(served.give(Command::Erase, 0, &[124]), ack());
+    assert!(served.flash.iter().all(|byte| *byte == 0xFF));
+}
+
+#[test]
+fn write_and_verify_limits() {
+    let mut served = Served::new(0xF0);
+    assert_eq!(served.give(Command::Write, 0xF7FF, &[0, 0]), Err(7));
+    assert_eq!(served.give(Command::Verify, 0xF7FF, &[0, 0]), Err(7));
+    assert_eq!(served.give(Command::Write, 0xFFFF_FFFF, &[0; 250]), Err(7));
+    assert_eq!(served.give(Command::Write, 0xF7FF, &[0x0F]), ack());
+    assert_eq!(served.flash[0xF7FF], 0x00);
+    assert_eq!(served.give(Command::Verify, 0xF7FF, &[0x0F]), Err(10));
+    assert_eq!(served.give(Command::Verify, 0xF7FE, &[0xF0, 0x00]), ack());
+}
+
+#[test]
+fn protection_takes_effect_at_the_closing_packet() {
+    let mut served = Served::new(0xFF);
+    assert_eq!(served.give(Command::Protect, 0, &[0x0F]), Err(9));
+    assert_eq!(served.give(Command::Protect, 0, &[0x01]), Err(9));
+    assert_eq!(served.give(Command::Protect, 7, &[0x00]), ack());
+    assert_eq!(served.give(Command::Protect, 7, &[0x00]), Err(9));
+    assert_eq!(served.give(Command::Erase, 0, &[0]), Err(9));
+    assert_eq!(served.give(Command::Write, 0xF800, &[0]), Err(9));
+    assert_eq!(served.give(Command::Verify, 0, &[0xFF]), Err(9));
+    assert_eq!(served.give(Command::Run, 0, &[]), Err(9));
+    assert_eq!(served.give(Command::Protect, 0x200, &[0x0F]), ack());
+    assert_eq!(served.give(Command::Protect, 0xF7FF, &[0x0F]), ack());
+    assert_eq!(served.give(Command::Protect, 0x1_0000, &[0x0F]), Err(7));
+    assert_eq!(served.give(Command::Protect, 0xFFFF, &[0x0F]), ack());
+    assert_eq!(served.loader.protection, Protection::default());
+    assert_eq!(served.give(Command::Protect, 0x1234_5678, &[0x01]), ack());
+    assert_eq!(served.loader.key, 0x1234_5678);
+    assert_eq!(served.loader.protection, protection(0x4000_0001, true));
+    assert_eq!(served.give(Command::Write, 0x7FF, &[0]), Err(8));
+    assert_eq!(served.give(Command::Write, 0x800, &[0xFF]), ack());
+    assert_eq!(served.give(Command::Erase, 0x600, &[1]), Err(8));
+    assert_eq!(served.give(Command::Erase, 0x800, &[117]), Err(8));
+    assert_eq!(served.give(Command::Erase, 0x800, &[116]), ack());
+    assert_eq!(served.give(Command::Verify, 0x800, &[0x00]), Err(8));
+    assert_eq!(served.give(Command::Erase, 0, &[0]), ack());
+    assert_eq!(served.loader.protection, Protection::default());
+    assert_eq!(served.loader.key, NO_KEY);
+}
+
+#[test]
+fn reset_drops_a_sequence_and_keeps_protection() {
+    let mut served = Served::new(0xFF);
+    served.loader.protection = protection(5, false);
+    served.loader.key = 6;
+    assert_eq!(served.give(Command::Protect, 0, &[0x00]), ack());
+    served.loader.reset();
+    let expected = Loader {
+        condition: Condition::Waiting,
+        protection: protection(5, false),
+        key: 6,
+        sequence: None,
+    };
+    assert_eq!(served.loader, expected);
+}
+
+#[test]
+fn run_leaves() {
+    let mut served = Served::new(0xFF);
+    assert_eq!(served.give(Command::Run, 2, &[]), Err(7));
+    assert_eq!(served.give(Command::Run, 1, &[]), ack());
+    assert_eq!(served.give(Command::Run, 1, &[]), Err(11));
+    assert_eq!(served.input(&[0x08]), Err(11));
+    served.loader.reset();
+    assert_eq!(served.input(&[0x08]).map(|answer| answer.len()), Ok(24));
+    assert_eq!(served.give(Command::Run, 0, &[]), ack());
+}
+
+/// A reader with its image and map.
+#[derive(Clone, PartialEq, Debug)]
+struct Reading {
+    reader: Reader,
+    image: Vec<u8>,
+    map: Vec<u8>,
+}
+
+impl Reading {
+    fn new() -> Reading {
+        let (mut image, mut map) = (vec![0; FLASH_BYTES], vec![1; MAP_BYTES]);
+        let reader = Reader::start(&mut image, &mut map).unwrap();
+        assert!(image.iter().all(|byte| *byte == 0xFF) && map.iter().all(|byte| *byte == 0));
+        Reading { reader, image, map }
+    }
+
+    fn of(records: &[&str]) -> Reading {
+        let mut reading = Reading::new();
+        for record in records {
+            assert_eq!(reading.record(record), 0);
+        }
+        reading
+    }
+
+    /// The refusal number, 0 for none; refusals leave everything as it stood.
+    fn record(&mut self, text: &str) -> u8 {
+        let before = self.clone();
+        let text = text.as_bytes();
+        match self.reader.record(text, &mut self.image, &mut self.map) {
+            Ok(()) => 0,
+            Err(refusal) => {
+                assert_eq!(*self, before);
+                refusal.number()
+            }
+        }
+    }
+
+    fn session(&self, run: Run) -> Session {
+        let mut packet = [0xAA; packet::LONGEST];
+        let (session, length) = Session::start(run, &self.image, &self.map, &mut packet).unwrap();
+        assert_eq!((length, packet[0], packet[1]), (1, 0x08, 0xAA));
+        session
+    }
+
+    fn step(&self, session: Session, event: Event) -> Result<(Session, Vec<u8>), u8> {
+        let mut packet = [0xAA; 300];
+        match session.step(event, &self.image, &self.map, &mut packet) {
+            Ok((next, length)) => {
+                assert!(packet[length..].iter().all(|byte| *byte == 0xAA));
+                Ok((next, packet[..length].to_vec()))
+            }
+            Err(refusal) => Err(refusal.number()),
+        }
+    }
+
+    fn ending(&self, session: Session, event: Event) -> Phase {
+        let (next, packet) = self.step(session, event).unwrap();
+        assert!(packet.is_empty());
+        next.phase
+    }
+}
+
+#[test]
+fn printed_records() {
+    assert_eq!(Reading::new().record(":020000001234B8"), 0);
+    assert_eq!(Reading::new().record(":00000001FF"), 0);
+    assert_eq!(Reading::new().record(":020000040108EA"), 26);
+    assert_eq!(Reading::new().record(":020000040108F1"), 0);
+    assert_eq!(Reading::new().record(":0200000212FFBD"), 26);
+    assert_eq!(Reading::new().record(":0200000212FFEB"), 0);
+    assert_eq!(Reading::new().record(":0401000090FFAA5502"), 26);
+    assert_eq!(Reading::new().record(":0401000090FFAA556D"), 0);
+    assert_eq!(Reading::new().record(":0401000090ffaa556d"), 0);
+}
+
+#[test]
+fn empty_data_is_accepted_anywhere() {
+    let mut reading = Reading::new();
+    assert_eq!(reading.record(":00FFFF0002"), 0);
+    assert_eq!(reading, Reading::new());
+    assert_eq!(reading.record(":00000001FF"), 0);
+    assert_eq!(reading.reader.close(), Err(Refusal::NoData));
+}
+
+#[test]
+fn record_refusals() {
+    let mut reading = Reading::of(&[":020000001234B8"]);
+    for (record, number) in [
+        ("", 22),
+        ("020000001234B8", 22),
+        (":00000001F", 23),
+        (":0000000", 23),
+        (":000000G1FF", 24),
+        (":010000001234B8", 25),
+        (":020000001234B9", 26),
+        (":00000006FA", 27),
+        (":0100000100FE", 28),
+        (":00000101FE", 28),
+        (":0100000200FD", 28),
+        (":020001020000FB", 28),
+        (":0400000300000000F9", 28),
+        (":0400000500000000F7", 28),
+        (":02F7FF00000008", 29),
+        (":01F800000007", 29),
+        (":010001000AF4", 30),
+    ] {
+        assert_eq!(reading.record(record), number, "{record}");
+    }
+    assert_eq!(reading.record(":01F7FF000009"), 0);
+    assert_eq!(reading.record(":020000030000FB"), 0);
+    assert_eq!(reading.record(":02000005FFFFFB"), 0);
+    assert_eq!(reading.reader.close(), Err(Refusal::NoEndRecord));
+    assert_eq!(reading.record(":00000001FF"), 0);
+    assert_eq!(reading.record(""), 21);
+    assert_eq!(reading.reader.close(), Ok(()));
+}
+
+#[test]
+fn bases_add_without_wrap() {
+    let mut reading = Reading::of(&[":02000002F7FF06"]);
+    assert_eq!(reading.reader.segment, 0xF7FF0);
+    assert_eq!(reading.record(":0100000000FF"), 29);
+    assert_eq!(reading.record(":02000002001FDD"), 0);
+    assert_eq!(reading.record(":020010001234A8"), 0);
+    assert_eq!(reading.image[0x200..0x202], [0x12, 0x34]);
+    assert_eq!(reading.map[0x40], 3);
+    reading.reader.linear = 0xFFFF_FFFF;
+    reading.reader.segment = 1;
+    assert_eq!(reading.record(":0100000000FF"), 29);
+    assert_eq!(reading.record(":0000000000"), 0);
+}
+
+#[test]
+fn longest_record() {
+    let zeros = "0".repeat(510);
+    assert_eq!(Reading::new().record(&format!(":FF000000{zeros}01")), 0);
+    assert_eq!(Reading::new().record(&format!(":FF000000{zeros}0001")), 23);
+}
+
+fn written(reading: &Reading) -> Vec<String> {
+    let mut records = Vec::new();
+    let mut from = 0;
+    loop {
+        let mut buffer = [0xAA; 50];
+        let (length, next) = hex::write(&reading.image, &reading.map, from, &mut buffer).unwrap();
+        assert!(buffer[length..].iter().all(|byte| *byte == 0xAA));
+        if length == 0 {
+            assert_eq!((from, next), (0xF801, 0xF801));
+            return records;
+        }
+        let text = std::str::from_utf8(&buffer[..length]).unwrap();
+        records.push(text.strip_suffix('\n').unwrap().to_string());
+        from = next;
+    }
+}
+
+#[test]
+fn written_file_reads_back() {
+    let zeros = "0".repeat(510);
+    let first = format!(":FF000E00{zeros}F3");
+    let mut reading = Reading::of(&[&first, ":01F7FF005AAF", ":00000001FF"]);
+    let records = written(&reading);
+    assert_eq!(records[0], ":02000E000000F0");
+    assert_eq!(records.len(), 1 + 15 + 1 + 1 + 1);
+    assert_eq!(records[16], ":0D01000000000000000000000000000000F2");
+    assert_eq!(records[17], ":01F7FF005AAF");
+    assert_eq!(records[18], ":00000001FF");
+    let records: Vec<&str> = records.iter().map(String::as_str).collect();
+    assert_eq!(Reading::of(&records), reading);
+    let mut short = [0xAA; 43];
+    let refusal = hex::write(&reading.image, &reading.map, u32::MAX, &mut short);
+    assert_eq!(refusal, Err(Refusal::RecordBuffer));
+    reading.image.pop();
+    let refusal = hex::write(&reading.image, &reading.map, 0, &mut short);
+    assert_eq!(refusal, Err(Refusal::Size));
+    assert_eq!(short, [0xAA; 43]);
+}
+
+fn plan_file() -> Reading {
+    Reading::of(&[":020200001234B6", ":00000001FF"])
+}
+
+fn greeted(reading: &Reading, run: Run) -> Session {
+    let session = reading.session(run);
+    let mut greeting = *GREETING;
+    greeting[15..22].fill(0);
+    reading.step(session, Event::Answer(&greeting)).unwrap().0
+}
+
+#[test]
+fn full_file_is_one_erase_and_254_pieces() {
+    let reading = Reading {
+        image: vec![0x00; FLASH_BYTES],
+        map: vec![0xFF; MAP_BYTES],
+        ..Reading::new()
+    };
+    let session = reading.session(Run::Reset);
+    assert_eq!((session.total, session.named), (1 + 2 * 254 + 1, 63_488));
+    let (_, erase) = reading.step(session, Event::Answer(GREETING)).unwrap();
+    assert_eq!(erase, built(Command::Erase, 0, &[124]));
+}
+
+#[test]
+fn start_refusals() {
+    let reading = Reading::new();
+    let start = |image: &[u8], map: &[u8], length: usize| {
+        let mut packet = vec![0xAA; length];
+        let refusal = Session::start(Run::Reset, image, map, &mut packet).unwrap_err();
+        assert!(packet.iter().all(|byte| *byte == 0xAA));
+        refusal
+    };
+    assert_eq!(start(&reading.image[1..], &reading.map, 259), Refusal::Size);
+    assert_eq!(start(&reading.image, &reading.map[1..], 259), Refusal::Size);
+    assert_eq!(start(&reading.image, &reading.map, 258), Refusal::Size);
+    assert_eq!(start(&reading.image, &reading.map, 259), Refusal::NoData);
+}
+
+#[test]
+fn greeting_is_exact_where_the_paper_says() {
+    let reading = plan_file();
+    let session = reading.session(Run::Reset);
+    for place in 0..24 {
+        let mut greeting = *GREETING;
+        greeting[place] ^= 1;
+        let (next, _) = reading.step(session, Event::Answer(&greeting)).unwrap();
+        let free = (15..22).contains(&place);
+        let expected = match free {
+            true => Phase::Erase(Page(1)),
+            false => Phase::Ended(Outcome::WrongGreeting),
+        };
+        assert_eq!(next.phase, expected);
+    }
+    for answer in [&[][..], &[0x06], &GREETING[..23], &[0; 25]] {
+        let phase = reading.ending(session, Event::Answer(answer));
+        assert_eq!(phase, Phase::Ended(Outcome::WrongGreeting));
+    }
+}
+
+#[test]
+fn endings_while_packets_are_sent() {
+    let reading = plan_file();
+    let session = greeted(&reading, Run::Reset);
+    for (event, outcome) in [
+        (Event::Silence, Outcome::Silent),
+        (Event::Answer(&[0x07]), Outcome::Refused),
+        (Event::Answer(&[]), Outcome::WrongAnswer),
+        (Event::Answer(&[0x06, 0x06]), Outcome::WrongAnswer),
+        (Event::Answer(&[0x07, 0x07]), Outcome::WrongAnswer),
+        (Event::Answer(&[0x08]), Outcome::WrongAnswer),
+    ] {
+        assert_eq!(reading.ending(session, event), Phase::Ended(outcome));
+    }
+}
+
+#[test]
+fn jump_session_runs_at_0() {
+    let reading = plan_file();
+    let mut session = greeted(&reading, Run::Jump);
+    let ack = Event::Answer(&[0x06]);
+    let mut last = Vec::new();
+    for _ in 0..3 {
+        assert_eq!(session.proved(&reading.map, 0x200), Ok(false));
+        (session, last) = reading.step(session, ack).unwrap();
+    }
+    assert_eq!(last, built(Command::Run, 0, &[]));
+    assert_eq!(session.proved(&reading.map, 0x201), Ok(true));
+    assert_eq!(session.proved(&reading.map, 0x202), Ok(false));
+    assert_eq!(reading.ending(session, ack), Phase::Ended(Outcome::Valid));
+    assert_eq!(
+        reading.ending(session, Event::Silence),
+        Phase::Ended(Outcome::Silent)
+    );
+}
+
+#[test]
+fn step_refusals() {
+    let reading = plan_file();
+    let session = greeted(&reading, Run::Reset);
+    let ack = Event::Answer(&[0x06]);
+    let mut short = [0; 258];
+    let refusal = session.step(ack, &reading.image, &reading.map, &mut short);
+    assert_eq!(refusal, Err(Refusal::Size));
+    let made_up = |change: fn(&mut Session)| {
+        let mut session = session;
+        change(&mut session);
+        reading.step(session, ack).map(|_| ())
+    };
+    assert_eq!(made_up(|s| s.phase = Phase::Ended(Outcome::Valid)), Err(44));
+    assert_eq!(made_up(|s| s.total = 5), Err(46));
+    assert_eq!(made_up(|s| s.named = 3), Err(46));
+    assert_eq!(made_up(|s| s.acknowledged = 4), Err(46));
+    assert_eq!(made_up(|s| s.acknowledged = u32::MAX), Err(46));
+    assert_eq!(made_up(|s| s.acknowledged = 1), Err(46));
+    assert_eq!(made_up(|s| s.phase = Phase::Erase(Page(0))), Err(46));
+    assert_eq!(made_up(|s| s.phase = Phase::Erase(Page(u32::MAX))), Err(46));
+    let at = |phase: fn(ByteAddress) -> Phase, start, acknowledged| {
+        let session = Session {
+            phase: phase(ByteAddress(start)),
+            acknowledged,
+            ..session
+        };
+        reading.step(session, ack).map(|_| ())
+    };
+    assert_eq!(at(Phase::Write, 0x200, 1), Ok(()));
+    assert_eq!(at(Phase::Write, 0x200, 2), Err(46));
+    assert_eq!(at(Phase::Write, 0x201, 1), Err(46));
+    assert_eq!(at(Phase::Verify, 0x200, 2), Ok(()));
+    assert_eq!(at(Phase::Verify, 0x200, 1), Err(46));
+    assert_eq!(at(|_| Phase::Run, 0, 3), Ok(()));
+    assert_eq!(at(|_| Phase::Run, 0, 2), Err(46));
+    let wrong_greeting = |s: &mut Session| (s.phase, s.acknowledged) = (Phase::Greeting, 1);
+    assert_eq!(made_up(wrong_greeting), Err(46));
+    let empty = Session {
+        total: 1,
+        named: 0,
+        ..session
+    };
+    assert_eq!(Reading::new().step(empty, ack), Err(46));
+}
+
+#[test]
+fn verdict_comes_within_the_packets_and_one_event() {
+    let zeros = "0".repeat(510);
+    let reading = Reading::of(&[&format!(":FF01FF00{zeros}01"), ":01F00000000F"]);
+    let mut session = greeted(&reading, Run::Reset);
+    assert_eq!(session.total, 2 + 2 * 3 + 1);
+    assert_eq!(session.named, 256);
+    let mut events = 1;
+    while !matches!(session.phase, Phase::Ended(_)) {
+        (session, _) = reading.step(session, Event::Answer(&[0x06])).unwrap();
+        events += 1;
+    }
+    assert_eq!(session.phase, Phase::Ended(Outcome::Valid));
+    assert_eq!(events, 2 + 2 * 3 + 2);
+}
+
+#[test]
+fn log_of_the_plan() {
+    let valid = Session {
+        run: Run::Reset,
+        phase: Phase::Ended(Outcome::Valid),
+        acknowledged: 4,
+        total: 4,
+        named: 2,
+    };
+    let mut buffer = [0xAA; 11];
+    assert_eq!(log::write(&valid, &mut buffer), Ok(10));
+    assert_eq!(buffer, [0, 8, 1, 0, 0, 4, 0, 4, 0, 2, 0xAA]);
+    let refused = |change: fn(&mut Session)| {
+        let mut session = valid;
+        change(&mut session);
+        log::write(&session, &mut [0; 9]).unwrap_err()
+    };
+    assert_eq!(refused(|_| ()), Refusal::Size);
+    let all_45: [fn(&mut Session); 8] = [
+        |s| s.phase = Phase::Run,
+        |s| s.phase = Phase::Ended(Outcome::Silent),
+        |s| s.acknowledged = 3,
+        |s| (s.acknowledged, s.total) = (3, 3),
+        |s| (s.acknowledged, s.total) = (65_536, 65_536),
+        |s| s.named = 0,
+        |s| s.named = 63_489,
+        |s| (s.phase, s.acknowledged) = (Phase::Ended(Outcome::WrongGreeting), 1),
+    ];
+    for change in all_45 {
+        assert_eq!(refused(change), Refusal::NoLog);
+    }
+}
+
+#[test]
+fn log_read_refusals() {
+    let number = |input: &[u8]| log::read(input).map_or_else(Refusal::number, |_| 0);
+    assert_eq!(number(&[0, 8, 1, 0, 0, 4, 0, 4, 0, 2]), 0);
+    assert_eq!(number(&[0, 9, 2, 0, 0, 4, 0, 4, 0]), 50);
+    assert_eq!(number(&[0, 9, 2, 0, 0, 4, 0, 4, 0, 2]), 51);
+    assert_eq!(number(&[0, 8, 1, 0, 0, 4, 0, 4, 0, 2, 0]), 51);
+    assert_eq!(number(&[0, 8, 2, 9, 0, 4, 0, 4, 0, 2]), 52);
+    for (outcome, acknowledged, total, named) in [
+        (1, 4, 4, 2),
+        (39, 3, 4, 2),
+        (44, 3, 4, 2),
+        (0, 3, 3, 2),
+        (0, 4, 4, 0),
+        (0, 4, 4, 63_489),
+        (40, 5, 4, 2),
+        (0, 3, 4, 2),
+        (41, 4, 4, 2),
+        (42, 1, 4, 2),
+    ] {
+        let [a, b] = u16::to_be_bytes(acknowledged);
+        let [c, d] = u16::to_be_bytes(total);
+        let [e, f] = u16::to_be_bytes(named);
+        assert_eq!(number(&[0, 8, 1, outcome, a, b, c, d, e, f]), 53);
+    }
+}
+
+#[test]
+fn whole_rehearsal_is_valid_and_loses_end_silent() {
+    let reading = plan_file();
+    let load = |exchanges: &[Exchange]| {
+        let mut loader = Loader::factory();
+        let mut flash = vec![0x00; FLASH_BYTES];
+        let (image, map) = (&reading.image, &reading.map);
+        let ended = rehearse(Run::Reset, image, map, &mut loader, &mut flash, exchanges).unwrap();
+        (ended, loader, flash)
+    };
+    let (ended, loader, flash) = load(&[]);
+    assert_eq!(ended.phase, Phase::Ended(Outcome::Valid));
+    assert_eq!(ended.acknowledged, 4);
+    assert_eq!(loader.condition, Condition::Left);
+    assert_eq!(flash[0x1FF..0x203], [0x00, 0x12, 0x34, 0xFF]);
+    for place in 0..5 {
+        for lost in [Exchange::PacketLost, Exchange::AnswerLost] {
+            let mut exchanges = vec![Exchange::Whole; place];
+            exchanges.push(lost);
+            let (ended, _, _) = load(&exchanges);
+            assert_eq!(ended.phase, Phase::Ended(Outcome::Silent));
+            assert_eq!(ended.acknowledged as usize, place.saturating_sub(1));
+        }
+    }
+}
+
+#[test]
+fn printed_listings() {
+    let plan = "STEP KIND PACKET\n\
+                1 E 070E06450000020001B2\n\
+                2 W 070E07570000020012345A\n\
+                3 V 070E07560000020090A170\n\
+                4 R 070E055200000001A8\n\
+                TOTAL 4\n";
+    assert_eq!(listing::plan(b":020200001234B6\n:00000001FF\n"), plan);
+    assert_eq!(listing::plan(b":020200001234B6\r\n:00000001FF"), plan);
+    assert_eq!(listing::plan(b""), "REFUSED 0 31\n");
+    assert_eq!(listing::plan(b"\n"), "REFUSED 1 22\n");
+    assert_eq!(listing::plan(b":00000001FF\n"), "REFUSED 0 32\n");
+    assert_eq!(listing::plan(b":00000001FF\n\n"), "REFUSED 2 21\n");
+    assert_eq!(listing::plan(b":00000001FF\r\r\n"), "REFUSED 1 23\n");
+    assert_eq!(listing::plan(b":00000001FF\r"), "REFUSED 1 23\n");
+    assert_eq!(
+        listing::readlog(&[0, 8, 1, 0, 0, 4, 0, 4, 0, 2]),
+        "VERSION 1 OUTCOME 0 ACKED 4 TOTAL 4 BYTES 2\n"
+    );
+    assert_eq!(listing::readlog(&[]), "REFUSED 50\n");
+}
