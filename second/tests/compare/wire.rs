@@ -29,7 +29,7 @@ pub struct Wire {
 
 impl Wire {
     pub fn open() -> Wire {
-        let mut child = root::program("target/tests/driver")
+        let mut child = root::program("target/c/driver")
             .stdin(Stdio::piped())
             .stdout(Stdio::piped())
             .spawn()
