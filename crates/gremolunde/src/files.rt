@@ -8,7 +8,6 @@ ghost use Rattle.gremolunde.specs.Answers.{noReader, hexAnswer, writtenA
 ghost use Rattle.gremolunde.specs.States.{hexMeant};
 ghost use Rattle.image.specs.Hex.{paperRead, settled, startIn, recordIn, closeOf};
 ghost use Rattle.image.specs.Writer.{paperWritten, told, textOf, writeIn};
-use crate::numbers::of_hex;
 use crate::states::HexState;
 use crate::states::hex_meant;
 use crate::states::hex_shown;
@@ -82,7 +81,7 @@ fn answered(reader: HexState, answer: Read) -> HexRead
             reader: hex_shown(next),
         },
         Read::Refused(why) => HexRead {
-            number: of_hex(why),
+            number: why.number(),
             reader,
         },
     }

@@ -10,7 +10,6 @@ ghost use Rattle.loader.specs.Commands.{after};
 ghost use Rattle.loader.specs.Paper.{paperVerdict};
 ghost use Rattle.loader.specs.State.{factoryOf, resetOf};
 ghost use Rattle.loader.specs.Take.{takeOf, answerOf};
-use crate::numbers::of_loader;
 use crate::states::LoaderState;
 use crate::states::loader_meant;
 use crate::states::loader_shown;
@@ -72,7 +71,7 @@ fn told(loader: LoaderState, verdict: Verdict, next: Loader, answered: usize) ->
             loader: loader_shown(next),
         },
         Verdict::Refused(why) => Taken {
-            number: of_loader(why),
+            number: why.number(),
             answered,
             loader,
         },

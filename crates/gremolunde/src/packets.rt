@@ -7,8 +7,6 @@ ghost use Rattle.gremolunde.specs.Answers.{lengthAnswer, partsAnswer};
 ghost use Rattle.packet.specs.Packet.{buildOf, readOf};
 ghost use Rattle.packet.specs.Paper.{paperBuilt, paperReading};
 ghost use Rattle.packet.specs.Turn.{turnedOf, restoredOf};
-use crate::numbers::byte;
-use crate::numbers::of_packet;
 use basis::units::Address;
 use packet::build::Built;
 use packet::build::build;
@@ -69,7 +67,7 @@ fn built(answer: Built) -> Length
     match answer {
         Built::Packet(length) => Length { number: 0, length },
         Built::NoRoom => refused(20),
-        Built::Refused(why) => refused(of_packet(why)),
+        Built::Refused(why) => refused(why.number()),
     }
 }
 
@@ -96,14 +94,14 @@ fn told(answer: Reading) -> Parts
             let address = said.address;
             Parts {
                 number: 0,
-                command: byte(command),
+                command: command.byte(),
                 address: address.0,
                 place: said.at,
                 length: said.len,
             }
         }
         Reading::Refused(why) => Parts {
-            number: of_packet(why),
+            number: why.number(),
             command: 0,
             address: 0,
             place: 0,

@@ -4,7 +4,6 @@ ghost use Rattle.gremolunde.specs.Answers.{rehearsedAnswer};
 ghost use Rattle.gremolunde.specs.States.{loaderMeant, runMeant};
 ghost use Rattle.line.specs.Line.{lossAt, rehearseOf, loaded, leftFlash};
 ghost use Rattle.line.specs.Paper.{paperRehearsed};
-use crate::numbers::of_session;
 use crate::sessions::no_session;
 use crate::states::LoaderState;
 use crate::states::SessionState;
@@ -56,7 +55,7 @@ fn told(loader: LoaderState, answer: Rehearsed) -> Rehearsal
             }
         }
         Rehearsed::Refused(why) => Rehearsal {
-            number: of_session(why),
+            number: why.number(),
             loader,
             session: no_session(),
         },

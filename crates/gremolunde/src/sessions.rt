@@ -7,7 +7,6 @@ ghost use Rattle.gremolunde.specs.States.{isSet, runMeant, sessionMeant}
 ghost use Rattle.session.specs.Events.{classifyOf};
 ghost use Rattle.session.specs.Paper.{paperStepped, paperMark};
 ghost use Rattle.session.specs.Session.{measured, sentBytes, started, stepOf, provedOf};
-use crate::numbers::of_session;
 use crate::states::SessionState;
 use crate::states::run_meant;
 use crate::states::session_meant;
@@ -96,7 +95,7 @@ fn answered(session: SessionState, answer: Stepped) -> SessionStepped
             }
         }
         Stepped::Refused(why) => SessionStepped {
-            number: of_session(why),
+            number: why.number(),
             length: 0,
             session,
         },

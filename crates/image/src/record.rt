@@ -4,7 +4,7 @@ ghost use Prim.Native.Nat.{_+_, _*_, _/_, _≤_};
 ghost use lib.ListN.{length, take, drop};
 ghost use Rattle.basis.specs.Refusals.{given};
 ghost use Rattle.image.specs.Digits.{bytesOf};
-ghost use Rattle.image.specs.Record.{paperCheck, count, charactersOf, framingOf, shapeOf};
+ghost use Rattle.image.specs.Record.{paperRefusal, paperCheck, count, charactersOf, framingOf, shapeOf};
 use crate::digits::decode;
 use basis::sums::sum;
 
@@ -22,6 +22,28 @@ pub enum Refusal {
     Twice,
     NoEnd,
     NoData,
+}
+
+impl Refusal {
+    pub fn number(self) -> u32
+        ensures { λ r. ⌜ r ≡ paperRefusal self ⌝ }
+    {
+        match self {
+            Refusal::Size => 20,
+            Refusal::Ended => 21,
+            Refusal::Colon => 22,
+            Refusal::Length => 23,
+            Refusal::Digit => 24,
+            Refusal::Count => 25,
+            Refusal::Sum => 26,
+            Refusal::Kind => 27,
+            Refusal::Shape => 28,
+            Refusal::Place => 29,
+            Refusal::Twice => 30,
+            Refusal::NoEnd => 31,
+            Refusal::NoData => 32,
+        }
+    }
 }
 
 pub enum Check {

@@ -17,7 +17,7 @@ pub fn refusal_at(buffer: &mut [u8], line: u64, refusal: Refusal) -> usize
         ⌝ }
 {
     let first = field(buffer, 0, b"REFUSED ", line);
-    let end = field(buffer, first, b" ", number(refusal));
+    let end = field(buffer, first, b" ", refusal.number() as u64);
     buffer[end] = 0x0A;
     end + 1
 }
@@ -33,24 +33,4 @@ pub fn refusal_line(buffer: &mut [u8], number: u64) -> usize
     let end = field(buffer, 0, b"REFUSED ", number);
     buffer[end] = 0x0A;
     end + 1
-}
-
-fn number(refusal: Refusal) -> u64
-    ensures { λ r. ⌜ r ≡ paperRefusal refusal ⌝ }
-{
-    match refusal {
-        Refusal::Size => 20,
-        Refusal::Ended => 21,
-        Refusal::Colon => 22,
-        Refusal::Length => 23,
-        Refusal::Digit => 24,
-        Refusal::Count => 25,
-        Refusal::Sum => 26,
-        Refusal::Kind => 27,
-        Refusal::Shape => 28,
-        Refusal::Place => 29,
-        Refusal::Twice => 30,
-        Refusal::NoEnd => 31,
-        Refusal::NoData => 32,
-    }
 }

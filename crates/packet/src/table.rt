@@ -1,7 +1,7 @@
 // The command table: which commands there are, and what may follow the address.
 ghost use mathlib.Core.Path.{_≡_};
 ghost use Rattle.basis.specs.Refusals.{given, first};
-ghost use Rattle.packet.specs.Paper.{paperRow, paperShaped};
+ghost use Rattle.packet.specs.Paper.{paperCommand, paperRefusal, paperRow, paperShaped};
 ghost use Rattle.packet.specs.Table.{table, dataCount, protectType};
 
 pub enum Command {
@@ -20,6 +20,36 @@ pub enum Refusal {
     Checksum,
     Unlisted,
     Shape,
+}
+
+impl Command {
+    pub fn byte(self) -> u8
+        ensures { λ r. ⌜ r ≡ paperCommand self ⌝ }
+    {
+        match self {
+            Command::Erase => 0x45,
+            Command::Write => 0x57,
+            Command::Verify => 0x56,
+            Command::Protect => 0x50,
+            Command::Run => 0x52,
+        }
+    }
+}
+
+impl Refusal {
+    // The number in the loader's table.
+    pub fn number(self) -> u32
+        ensures { λ r. ⌜ r ≡ paperRefusal self ⌝ }
+    {
+        match self {
+            Refusal::Start => 1,
+            Refusal::Length => 2,
+            Refusal::Count => 3,
+            Refusal::Checksum => 4,
+            Refusal::Unlisted => 5,
+            Refusal::Shape => 6,
+        }
+    }
 }
 
 // What the table says of a packet.

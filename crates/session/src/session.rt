@@ -8,7 +8,7 @@ ghost use Rattle.basis.specs.Board.{flashSize, mapSize};
 ghost use Rattle.basis.specs.Choice.{pick, both};
 ghost use Rattle.basis.specs.Lists.{overlay};
 ghost use Rattle.session.specs.Events.{classifyOf};
-ghost use Rattle.session.specs.Paper.{paperStepped, paperMark};
+ghost use Rattle.session.specs.Paper.{paperRefusal, paperStepped, paperMark};
 ghost use Rattle.session.specs.Phases.{atStart};
 ghost use Rattle.session.specs.Session.{measured, sentBytes, rightSizes, started, judgedFirst, judgedLater, judgeOf, movedOf, heardOf, tookOf, sent, fitsOf, stepOf, provedOf};
 use crate::cursor::after;
@@ -50,6 +50,19 @@ pub enum Refusal {
     Ended,
     // The file is not the one that the session came from.
     Foreign,
+}
+
+impl Refusal {
+    pub fn number(self) -> u32
+        ensures { λ r. ⌜ r ≡ paperRefusal self ⌝ }
+    {
+        match self {
+            Refusal::Size => 20,
+            Refusal::Empty => 32,
+            Refusal::Ended => 44,
+            Refusal::Foreign => 46,
+        }
+    }
 }
 
 pub enum Stepped {

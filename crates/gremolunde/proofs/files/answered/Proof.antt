@@ -16,14 +16,14 @@ hex-shown-requires c κs = search needs
 enum-known-answer-2 : tie.Need-enum-known-answer-2
 enum-known-answer-2 c = search needs
 
-of-hex-requires : tie.Need-of-hex-requires
-of-hex-requires c κs = search needs
+number-requires : tie.Need-number-requires
+number-requires c κs = search needs
 
 returns : tie.Need-returns
 returns c = (λ i. record { number = 0; reader = c .hex-shown .ensures i }) ∙ ap (λ (x : Read). hexAnswer (c .before .before .before .before .args .reader) (paperRead x)) (sym (c .before .before .answer .given .1))
 
 returns-2 : tie.Need-returns-2
-returns-2 c = (λ i. record { number = c .of-hex .ensures i; reader = c .before .before .before .before .args .reader }) ∙ ap (λ (x : Read). hexAnswer (c .before .before .before .before .args .reader) (paperRead x)) (sym (c .before .before .answer2 .given .1))
+returns-2 c = (λ i. record { number = c .number .ensures i; reader = c .before .before .before .before .args .reader }) ∙ ap (λ (x : Read). hexAnswer (c .before .before .before .before .args .reader) (paperRead x)) (sym (c .before .before .answer2 .given .1))
 
 pub answered-spec : {M : Type 1} → statement M
 answered-spec =
@@ -32,6 +32,6 @@ answered-spec =
     enum-known-answer
     hex-shown-requires
     enum-known-answer-2
-    of-hex-requires
+    number-requires
     returns
     returns-2)

@@ -16,14 +16,14 @@ loader-shown-requires c κs = search needs
 enum-known-verdict : tie.Need-enum-known-verdict
 enum-known-verdict c = search needs
 
-of-loader-requires : tie.Need-of-loader-requires
-of-loader-requires c κs = search needs
+number-requires : tie.Need-number-requires
+number-requires c κs = search needs
 
 returns : tie.Need-returns
 returns c = (λ i. record { number = 0; answered = c .before .before .before .args .answered; loader = c .loader-shown .ensures i }) ∙ ap (λ (x : Verdict). takenAnswer (c .before .before .before .args .loader) (paperVerdict x) (c .before .before .before .args .next) (c .before .before .before .args .answered)) (sym (c .before .enum-told .given .1))
 
 returns-2 : tie.Need-returns-2
-returns-2 c = (λ i. record { number = c .of-loader .ensures i; answered = c .before .before .before .before .args .answered; loader = c .before .before .before .before .args .loader }) ∙ ap (λ (x : Verdict). takenAnswer (c .before .before .before .before .args .loader) (paperVerdict x) (c .before .before .before .before .args .next) (c .before .before .before .before .args .answered)) (sym (c .before .before .verdict .given .1))
+returns-2 c = (λ i. record { number = c .number .ensures i; answered = c .before .before .before .before .args .answered; loader = c .before .before .before .before .args .loader }) ∙ ap (λ (x : Verdict). takenAnswer (c .before .before .before .before .args .loader) (paperVerdict x) (c .before .before .before .before .args .next) (c .before .before .before .before .args .answered)) (sym (c .before .before .verdict .given .1))
 
 pub told-spec : {M : Type 1} → statement M
 told-spec =
@@ -32,6 +32,6 @@ told-spec =
     enum-told
     loader-shown-requires
     enum-known-verdict
-    of-loader-requires
+    number-requires
     returns
     returns-2)

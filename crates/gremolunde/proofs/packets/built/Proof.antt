@@ -21,8 +21,8 @@ refused-requires c κs = search needs
 enum-known-answer-2 : tie.Need-enum-known-answer-2
 enum-known-answer-2 c = search needs
 
-of-packet-requires : tie.Need-of-packet-requires
-of-packet-requires c κs = search needs
+number-requires : tie.Need-number-requires
+number-requires c κs = search needs
 
 refused-requires-2 : tie.Need-refused-requires-2
 refused-requires-2 c κs = search needs
@@ -34,7 +34,7 @@ returns-2 : tie.Need-returns-2
 returns-2 c = c .refused .ensures ∙ ap (λ (x : Built). lengthAnswer (paperBuilt x)) (sym (c .before .enum-told .given .1))
 
 returns-3 : tie.Need-returns-3
-returns-3 c = c .refused2 .ensures ∙ ap (λ (n : ℕ). lengthAnswer (refused n)) (c .before .of-packet .ensures) ∙ ap (λ (x : Built). lengthAnswer (paperBuilt x)) (sym (c .before .before .before .answer2 .given .1))
+returns-3 c = c .refused2 .ensures ∙ ap (λ (n : ℕ). lengthAnswer (refused n)) (c .before .number .ensures) ∙ ap (λ (x : Built). lengthAnswer (paperBuilt x)) (sym (c .before .before .before .answer2 .given .1))
 
 pub built-spec : {M : Type 1} → statement M
 built-spec =
@@ -44,7 +44,7 @@ built-spec =
     enum-told
     refused-requires
     enum-known-answer-2
-    of-packet-requires
+    number-requires
     refused-requires-2
     returns
     returns-2

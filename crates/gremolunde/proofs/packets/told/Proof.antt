@@ -18,14 +18,14 @@ byte-requires c κs = search needs
 enum-known-answer-2 : tie.Need-enum-known-answer-2
 enum-known-answer-2 c = search needs
 
-of-packet-requires : tie.Need-of-packet-requires
-of-packet-requires c κs = search needs
+number-requires : tie.Need-number-requires
+number-requires c κs = search needs
 
 returns : tie.Need-returns
 returns c = let p = c .before .before .before .answer .given .0 .0 in (λ i. record { number = 0; command = c .byte .ensures i; address = p .address .0; place = p .at; length = p .len }) ∙ ap (λ (x : Reading). partsAnswer (paperReading x)) (sym (c .before .before .before .answer .given .1))
 
 returns-2 : tie.Need-returns-2
-returns-2 c = ap (λ (n : ℕ). partsAnswer (refused n)) (c .of-packet .ensures) ∙ ap (λ (x : Reading). partsAnswer (paperReading x)) (sym (c .before .before .answer2 .given .1))
+returns-2 c = ap (λ (n : ℕ). partsAnswer (refused n)) (c .number .ensures) ∙ ap (λ (x : Reading). partsAnswer (paperReading x)) (sym (c .before .before .answer2 .given .1))
 
 pub told-spec : {M : Type 1} → statement M
 told-spec =
@@ -34,6 +34,6 @@ told-spec =
     enum-known-answer
     byte-requires
     enum-known-answer-2
-    of-packet-requires
+    number-requires
     returns
     returns-2)

@@ -7,7 +7,6 @@ use Rattle.gremolunde.proofs.rehearsals.told.Statement.{statement}
 use Rattle.gremolunde.proofs.rehearsals.told.Tie as tie
 use Rattle.gremolunde.proofs.rehearsals.told.Reads as reads
 use Rattle.gremolunde.proofs.rehearsals.told.Lts as lts
-use Rattle.gremolunde.proofs.numbers.of_session.Reads as of-session-reads
 use Rattle.gremolunde.proofs.sessions.no_session.Reads as no-session-reads
 use Rattle.gremolunde.proofs.states.loader_shown.Reads as loader-shown-reads
 use Rattle.gremolunde.proofs.states.session_shown.Reads as session-shown-reads
@@ -29,8 +28,8 @@ enum-known-answer-2 : tie.Need-enum-known-answer-2
 enum-known-answer-2 c = search needs
 
 -- src/rehearsals.rt:59:21
-of-session-requires : tie.Need-of-session-requires
-of-session-requires c κs = search needs
+number-requires : tie.Need-number-requires
+number-requires c κs = search needs
 
 -- src/rehearsals.rt:61:22
 no-session-requires : tie.Need-no-session-requires
@@ -42,7 +41,7 @@ returns c = (λ i. record { number = 0; loader = c .before .loader-shown .ensure
 
 -- src/rehearsals.rt:45:1
 returns-2 : tie.Need-returns-2
-returns-2 c = (λ i. record { number = c .before .of-session .ensures i; loader = c .before .before .before .before .before .args .loader; session = c .no-session .ensures i }) ∙ ap (λ (x : Rehearsed). rehearsedAnswer (c .before .before .before .before .before .args .loader) (paperRehearsed x)) (sym (c .before .before .before .answer2 .given .1))
+returns-2 c = (λ i. record { number = c .before .number .ensures i; loader = c .before .before .before .before .before .args .loader; session = c .no-session .ensures i }) ∙ ap (λ (x : Rehearsed). rehearsedAnswer (c .before .before .before .before .before .args .loader) (paperRehearsed x)) (sym (c .before .before .before .answer2 .given .1))
 
 pub told-spec : {M : Type 1} → statement M
 told-spec =
@@ -52,7 +51,7 @@ told-spec =
     loader-shown-requires
     session-shown-requires
     enum-known-answer-2
-    of-session-requires
+    number-requires
     no-session-requires
     returns
     returns-2)

@@ -16,14 +16,14 @@ session-shown-requires c κs = search needs
 enum-known-answer-2 : tie.Need-enum-known-answer-2
 enum-known-answer-2 c = search needs
 
-of-session-requires : tie.Need-of-session-requires
-of-session-requires c κs = search needs
+number-requires : tie.Need-number-requires
+number-requires c κs = search needs
 
 returns : tie.Need-returns
 returns c = (λ i. record { number = 0; length = c .before .before .before .answer .given .0 .0 .len; session = c .session-shown .ensures i }) ∙ ap (λ (x : Stepped). steppedAnswer (c .before .before .before .before .before .args .session) (paperStepped x)) (sym (c .before .before .before .answer .given .1))
 
 returns-2 : tie.Need-returns-2
-returns-2 c = (λ i. record { number = c .of-session .ensures i; length = 0; session = c .before .before .before .before .args .session }) ∙ ap (λ (x : Stepped). steppedAnswer (c .before .before .before .before .args .session) (paperStepped x)) (sym (c .before .before .answer2 .given .1))
+returns-2 c = (λ i. record { number = c .number .ensures i; length = 0; session = c .before .before .before .before .args .session }) ∙ ap (λ (x : Stepped). steppedAnswer (c .before .before .before .before .args .session) (paperStepped x)) (sym (c .before .before .answer2 .given .1))
 
 pub answered-spec : {M : Type 1} → statement M
 answered-spec =
@@ -32,6 +32,6 @@ answered-spec =
     enum-known-answer
     session-shown-requires
     enum-known-answer-2
-    of-session-requires
+    number-requires
     returns
     returns-2)
