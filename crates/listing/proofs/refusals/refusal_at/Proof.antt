@@ -19,6 +19,9 @@ slice-aggregate-field-2 c = search needs
 number-requires : tie.Need-number-requires
 number-requires c κs = search needs
 
+cast-field : tie.Need-cast-field
+cast-field c = search needs
+
 field-requires-2 : tie.Need-field-requires-2
 field-requires-2 c κs = search needs
 
@@ -42,6 +45,7 @@ refusal-at-spec =
     field-requires
     slice-aggregate-field-2
     number-requires
+    cast-field
     field-requires-2
     slice-write-buffer
     add-result
