@@ -4,3 +4,4 @@ pub mod Take
 pub mod Host
 pub mod Protection
 pub mod Determined
+pub mod Cases

@@ -1,19 +1,20 @@
 -- The records of the paper's cases, read by a fresh reader on a board of 272 bytes.
 use Prim.Native.Nat.{ℕ, _*_}
-use mathlib.Core.Path.{_≡_, refl}
 use mathlib.Core.Bool.{Bool, true, false}
 use mathlib.Core.List.{List, [], _∷_}
+use mathlib.Core.Path.{_≡_, refl}
 use lib.Dec.{eqb}
 use lib.ListN.{getD, replicate}
 use Rattle.basis.specs.Choice.{both}
+use Rattle.basis.specs.Laws.Computed.{all}
 use Rattle.basis.specs.Refusals.{Answer, refused, given, first}
 use Rattle.basis.specs.Sums.{total, sumOf}
-use Rattle.runs.specs.Map.{named, nameOf}
 use Rattle.image.specs.Digits.{digitOf, allDigits, bytesOf}
 use Rattle.image.specs.Flash.{stored}
-use Rattle.image.specs.Places.{anyNamed, nameAllOf}
 use Rattle.image.specs.Hex.{File, fresh, recordIn}
+use Rattle.image.specs.Places.{anyNamed, nameAllOf}
 use Rattle.image.specs.Writer.{letterOf, spelt}
+use Rattle.runs.specs.Map.{named, nameOf}
 
 -- a record of these bytes, read
 abbrev on : List ℕ → Answer File
@@ -37,10 +38,6 @@ linear (given f) = f .reader .linear
 abbrev unchanged : Answer File → Bool
 unchanged (refused n) = false
 unchanged (given f) = both (eqb (total (f .image)) (272 * 0xFF)) (eqb (total (f .map)) 0)
-
-abbrev all : List Bool → Bool
-all [] = true
-all (t ∷ s) = both t (all s)
 
 abbrev cases : List Bool
 cases =
