@@ -6,3 +6,4 @@ pub mod Moments
 pub mod Demand
 pub mod Rehearsal
 pub mod Worked
+pub mod Determined

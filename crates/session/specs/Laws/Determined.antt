@@ -41,7 +41,7 @@ refusal-back Refusal.Empty = refl
 refusal-back Refusal.Ended = refl
 refusal-back Refusal.Foreign = refl
 
-refusal-one : (x y : Refusal) → paperRefusal x ≡ paperRefusal y → x ≡ y
+pub refusal-one : (x y : Refusal) → paperRefusal x ≡ paperRefusal y → x ≡ y
 refusal-one x y e = sym (refusal-back x) ∙ ap refusalBy e ∙ refusal-back y
 
 -- starting and stepping
