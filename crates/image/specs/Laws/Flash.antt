@@ -1,13 +1,13 @@
 -- Laws of flash and images. What is proved of `stored` holds of stores, copies and erasure alike.
 use Prim.Native.Nat.{ℕ, zero, suc, _+_, _<_, _≤_}
-use mathlib.Core.Path.{_≡_, refl, ap, sym, _∙_}
 use mathlib.Core.List.{List, [], _∷_, _++_, append-assoc, append-nil}
+use mathlib.Core.Path.{_≡_, refl, _∙_}
 use native.Mathlib.Nat.{add-zero, add-suc, suc-add, mod-eq-of-lt, not-suc-le-zero}
 use native.Mathlib.Numerals.{add-one}
 use native.Mathlib.Omega.{arith}
-use lib.ListN.{length, take, drop, set, getD, replicate, length-set, length-take, length-drop, length-replicate, length-append, getD-replicate, replicate-append-replicate, take-append-drop}
-use lib.Seq.{getD-set-same, getD-set-other, getD-take, getD-drop, ext-getD, length-take-le}
 use lib.Bits.{bitAnd, and-comm, and-mask}
+use lib.ListN.{length, take, drop, set, getD, replicate, length-set, length-take, length-drop, length-replicate, length-append, getD-replicate}
+use lib.Seq.{getD-set-same, getD-set-other, getD-take, getD-drop, ext-getD}
 use Rattle.basis.specs.Laws.Lists.{overlay-next}
 use Rattle.basis.specs.Lists.{Bytes, overlay}
 use Rattle.image.specs.Flash.{stored, storeOf, copyOf, eraseOf, new}
@@ -27,11 +27,6 @@ module _ (op : ℕ → ℕ → ℕ) where
   unfolding stored
   stored-append flash a [] t = rw add-zero
   stored-append flash a (x ∷ s) t = stored-append (one flash a x) (a + 1) s t ∙ rw (add-one, add-suc, suc-add)
-
-  -- the first k bytes, then the rest: so the first k single stores are `stored` of `take k s`
-  pub stored-prefix : (flash : List ℕ) (a k : ℕ) (s : List ℕ) → k ≤ length s → stored op flash a s ≡ stored op (stored op flash a (take k s)) (a + k) (drop k s)
-  stored-prefix flash a k s h =
-      ap (stored op flash a) (sym (take-append-drop k s)) ∙ stored-append flash a (take k s) (drop k s) ∙ rw (length-take-le k s h)
 
   pub stored-below : (flash : List ℕ) (a : ℕ) (s : List ℕ) (j : ℕ) → j < a → getD (stored op flash a s) j 0 ≡ getD flash j 0
   unfolding stored
@@ -72,13 +67,6 @@ copy-overlay w old (x ∷ s) k e h =
 pub length-erase : (flash : List ℕ) (a n : ℕ) → length (eraseOf flash a n) ≡ length flash
 length-erase flash a n = length-stored new flash a (replicate n 0xFF)
 
--- m bytes, then n more
-pub erase-append : (flash : List ℕ) (a m n : ℕ) → eraseOf flash a (m + n) ≡ eraseOf (eraseOf flash a m) (a + m) n
-erase-append flash a m n =
-    ap (copyOf flash a) (sym (replicate-append-replicate m n 0xFF))
-    ∙ stored-append new flash a (replicate m 0xFF) (replicate n 0xFF)
-    ∙ rw (length-replicate {A = ℕ} m 0xFF)
-
 pub erase-below : (flash : List ℕ) (a n j : ℕ) → j < a → getD (eraseOf flash a n) j 0 ≡ getD flash j 0
 erase-below flash a n = stored-below new flash a (replicate n 0xFF)
 
@@ -94,12 +82,6 @@ erase-at flash a n k h l =
 pub length-store : (flash : List ℕ) (a : ℕ) (s : List ℕ) → length (storeOf flash a s) ≡ length flash
 length-store = length-stored bitAnd
 
-pub store-append : (flash : List ℕ) (a : ℕ) (s t : List ℕ) → storeOf flash a (s ++ t) ≡ storeOf (storeOf flash a s) (a + length s) t
-store-append = stored-append bitAnd
-
-pub store-prefix : (flash : List ℕ) (a k : ℕ) (s : List ℕ) → k ≤ length s → storeOf flash a s ≡ storeOf (storeOf flash a (take k s)) (a + k) (drop k s)
-store-prefix = stored-prefix bitAnd
-
 pub store-below : (flash : List ℕ) (a : ℕ) (s : List ℕ) (j : ℕ) → j < a → getD (storeOf flash a s) j 0 ≡ getD flash j 0
 store-below = stored-below bitAnd
 
@@ -112,9 +94,6 @@ store-at = stored-at bitAnd
 -- the n bytes from a on are 0xFF
 abbrev pub Blank : List ℕ → ℕ → ℕ → Type 0
 Blank flash a n = (k : ℕ) → k < n → getD flash (a + k) 0 ≡ 0xFF
-
-pub erase-blank : (flash : List ℕ) (a n : ℕ) → a + n ≤ length flash → Blank (eraseOf flash a n) a n
-erase-blank flash a n l k h = erase-at flash a n k h l
 
 and-blank : (x : ℕ) → x < 256 → bitAnd 0xFF x ≡ x
 and-blank x h = and-comm 0xFF x ∙ and-mask x 8 ∙ mod-eq-of-lt h

@@ -3,22 +3,20 @@ use Prim.Native.Nat.{ℕ, _^_, _≤_, _<_}
 use mathlib.Core.Bool.{Bool, true, false, not}
 use mathlib.Core.List.{List, [], _∷_, map}
 use mathlib.Core.Path.{_≡_, refl, ap, _∙_}
-use native.Mathlib.Omega.{arith}
 use borrow.Author.Tests.{ne-eqb}
 use lib.Dec.{ltb, eqb}
 use lib.ListN.{length, getD, take, drop}
 use Rattle.basis.specs.Choice.{pick, both, either}
-use Rattle.basis.specs.Laws.Choice.{both-false}
 use Rattle.basis.specs.Refusals.{Answer, refused, given, first}
 use Rattle.basis.specs.Units.{startOf}
 use Rattle.loader.specs.Commands.{after, keeping, erasing, writing, verifyRows, protecting, running, obeyOf}
 use Rattle.loader.specs.Laws.Commands.{obey-erase, obey-write, obey-verify, obey-run}
-use Rattle.loader.specs.Laws.Take.{heard-waiting, heard-closed, heard-serving, heard-left, served-packet, take-heard}
+use Rattle.loader.specs.Laws.Take.{heard-waiting, heard-serving, served-packet, take-heard}
 use Rattle.loader.specs.State.{withCondition}
 use Rattle.loader.specs.Take.{waiting, left, opens, obeyed, servedOf, heardOf, takeOf}
-use Rattle.loader.specs.declared.state.Condition.the-variants.{Waiting, Serving, Left}
+use Rattle.loader.specs.declared.state.Condition.the-variants.{Waiting, Serving}
 use Rattle.loader.specs.declared.state.Loader.{Loader}
-use Rattle.packet.specs.Laws.Packet.{packet-long, packet-data, carried-plainly, read-erase, read-write, read-verify, read-run}
+use Rattle.packet.specs.Laws.Packet.{packet-data, carried-plainly, read-erase, read-write, read-verify, read-run}
 use Rattle.packet.specs.Packet.{carriedOf, packet, Parts, said, readOf}
 use Rattle.packet.specs.Turn.{turnedOf}
 
@@ -26,16 +24,6 @@ module _ (k : ℕ) (l : Loader) (f : List ℕ) (room : ℕ) (size : length f ≡
   -- the opening byte
   pub sent-opening : l .condition ≡ Waiting → takeOf k l (0x08 ∷ []) f room ≡ given (record { loader = withCondition l Serving; flash = f })
   sent-opening c = take-heard k l (0x08 ∷ []) f room size fits ∙ heard-waiting k l (0x08 ∷ []) f c refl
-
-  -- a loader that does not serve answers nothing to a packet
-  packet-closed : (b a : ℕ) (d : List ℕ) → opens (packet b a d) ≡ false
-  packet-closed b a d = both-false (eqb (length (packet b a d)) 1) _ (ne-eqb (length (packet b a d)) 1 (λ e. omega (arith, packet-long b a d)))
-
-  pub waiting-deaf : (b a : ℕ) (d : List ℕ) → l .condition ≡ Waiting → takeOf k l (packet b a d) f room ≡ refused 11
-  waiting-deaf b a d c = take-heard k l (packet b a d) f room size fits ∙ heard-closed k l (packet b a d) f c (packet-closed b a d)
-
-  pub left-deaf : (s : List ℕ) → l .condition ≡ Left → takeOf k l s f room ≡ refused 11
-  left-deaf s c = take-heard k l s f room size fits ∙ heard-left k l s f c
 
   module _ (c : l .condition ≡ Serving) where
     sent : (b a : ℕ) (d : List ℕ) → readOf (packet b a d) ≡ given (said b a d) → takeOf k l (packet b a d) f room ≡ obeyOf k l b a (map (carriedOf b) d) f

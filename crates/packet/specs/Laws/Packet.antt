@@ -16,7 +16,7 @@ use Rattle.basis.specs.Refusals.{refused, given, first}
 use Rattle.basis.specs.Sums.{sumOf}
 use Rattle.packet.specs.Laws.Table.{table-passes, table-holds, kind-counts}
 use Rattle.packet.specs.Packet.{carriedOf, summed, packet, buildOf, count, command, kind, joined, Parts, parts, said, startsRight, rows, tabledOf, readOf}
-use Rattle.packet.specs.Table.{listed, dataCount, protectType, inShape, table}
+use Rattle.packet.specs.Table.{listed, dataCount, inShape, table}
 
 pub packet-length : (c a : ℕ) (d : List ℕ) → length (packet c a d) ≡ length d + 9
 unfolding packet
@@ -43,11 +43,6 @@ module _ (room c a : ℕ) (d : List ℕ) where
   build-table h = skip _ _ _ _ (le-ltb _ _ h)
 
 -- ---- reading
-
--- the opening byte alone is no packet
-pub read-opening : readOf (0x08 ∷ []) ≡ refused 1
-unfolding readOf rows first
-read-opening = refl
 
 -- the data's place
 pub packet-data : (c a : ℕ) (d : List ℕ) → take (length d) (drop 8 (packet c a d)) ≡ map (carriedOf c) d
@@ -105,9 +100,6 @@ module _ (a : ℕ) (h : a < 2 ^ 32) where
 
   pub read-verify : (d : List ℕ) → 0 < length d → length d ≤ 250 → readOf (packet 0x56 a d) ≡ given (said 0x56 a d)
   read-verify d l m = read-packet 0x56 a d h refl (data-fits d l m)
-
-  pub read-protect : (t : ℕ) → protectType t ≡ true → readOf (packet 0x50 a (t ∷ [])) ≡ given (said 0x50 a (t ∷ []))
-  read-protect t e = read-packet 0x50 a (t ∷ []) h refl e
 
   pub read-run : readOf (packet 0x52 a []) ≡ given (said 0x52 a [])
   read-run = read-packet 0x52 a [] h refl refl

@@ -9,28 +9,13 @@ use Rattle.basis.specs.Laws.Choice.{true-false}
 use Rattle.basis.specs.Laws.Refusals.{apart, given-one, refused-one, determined}
 use Rattle.basis.specs.Lists.{overlay}
 use Rattle.basis.specs.Refusals.{Answer}
-use Rattle.session.specs.Paper.{paperOutcome, paperRefusal, paperStepped, paperMark}
+use Rattle.session.specs.Paper.{paperRefusal, paperStepped, paperMark}
 use Rattle.session.specs.Session.{Sent, measured, sentBytes}
-use Rattle.session.specs.declared.phase.Outcome.{Outcome}
 use Rattle.session.specs.declared.session.Mark.{Mark}
 use Rattle.session.specs.declared.session.Refusal.{Refusal}
 use Rattle.session.specs.declared.session.Stepped.{Stepped}
 
--- the outcome and the refusal of a number
-outcomeBy : ℕ → Outcome
-outcomeBy n = pick (eqb n 0) Outcome.Valid (pick (eqb n 40) Outcome.Silence (pick (eqb n 41) Outcome.Bel (pick (eqb n 42) Outcome.NoGreeting Outcome.Other)))
-
-outcome-back : (o : Outcome) → outcomeBy (paperOutcome o) ≡ o
-unfolding outcomeBy
-outcome-back Outcome.Valid = refl
-outcome-back Outcome.Silence = refl
-outcome-back Outcome.Bel = refl
-outcome-back Outcome.NoGreeting = refl
-outcome-back Outcome.Other = refl
-
-pub outcome-one : (o p : Outcome) → paperOutcome o ≡ paperOutcome p → o ≡ p
-outcome-one o p e = sym (outcome-back o) ∙ ap outcomeBy e ∙ outcome-back p
-
+-- the refusal of a number
 refusalBy : ℕ → Refusal
 refusalBy n = pick (eqb n 20) Refusal.Size (pick (eqb n 32) Refusal.Empty (pick (eqb n 44) Refusal.Ended Refusal.Foreign))
 

@@ -2,32 +2,17 @@
 use Prim.Native.Nat.{ℕ, _+_, _≤_, _<_}
 use mathlib.Core.Bool.{Bool, true, false}
 use mathlib.Core.List.{List, [], _∷_}
-use mathlib.Core.Path.{_≡_, refl, sym, ap₂}
+use mathlib.Core.Path.{_≡_, refl}
 use native.Mathlib.Numerals.{add-one}
 use native.Mathlib.Omega.{arith}
-use borrow.Author.Tests.{eq-eqb, ne-eqb, eqb-true}
+use borrow.Author.Tests.{eq-eqb, ne-eqb}
 use lib.Dec.{eqb}
 use lib.ListN.{length, getD, drop, drop-of-length-le}
 use lib.Seq.{drop-cons}
 use Rattle.basis.specs.Board.{greeting}
 use Rattle.basis.specs.Choice.{both}
-use Rattle.basis.specs.Laws.Choice.{both-true, true-false}
 use Rattle.session.specs.Events.{sameOf, greetsOf, classifyOf}
 use Rattle.session.specs.declared.event.Event.{Event}
-
--- the same are equal, and equal lists the same
-pub same-equal : (s t : List ℕ) → sameOf s t ≡ true → s ≡ t
-unfolding sameOf
-same-equal [] [] e = refl
-same-equal [] (y ∷ t) e = absurd (true-false (sym e))
-same-equal (x ∷ s) [] e = absurd (true-false (sym e))
-same-equal (x ∷ s) (y ∷ t) e =
-    let b = both-true (eqb x y) (sameOf s t) e in ap₂ _∷_ (eqb-true x y (b .0)) (same-equal s t (b .1))
-
-pub same-refl : (s : List ℕ) → sameOf s s ≡ true
-unfolding sameOf
-same-refl [] = refl
-same-refl (x ∷ s) = rw (eq-eqb x x refl) (same-refl s)
 
 -- lists of unlike length are not the same
 pub same-unlike : (s t : List ℕ) → (length s ≡ length t → ⊥) → sameOf s t ≡ false

@@ -2,8 +2,8 @@
 use Prim.Native.Nat.{ℕ, _+_, _*_, _≤_, _<_}
 use mathlib.Core.Bool.{Bool, true, false}
 use mathlib.Core.List.{List, []}
-use mathlib.Core.Path.{_≡_, refl, sym, ap, _∙_}
 use mathlib.Core.Logic.{_⊎_, inl, inr}
+use mathlib.Core.Path.{_≡_, refl, sym, ap, _∙_}
 use native.Mathlib.Omega.{arith}
 use borrow.Author.Tests.{eqb-true, le-ltb}
 use lib.Dec.{ltb}
@@ -71,9 +71,6 @@ module _ (m : List ℕ) (k : ℕ) where
       let d : runCount m ≤ k = omega arith in
       let f : runCount m + pieceCount m ≤ k = omega arith in
       rw (le-ltb _ _ d, le-ltb _ _ f, le-ltb _ _ b)
-
-  pub run-only : k < total m → phaseAt m k ≡ Phase.Run → k ≡ runCount m + 2 * pieceCount m
-  run-only l e = sym (stands-run m k (sym (ap (λ (ph : Phase). standsOf m ph k) e) ∙ at-stands m k l))
 
 -- ---- from state to state
 
