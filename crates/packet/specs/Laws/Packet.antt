@@ -27,10 +27,6 @@ pub packet-command : (c a : ℕ) (d : List ℕ) → command (packet c a d) ≡ c
 unfolding packet
 packet-command c a d = refl
 
--- no packet is a single byte
-pub packet-long : (c a : ℕ) (d : List ℕ) → 1 < length (packet c a d)
-packet-long c a d = omega (arith, packet-length c a d)
-
 -- ---- building
 
 module _ (room c a : ℕ) (d : List ℕ) where
