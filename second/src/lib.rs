@@ -22,4 +22,6 @@ pub mod listing;
 
 pub mod cases;
 
+pub mod bench;
+
 pub use refusal::Refusal;

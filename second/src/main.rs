@@ -1,9 +1,9 @@
-//! `second plan`, `second readlog` and `second cases`.
+//! `second plan`, `second readlog`, `second cases` and `second bench`.
 
 use std::io::{self, BufWriter, Read, Write};
 use std::process::ExitCode;
 
-use second::{cases, listing};
+use second::{bench, cases, listing};
 
 fn main() -> ExitCode {
     let arguments: Vec<String> = std::env::args().skip(1).collect();
@@ -11,8 +11,9 @@ fn main() -> ExitCode {
         ["plan"] => print(listing::plan),
         ["readlog"] => print(listing::readlog),
         ["cases"] => run_cases(),
+        ["bench", job, times] => run_bench(job, times),
         _ => {
-            eprintln!("usage: second plan | readlog | cases");
+            eprintln!("usage: second plan | readlog | cases | bench JOB TIMES");
             return ExitCode::from(2);
         }
     };
@@ -33,6 +34,16 @@ fn run_cases() -> io::Result<()> {
     let mut output = BufWriter::new(io::stdout().lock());
     cases::run(&input()?, &mut output)?;
     output.flush()
+}
+
+fn run_bench(job: &str, times: &str) -> io::Result<()> {
+    let mut output = io::stdout();
+    if job == "hex" {
+        return output.write_all(&bench::full_file());
+    }
+    let times = times.parse().map_err(io::Error::other)?;
+    let done = bench::run(job, times).ok_or_else(|| io::Error::other("no such job"))?;
+    writeln!(output, "{} {} {}", done.given, done.sum, done.nanoseconds)
 }
 
 fn input() -> io::Result<Vec<u8>> {

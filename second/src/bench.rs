@@ -1,0 +1,201 @@
+//! One job so many times, as the product's `bench` has them, over the same
+//! bytes: `second bench JOB TIMES`.
+
+use std::hint::black_box;
+use std::time::Instant;
+
+use crate::hex::{self, Reader, RECORD_BUFFER};
+use crate::loader::{Loader, ACK, BACKSPACE, GREETING};
+use crate::packet::{self, LONGEST, PIECE};
+use crate::session::{Event, Outcome, Phase, Run, Session};
+use crate::units::{ByteAddress, FLASH_BYTES, MAP_BYTES};
+
+const RECORDS: usize = FLASH_BYTES / 16 + 1;
+const FULL_MAP: u8 = 0xFF;
+/// Every second byte.
+const WORST_MAP: u8 = 0x55;
+/// Where W and V of one packet go.
+const PLACE: usize = 0x1234;
+const GOOD: &str = "the bytes are sound";
+
+/// What the turns gave in bytes, a sum over all buffers, and the time.
+pub struct Done {
+    pub given: u64,
+    pub sum: u64,
+    pub nanoseconds: u128,
+}
+
+/// Everything that jobs work on.
+struct Bench {
+    image: Vec<u8>,
+    map: Vec<u8>,
+    flash: Vec<u8>,
+    packet: [u8; LONGEST],
+    answer: [u8; GREETING.len()],
+    lines: Vec<[u8; RECORD_BUFFER]>,
+    lengths: Vec<usize>,
+    loader: Loader,
+    begun: Option<Session>,
+}
+
+type Prepare = fn(&mut Bench);
+type Turn = fn(&mut Bench, u64) -> u64;
+
+fn job(name: &str) -> Option<(u8, Prepare, Turn)> {
+    let job: (u8, Prepare, Turn) = match name {
+        "read" => (FULL_MAP, Bench::prepare_records, Bench::read),
+        "write" => (FULL_MAP, Bench::prepare_records, Bench::write),
+        "w" => (FULL_MAP, |bench| bench.prepare_board(b'W'), Bench::take),
+        "v" => (FULL_MAP, |bench| bench.prepare_board(b'V'), Bench::take),
+        "step-full" => (FULL_MAP, Bench::prepare_session, Bench::step_full),
+        "step-worst" => (WORST_MAP, Bench::prepare_session, Bench::step_worst),
+        "full" => (FULL_MAP, Bench::prepare_session, Bench::session),
+        "worst" => (WORST_MAP, Bench::prepare_session, Bench::session),
+        _ => return None,
+    };
+    Some(job)
+}
+
+/// None for a job that is not listed.
+pub fn run(name: &str, times: u64) -> Option<Done> {
+    let (map, prepare, turn) = job(name)?;
+    let mut bench = Bench::new(map);
+    prepare(&mut bench);
+    let mut given = 0;
+    let began = Instant::now();
+    for k in 0..times {
+        given += black_box(turn)(&mut bench, k);
+    }
+    Some(Done {
+        given,
+        nanoseconds: began.elapsed().as_nanos(),
+        sum: summed(&bench.image) + summed(&bench.flash) + summed(&bench.packet),
+    })
+}
+
+/// The full hex file.
+pub fn full_file() -> Vec<u8> {
+    let mut bench = Bench::new(FULL_MAP);
+    bench.prepare_records();
+    bench.records().flatten().copied().collect()
+}
+
+impl Bench {
+    fn new(map: u8) -> Bench {
+        let byte = |i: usize| (i * 167 + i / 256 * 13) as u8;
+        Bench {
+            image: (0..FLASH_BYTES).map(byte).collect(),
+            map: vec![map; MAP_BYTES],
+            flash: vec![0; FLASH_BYTES],
+            packet: [0; LONGEST],
+            answer: [0; GREETING.len()],
+            lines: vec![[0; RECORD_BUFFER]; RECORDS],
+            lengths: vec![0; RECORDS],
+            loader: Loader::factory(),
+            begun: None,
+        }
+    }
+
+    fn records(&self) -> impl Iterator<Item = &[u8]> {
+        let lines = self.lines.iter().zip(&self.lengths);
+        lines.map(|(line, length)| &line[..*length])
+    }
+
+    fn prepare_records(&mut self) {
+        self.write(0);
+    }
+
+    /// A board that serves, and holds the bytes that V asks for.
+    fn prepare_board(&mut self, command: u8) {
+        let data = &self.image[PLACE..PLACE + PIECE];
+        packet::build(&mut self.packet, command, PLACE as u32, data).expect(GOOD);
+        self.flash.copy_from_slice(&self.image);
+        let greeted = self
+            .loader
+            .take(&[BACKSPACE], &mut self.flash, &mut self.answer);
+        greeted.expect(GOOD);
+    }
+
+    fn prepare_session(&mut self) {
+        self.begun = Some(self.start().0);
+    }
+
+    fn read(&mut self, _: u64) -> u64 {
+        let (image, map) = (&mut self.image, &mut self.map);
+        let mut reader = Reader::start(image, map).expect(GOOD);
+        for (line, length) in self.lines.iter().zip(&self.lengths) {
+            reader.record(&line[..length - 1], image, map).expect(GOOD);
+        }
+        reader.close().expect(GOOD);
+        self.image.len() as u64
+    }
+
+    fn write(&mut self, _: u64) -> u64 {
+        let (mut characters, mut from) = (0, 0);
+        for (line, length) in self.lines.iter_mut().zip(&mut self.lengths) {
+            (*length, from) = hex::write(&self.image, &self.map, from, line).expect(GOOD);
+            characters += *length as u64;
+        }
+        characters
+    }
+
+    fn take(&mut self, _: u64) -> u64 {
+        let taken = self
+            .loader
+            .take(&self.packet, &mut self.flash, &mut self.answer);
+        taken.expect(GOOD) as u64
+    }
+
+    fn start(&mut self) -> (Session, usize) {
+        Session::start(Run::Reset, &self.image, &self.map, &mut self.packet).expect(GOOD)
+    }
+
+    fn step(&mut self, session: Session, answer: &[u8]) -> (Session, usize) {
+        let event = Event::Answer(answer);
+        let stepped = session.step(event, &self.image, &self.map, &mut self.packet);
+        stepped.expect(GOOD)
+    }
+
+    fn step_full(&mut self, k: u64) -> u64 {
+        self.step_spread(k, FLASH_BYTES.div_ceil(PIECE) as u32, PIECE as u32)
+    }
+
+    fn step_worst(&mut self, k: u64) -> u64 {
+        self.step_spread(k, FLASH_BYTES as u32 / 2, 2)
+    }
+
+    /// Step k of so many; an odd factor brings every piece in turn.
+    fn step_spread(&mut self, k: u64, pieces: u32, apart: u32) -> u64 {
+        let piece = (k * 12289 % u64::from(pieces)) as u32;
+        let place = ByteAddress(piece * apart);
+        let (phase, written) = match k & 2 {
+            0 => (Phase::Write(place), 0),
+            _ => (Phase::Verify(place), pieces),
+        };
+        let session = Session {
+            phase,
+            acknowledged: 1 + piece + written,
+            ..self.begun.expect("a session has begun")
+        };
+        self.step(session, &[ACK]).1 as u64
+    }
+
+    /// A whole session; gives the bytes that went over the line, both ways.
+    fn session(&mut self, _: u64) -> u64 {
+        let (session, length) = self.start();
+        let mut bytes = length + GREETING.len();
+        let (mut session, mut length) = self.step(session, GREETING);
+        while length > 0 {
+            bytes += length + 1;
+            (session, length) = self.step(session, &[ACK]);
+        }
+        assert_eq!(session.phase, Phase::Ended(Outcome::Valid));
+        bytes as u64
+    }
+}
+
+/// Each byte added to 31 times what was before.
+fn summed(bytes: &[u8]) -> u64 {
+    let add = |sum: u64, byte: &u8| (sum * 31 + u64::from(*byte)) & 0xFFFF_FFFF;
+    bytes.iter().fold(0, add)
+}

@@ -1,0 +1,217 @@
+/* Does one job of the library so many times, for ./bench to count: bench JOB TIMES.
+ *
+ *   read, write              the full hex file, record by record
+ *   w, v                     one packet of 250 bytes taken by the loader
+ *   step-full, step-worst    one step of a session, turn after turn at another piece
+ *   full, worst              a whole session of the host, every packet acknowledged
+ *
+ * Each writes one line: the bytes that its turns gave, a sum over all buffers, and the nanoseconds of all turns.
+ * `second bench` has the same jobs over the same bytes and must give the same two numbers. `bench hex 0` writes the
+ * full hex file instead. */
+#define _POSIX_C_SOURCE 199309L
+#include "gremolunde.h"
+#include <stdio.h>
+#include <stdlib.h>
+#include <string.h>
+#include <time.h>
+
+#define RECORDS (GREMOLUNDE_IMAGE / 16 + 1)
+#define PIECE 250
+#define WORST_MAP 0x55 /* every second byte */
+#define FULL_MAP 0xFF
+#define ACK 0x06
+
+static uint8_t image[GREMOLUNDE_IMAGE], map[GREMOLUNDE_MAP], flash[GREMOLUNDE_FLASH];
+static uint8_t packet[GREMOLUNDE_PACKET], answer[GREMOLUNDE_ANSWER];
+static uint8_t lines[RECORDS][GREMOLUNDE_RECORD];
+static size_t lengths[RECORDS];
+static gremolunde_loader board;
+static gremolunde_session begun;
+
+static void must(int good, const char *what) {
+    if (!good) {
+        fprintf(stderr, "bench: %s went wrong\n", what);
+        exit(1);
+    }
+}
+
+static void make_file(int named) {
+    uint32_t i;
+    for (i = 0; i < GREMOLUNDE_IMAGE; i++) {
+        image[i] = (uint8_t)(i * 167 + i / 256 * 13);
+    }
+    memset(map, named, sizeof map);
+}
+
+/* Each byte added to 31 times what was before. */
+static uint64_t summed(const uint8_t *bytes, size_t length) {
+    uint64_t sum = 0;
+    size_t i;
+    for (i = 0; i < length; i++) {
+        sum = (sum * 31 + bytes[i]) & 0xFFFFFFFF;
+    }
+    return sum;
+}
+
+static uint64_t write_records(uint64_t k) {
+    gremolunde_written written = {0, 0, 0};
+    uint64_t characters = 0;
+    size_t i;
+    (void)k;
+    for (i = 0; i < RECORDS; i++) {
+        written = gremolunde_hex_write(image, sizeof image, map, sizeof map, written.next, lines[i], sizeof lines[i]);
+        lengths[i] = written.length;
+        characters += written.length;
+    }
+    must(written.number == 0 && written.next == GREMOLUNDE_IMAGE + 1, "writing");
+    return characters;
+}
+
+static uint64_t read_records(uint64_t k) {
+    gremolunde_read read = gremolunde_hex_start(image, sizeof image, map, sizeof map);
+    size_t i;
+    (void)k;
+    for (i = 0; i < RECORDS; i++) {
+        read = gremolunde_hex_record(read.reader, lines[i], lengths[i] - 1, image, sizeof image, map, sizeof map);
+    }
+    must(read.number == 0 && gremolunde_hex_close(read.reader).number == 0, "reading");
+    return sizeof image;
+}
+
+/* A board that serves, and holds the bytes that V asks for. */
+static void make_board(uint8_t command) {
+    uint8_t hello = 0x08;
+    gremolunde_length built =
+        gremolunde_packet_build(packet, sizeof packet, command, 0x1234, image + 0x1234, PIECE);
+    memcpy(flash, image, sizeof flash);
+    board = gremolunde_loader_take(gremolunde_loader_new(), &hello, 1, flash, sizeof flash, answer, sizeof answer)
+                .loader;
+    must(built.length == sizeof packet, "building");
+}
+
+static uint64_t take(uint64_t k) {
+    gremolunde_taken taken =
+        gremolunde_loader_take(board, packet, sizeof packet, flash, sizeof flash, answer, sizeof answer);
+    (void)k;
+    must(taken.number == 0, "taking");
+    board = taken.loader;
+    return taken.answered;
+}
+
+static gremolunde_stepped start(void) {
+    gremolunde_stepped now =
+        gremolunde_session_start(GREMOLUNDE_RESET, image, sizeof image, map, sizeof map, packet, sizeof packet);
+    must(now.number == 0, "starting");
+    return now;
+}
+
+static gremolunde_stepped step(gremolunde_session session, const uint8_t *heard, size_t length) {
+    return gremolunde_session_step(session, 0, heard, length, image, sizeof image, map, sizeof map, packet,
+                                   sizeof packet);
+}
+
+/* The session after E and so many pieces written, or all written and so many verified. */
+static gremolunde_session session_at(uint32_t piece, uint32_t pieces, uint32_t apart, int verifying) {
+    gremolunde_session session = begun;
+    session.phase = verifying ? GREMOLUNDE_VERIFY : GREMOLUNDE_WRITE;
+    session.place = piece * apart;
+    session.acknowledged = 1 + piece + (verifying ? pieces : 0);
+    return session;
+}
+
+/* Step k of so many; an odd factor brings every piece in turn. */
+static uint64_t step_spread(uint64_t k, uint32_t pieces, uint32_t apart) {
+    static const uint8_t ack[] = {ACK};
+    gremolunde_session session = session_at((uint32_t)(k * 12289 % pieces), pieces, apart, (k & 2) != 0);
+    gremolunde_stepped now = step(session, ack, sizeof ack);
+    must(now.number == 0, "stepping");
+    return now.length;
+}
+
+/* A whole session; gives the bytes that went over the line, both ways. */
+static uint64_t whole_session(uint64_t k) {
+    static const char greeting[] = "ADuC702x   -62 I31    \n\r";
+    static const uint8_t ack[] = {ACK};
+    gremolunde_stepped now = start();
+    uint64_t bytes = now.length + GREMOLUNDE_ANSWER;
+    (void)k;
+    now = step(now.session, (const uint8_t *)greeting, GREMOLUNDE_ANSWER);
+    while (now.length > 0) {
+        bytes += now.length + sizeof ack;
+        now = step(now.session, ack, sizeof ack);
+    }
+    must(gremolunde_session_outcome(now.session) == 0, "a session");
+    return bytes;
+}
+
+static uint64_t step_full(uint64_t k) { return step_spread(k, (GREMOLUNDE_IMAGE + PIECE - 1) / PIECE, PIECE); }
+
+static uint64_t step_worst(uint64_t k) { return step_spread(k, GREMOLUNDE_IMAGE / 2, 2); }
+
+static void prepare_records(void) { write_records(0); }
+
+static void prepare_w(void) { make_board(0x57); }
+
+static void prepare_v(void) { make_board(0x56); }
+
+static void prepare_session(void) { begun = start().session; }
+
+static const struct job {
+    const char *name;
+    int map;
+    void (*prepare)(void);
+    uint64_t (*turn)(uint64_t k);
+} jobs[] = {
+    {"read", FULL_MAP, prepare_records, read_records},
+    {"write", FULL_MAP, prepare_records, write_records},
+    {"w", FULL_MAP, prepare_w, take},
+    {"v", FULL_MAP, prepare_v, take},
+    {"step-full", FULL_MAP, prepare_session, step_full},
+    {"step-worst", WORST_MAP, prepare_session, step_worst},
+    {"full", FULL_MAP, prepare_session, whole_session},
+    {"worst", WORST_MAP, prepare_session, whole_session},
+};
+
+static uint64_t nanoseconds(void) {
+    struct timespec now;
+    clock_gettime(CLOCK_MONOTONIC, &now);
+    return (uint64_t)now.tv_sec * 1000000000 + (uint64_t)now.tv_nsec;
+}
+
+static void repeat(const struct job *job, uint64_t times) {
+    uint64_t k, began, took, given = 0, sum;
+    make_file(job->map);
+    job->prepare();
+    began = nanoseconds();
+    for (k = 0; k < times; k++) {
+        given += job->turn(k);
+    }
+    took = nanoseconds() - began;
+    sum = summed(image, sizeof image) + summed(flash, sizeof flash) + summed(packet, sizeof packet);
+    printf("%llu %llu %llu\n", (unsigned long long)given, (unsigned long long)sum, (unsigned long long)took);
+}
+
+static void print_file(void) {
+    size_t i;
+    make_file(FULL_MAP);
+    write_records(0);
+    for (i = 0; i < RECORDS; i++) {
+        must(fwrite(lines[i], 1, lengths[i], stdout) == lengths[i], "printing");
+    }
+}
+
+int main(int count, char **words) {
+    size_t i;
+    for (i = 0; count == 3 && i < sizeof jobs / sizeof *jobs; i++) {
+        if (strcmp(words[1], jobs[i].name) == 0) {
+            repeat(&jobs[i], strtoull(words[2], NULL, 10));
+            return 0;
+        }
+    }
+    if (count == 3 && strcmp(words[1], "hex") == 0) {
+        print_file();
+        return 0;
+    }
+    fprintf(stderr, "usage: bench JOB TIMES\n");
+    return 2;
+}
