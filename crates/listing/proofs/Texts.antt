@@ -1,9 +1,9 @@
 -- What each way out of the text's functions shows.
 use Prim.Native.Nat.{ℕ, _+_, _-_, _^_, _≤_, _<_}
 use mathlib.Core.List.{List, [], _∷_}
-use mathlib.Core.Path.{_≡_, refl, ap, _∙_}
+use mathlib.Core.Path.{_≡_, refl, sym, ap, _∙_}
 use native.Mathlib.Omega.{arith}
-use borrow.Author.Tests.{eq-eqb, ne-eqb, lt-ltb, le-ltb}
+use borrow.Author.Tests.{eq-eqb, ne-eqb}
 use lib.ListN.{length, getD, set, take}
 use Rattle.basis.specs.Refusals.{Answer}
 use Rattle.image.specs.Hex.{paperRead, Outcome, outcome, settled, startIn, recordIn}
@@ -13,8 +13,9 @@ use Rattle.image.specs.declared.hex.Hex.{Hex}
 use Rattle.image.specs.declared.hex.Read.{Read}
 use Rattle.image.specs.declared.record.Refusal.{Refusal}
 use Rattle.listing.specs.Text.{Verdict, refusedAt, result, trimmedOf, readIn}
+use Rattle.listing.specs.Laws.Feed.{feed-more, byte-ends, byte-kept}
 use Rattle.listing.specs.Laws.Reading.{text-reads}
-use Rattle.listing.specs.Feed.{Progress, stopped, going, Fed, fed, started, paperReading, begunBy, feedOf, closeOf, verdictOf, fedResult, nextLine, tookBy, took, longer, textByte, progressByte, lastOf, shutBy, shutOf, shutFed, progressClosed}
+use Rattle.listing.specs.Feed.{Progress, stopped, going, Fed, fed, started, paperReading, begunBy, feedOf, closeOf, verdictOf, fedResult, nextLine, tookBy, took, withKept, keepOneOf, textByte, progressByte, Keeps, lastOf, shutBy, shutOf, shutFed, progressClosed}
 use Rattle.listing.specs.declared.text.Reading.{Reading}
 use Rattle.listing.specs.declared.text.Text.{Text}
 
@@ -59,18 +60,27 @@ took-shown t p line i m o s = rw (s .0, s .1, s .2)
 -- ---- a byte
 
 module _ (size : ℕ) (t : Text) (b : ℕ) (line image map : List ℕ) where
-  pub byte-ends : (l i m : List ℕ) (p : Progress) → b ≡ 0x0A → l ≡ trimmedOf (take (t .len) line) → Shown (tookBy t) p i m (settled (recordIn size (t .hex) l image map) image map) → fed p line i m ≡ textByte size t b line image map
-  unfolding textByte
-  byte-ends l i m p e el s = rw (eq-eqb _ _ e) (took-shown t p line i m (settled (recordIn size (t .hex) (trimmedOf (take (t .len) line)) image map) image map) (rw el at s))
+  pub ended-by : (l i m : List ℕ) (p : Progress) → b ≡ 0x0A → l ≡ trimmedOf (take (t .len) line) → Shown (tookBy t) p i m (settled (recordIn size (t .hex) l image map) image map) → fed p line i m ≡ textByte size t b line image map
+  ended-by l i m p e el s =
+      took-shown t p line i m (settled (recordIn size (t .hex) (trimmedOf (take (t .len) line)) image map) image map) (rw el at s)
+      ∙ sym (byte-ends size t b line image map e)
 
-  module _ (n : b ≡ 0x0A → ⊥) where
-    pub byte-kept : t .len < length line → fed (going (longer t)) (set line (t .len) b) image map ≡ textByte size t b line image map
-    unfolding textByte
-    byte-kept h = rw (ne-eqb _ _ n, lt-ltb _ _ h)
+  pub kept-by : (n : ℕ) (k : List ℕ) → (b ≡ 0x0A → ⊥) → (n ≡ keepOneOf (t .len) line) × (k ≡ set line (t .len) b) → fed (going (withKept t n)) k image map ≡ textByte size t b line image map
+  kept-by n k e f = rw (f .0, f .1) (sym (byte-kept size t b line image map e))
 
-    pub byte-lost : length line ≤ t .len → fed (going t) line image map ≡ textByte size t b line image map
-    unfolding textByte
-    byte-lost h = rw (ne-eqb _ _ n, le-ltb _ _ h)
+-- ---- a stretch of the open line
+
+module _ (size : ℕ) (t : Text) (line bytes : List ℕ) where
+  -- so many bytes are gone through, and n are kept
+  abbrev pub Gone : ℕ → List ℕ → ℕ → Type 0
+  Gone n k i = (image map : List ℕ) → fed (going (withKept t n)) k image map ≡ feedOf size (fed (going t) line image map) (take i bytes)
+
+  pub gone-more : (n m i : ℕ) (k l : List ℕ) → i + 1 < length bytes → (getD bytes i 0 ≡ 0x0A → ⊥) → (m ≡ keepOneOf n k) × (l ≡ set k n (getD bytes i 0)) → Gone n k i → Gone m l (i + 1)
+  gone-more n m i k l h e f g image map =
+      feed-more size (fed (going t) line image map) (fed (going (withKept t n)) k image map) (fed (going (withKept t m)) l image map) bytes i (omega arith) (g image map) (kept-by size (withKept t n) (getD bytes i 0) k image map m l e f)
+
+  pub gone-kept : (n i j : ℕ) (k : List ℕ) (p : Progress) → (p ≡ going (withKept t n)) × (j ≡ i) → i ≤ length bytes - 1 → Gone n k i → Keeps size (going t) line bytes p k j
+  gone-kept n i j k p e h g = rw (e .0, e .1) (h, g)
 
 -- ---- the end
 
@@ -106,6 +116,14 @@ module _ (size : ℕ) (r : Reading) (line image map : List ℕ) where
 
   pub close-refused : (n : ℕ) (x : Refusal) → r ≡ Reading.Refused n x → fed (stopped n (paperRefusal x)) line image map ≡ progressClosed size (paperReading r) line image map
   close-refused n x e = rw e
+
+module _ (size : ℕ) (r : Reading) (line : List ℕ) where
+  pub keep-open : (t : Text) (bytes k : List ℕ) (q : Progress) (n : ℕ) → r ≡ Reading.Open t → Keeps size (going t) line bytes q k n → Keeps size (paperReading r) line bytes q k n
+  keep-open t bytes k q n e h = rw e h
+
+  pub keep-refused : (n : ℕ) (x : Refusal) (image map : List ℕ) → r ≡ Reading.Refused n x → fed (stopped n (paperRefusal x)) line image map ≡ feedOf size (fed (paperReading r) line image map) []
+  unfolding feedOf
+  keep-refused n x image map e = rw e
 
 -- ---- a whole text
 

@@ -1,6 +1,7 @@
 -- A text as it comes, byte by byte, with what is lent: the line buffer, image and map.
-use Prim.Native.Nat.{ℕ, _+_, _%_, _^_}
+use Prim.Native.Nat.{ℕ, _+_, _-_, _%_, _^_, _≤_}
 use mathlib.Core.List.{List, [], _∷_}
+use mathlib.Core.Path.{_≡_}
 use lib.Dec.{eqb, ltb}
 use lib.ListN.{length, set, take}
 use Rattle.basis.specs.Choice.{pick}
@@ -59,16 +60,18 @@ took t o line = fed (tookBy t (o .answer)) line (o .image) (o .map)
 abbrev pub tookLine : ℕ → Text → List ℕ → List ℕ → List ℕ → List ℕ → Fed
 tookLine size t l line image map = took t (settled (recordIn size (t .hex) l image map) image map) line
 
--- one byte of the open line more
-abbrev pub longer : Text → Text
-longer t = record { hex = t .hex; lines = t .lines; len = t .len + 1 }
+-- one byte of the open line more is kept where the line buffer has room
+unfoldable pub keepOneOf : ℕ → List ℕ → ℕ
+keepOneOf n line = pick (ltb n (length line)) (n + 1) n
 
--- 0A ends the line; any other byte is kept where the line buffer has room
+abbrev pub withKept : Text → ℕ → Text
+withKept t n = record { hex = t .hex; lines = t .lines; len = n }
+
+-- 0A ends the line; any other byte is kept
 unfoldable pub textByte : ℕ → Text → ℕ → List ℕ → List ℕ → List ℕ → Fed
 textByte size t b line image map =
     pick (eqb b 0x0A) (tookLine size t (trimmedOf (take (t .len) line)) line image map)
-    (pick (ltb (t .len) (length line)) (fed (going (longer t)) (set line (t .len) b) image map)
-    (fed (going t) line image map))
+    (fed (going (withKept t (keepOneOf (t .len) line))) (set line (t .len) b) image map)
 
 abbrev pub progressByte : ℕ → Progress → ℕ → List ℕ → List ℕ → List ℕ → Fed
 progressByte size (stopped n k) b line image map = fed (stopped n k) line image map
@@ -81,6 +84,11 @@ byteOf size s b = progressByte size (s .progress) b (s .line) (s .image) (s .map
 unfoldable pub feedOf : ℕ → Fed → List ℕ → Fed
 feedOf size s [] = s
 feedOf size s (b ∷ t) = feedOf size (byteOf size s b) t
+
+-- a stretch of the open line, never the last byte that came: what its bytes one by one leave, which is no matter of image and map
+abbrev pub Keeps : ℕ → Progress → List ℕ → List ℕ → Progress → List ℕ → ℕ → Type 0
+Keeps size p line bytes q kept n =
+    (n ≤ length bytes - 1) × ((image map : List ℕ) → fed q kept image map ≡ feedOf size (fed p line image map) (take n bytes))
 
 -- the line behind the last 0A, as it stands
 unfoldable pub lastOf : ℕ → Text → List ℕ → List ℕ → List ℕ → Fed

@@ -1,11 +1,11 @@
 // Hex text, byte by byte: each line is a record, and how the text is cut into reads does not matter.
 ghost use mathlib.Core.Path.{_≡_};
 ghost use Prim.Native.Nat.{_≤_};
-ghost use lib.ListN.{length, take};
+ghost use lib.ListN.{length, set, take};
 ghost use Rattle.basis.specs.Board.{flashSize};
 ghost use Rattle.image.specs.Hex.{settled, startIn, recordIn};
 ghost use Rattle.listing.specs.Text.{result, trimmedOf, readIn};
-ghost use Rattle.listing.specs.Feed.{paperReading, paperEnded, verdictOf, fed, begunBy, tookBy, textByte, byteOf, feedOf, lastOf, shutOf, closeOf};
+ghost use Rattle.listing.specs.Feed.{going, paperReading, paperEnded, verdictOf, fed, begunBy, tookBy, keepOneOf, withKept, textByte, byteOf, feedOf, Keeps, lastOf, shutOf, closeOf};
 use image::hex::Hex;
 use image::hex::Read;
 use image::record::Refusal;
@@ -24,6 +24,12 @@ pub enum Reading {
     Open(Text),
     // The line is counted from 1; 0 where none is to blame.
     Refused { at: u64, refusal: Refusal },
+}
+
+// Bytes of the open line that came at once: what they leave, and how many they are.
+struct Stretch {
+    reading: Reading,
+    len: usize,
 }
 
 // What a whole text came to.
@@ -57,10 +63,25 @@ impl Reading {
         let mut reading = self;
         let mut i = 0;
         while i < bytes.len() {
-            reading = reading.byte(bytes[i], line, image, map);
+            let stretch = reading.keep(&bytes[i..], line);
+            let open = stretch.reading;
+            i += stretch.len;
+            reading = open.byte(bytes[i], line, image, map);
             i += 1;
         }
         reading
+    }
+
+    fn keep(self, bytes: &[u8], line: &mut [u8]) -> Stretch
+        ensures { λ r. ⌜ Keeps flashSize (paperReading self) (now (line .entry)) (now (bytes .entry)) (paperReading (r .reading)) (now (line .exit)) (r .len) ⌝ }
+    {
+        match self {
+            Reading::Open(text) => text.keep(bytes, line),
+            Reading::Refused { at, refusal } => Stretch {
+                reading: Reading::Refused { at, refusal },
+                len: 0,
+            },
+        }
     }
 
     fn byte(self, b: u8, line: &mut [u8], image: &mut [u8], map: &mut [u8]) -> Reading
@@ -104,6 +125,35 @@ impl Reading {
 }
 
 impl Text {
+    // A stretch is gone through at once, since a byte at a time carries the whole state along.
+    fn keep(self, bytes: &[u8], line: &mut [u8]) -> Stretch
+        ensures { λ r. ⌜ Keeps flashSize (going self) (now (line .entry)) (now (bytes .entry)) (paperReading (r .reading)) (now (line .exit)) (r .len) ⌝ }
+    {
+        let mut len = self.len;
+        let mut i = 0;
+        // the last byte that came is left to `byte`
+        while i + 1 < bytes.len() {
+            if bytes[i] == 0x0A {
+                return self.stretch(len, i);
+            }
+            len = keep_one(line, len, bytes[i]);
+            i += 1;
+        }
+        self.stretch(len, i)
+    }
+
+    fn stretch(self, kept: usize, len: usize) -> Stretch
+        ensures { λ r. ⌜ (paperReading (r .reading) ≡ going (withKept self kept)) × (r .len ≡ len) ⌝ }
+    {
+        let hex = self.hex;
+        let reading = Reading::Open(Text {
+            hex,
+            lines: self.lines,
+            len: kept,
+        });
+        Stretch { reading, len }
+    }
+
     fn byte(self, b: u8, line: &mut [u8], image: &mut [u8], map: &mut [u8]) -> Reading
         ensures { λ r. ⌜ fed (paperReading r) (now (line .exit)) (now (image .exit)) (now (map .exit)) ≡ textByte flashSize self b (now (line .entry)) (now (image .entry)) (now (map .entry)) ⌝ }
     {
@@ -111,16 +161,12 @@ impl Text {
         if b == 0x0A {
             return self.take(trimmed(kept(line, n)), image, map);
         }
-        if n < line.len() {
-            line[n] = b;
-            let hex = self.hex;
-            return Reading::Open(Text {
-                hex,
-                lines: self.lines,
-                len: n + 1,
-            });
-        }
-        Reading::Open(self)
+        let hex = self.hex;
+        Reading::Open(Text {
+            hex,
+            lines: self.lines,
+            len: keep_one(line, n, b),
+        })
     }
 
     // What stands behind the last 0A; nothing is no line.
@@ -172,6 +218,17 @@ pub fn read(text: &[u8], image: &mut [u8], map: &mut [u8]) -> Ended
     let started = Reading::start(image, map);
     let reading = started.feed(text, &mut line, image, map);
     reading.close(&line, image, map).ended()
+}
+
+// One byte more behind the first `n`, where there is room; how many are kept then.
+fn keep_one(line: &mut [u8], n: usize, b: u8) -> usize
+    ensures { λ r. ⌜ (r ≡ keepOneOf n (now (line .entry))) × (now (line .exit) ≡ set (now (line .entry)) n b) ⌝ }
+{
+    if line.len() <= n {
+        return n;
+    }
+    line[n] = b;
+    n + 1
 }
 
 // The first `n` bytes, or all where there are fewer.

@@ -9,7 +9,7 @@ use native.Mathlib.Omega.{arith}
 use borrow.Author.Tests.{eq-eqb, ne-eqb, lt-ltb, le-ltb, eqb-true, eqb-false, ltb-true, ltb-false}
 use lib.Dec.{eqb, ltb}
 use lib.ListN.{length, getD, set, take, length-append, length-take, length-set}
-use lib.Seq.{length-take-le, take-all, take-nil, take-append-le, take-suc-set, getD-take}
+use lib.Seq.{length-take-le, take-all, take-nil, take-append-le, take-suc-set, set-out, getD-take}
 use Rattle.basis.specs.Choice.{pick}
 use Rattle.basis.specs.Laws.Choice.{decide}
 use Rattle.basis.specs.Refusals.{Answer, refused, given, first}
@@ -18,7 +18,8 @@ use Rattle.image.specs.Hex.{closeOf as closing}
 use Rattle.image.specs.declared.hex.Hex.{Hex}
 use Rattle.listing.specs.Text.{Result, result, trimmedOf, linesFrom, onward, readFrom, readIn}
 use Rattle.listing.specs.Text.{shutBy as verdictBy}
-use Rattle.listing.specs.Feed.{Fed, fed, started, stopped, going, nextLine, took, tookLine, longer, byteOf, textByte, feedOf, lastOf, shutBy, shutOf, shutFed, closeOf, verdictOf, fedResult}
+use Rattle.listing.specs.Feed.{Fed, fed, started, stopped, going, nextLine, took, withKept, keepOneOf, byteOf, feedOf, lastOf, shutBy, shutOf, shutFed, closeOf, verdictOf, fedResult}
+use Rattle.listing.specs.Laws.Feed.{byte-ends, byte-kept, keep-more, keep-none}
 use Rattle.listing.specs.declared.text.Text.{Text}
 
 -- ---- of a line that is too long, only its first character counts
@@ -85,18 +86,19 @@ module _ (l : List ℕ) (t : Text) (line : List ℕ) (h : Held l t line) where
   unfolding Held
   held-is = h .1
 
-  held-more : (b : ℕ) → t .len < length line → Held (l ++ (b ∷ [])) (longer t) (set line (t .len) b)
+  held-byte : (b : ℕ) → Held (l ++ (b ∷ [])) (withKept t (keepOneOf (t .len) line)) (set line (t .len) b)
   unfolding Held
-  held-more b k =
+  held-byte b =
+      decide (ltb (t .len) (length line))
+      (λ z. let k = ltb-true (t .len) (length line) z in
       let short : length l ≡ t .len = omega (arith, held-length, length-take (length line) l) in
       let e : take (t .len) line ≡ l = h .1 ∙ take-all (length line) l (omega arith) in
-      (simp length-set (omega arith), rw (add-one, take-suc-set line (t .len) b k, e) (sym (take-all (length (set line (t .len) b)) (l ++ (b ∷ [])) (simp (length-append, length-set) (omega arith)))))
-
-  held-lost : (b : ℕ) → length line ≤ t .len → Held (l ++ (b ∷ [])) t line
-  unfolding Held
-  held-lost b k =
+      rw (keep-more (t .len) line k)
+      (simp length-set (omega arith), rw (add-one, take-suc-set line (t .len) b k, e) (sym (take-all (length (set line (t .len) b)) (l ++ (b ∷ [])) (simp (length-append, length-set) (omega arith))))))
+      (λ z. let k = ltb-false (t .len) (length line) z in
       let long : length line ≤ length l = omega (arith, held-length, length-take (length line) l, h .0) in
-      (h .0, h .1 ∙ sym (take-append-le (length line) l (b ∷ []) long))
+      rw (keep-none (t .len) line k, set-out line (t .len) b k)
+      (h .0, h .1 ∙ sym (take-append-le (length line) l (b ∷ []) long)))
 
 held-none : (t : Text) (line : List ℕ) → t .len ≡ 0 → Held [] t line
 unfolding Held
@@ -145,21 +147,7 @@ module _ (size : ℕ) where
   numbered : (n k : ℕ) → n + k + 1 < 2 ^ 64 → (n + 1) % 2 ^ 64 ≡ n + 1
   numbered n k l = mod-eq-of-lt (omega arith)
 
-  -- one byte: it ends the line, is kept, or is lost; and so with the lines that follow
-  module _ (t : Text) (b : ℕ) (line image map : List ℕ) where
-    byte-ends : eqb b 0x0A ≡ true → textByte size t b line image map ≡ tookLine size t (trimmedOf (take (t .len) line)) line image map
-    unfolding textByte
-    byte-ends z = rw z
-
-    module _ (z : eqb b 0x0A ≡ false) where
-      byte-kept : ltb (t .len) (length line) ≡ true → textByte size t b line image map ≡ fed (going (longer t)) (set line (t .len) b) image map
-      unfolding textByte
-      byte-kept k = rw (z, k)
-
-      byte-lost : ltb (t .len) (length line) ≡ false → textByte size t b line image map ≡ fed (going t) line image map
-      unfolding textByte
-      byte-lost k = rw (z, k)
-
+  -- one byte more, with the lines that follow
   module _ (l text : List ℕ) (b : ℕ) where
     lines-end : eqb b 0x0A ≡ true → linesFrom l (b ∷ text) ≡ trimmedOf l ∷ linesFrom [] text
     unfolding linesFrom
@@ -185,16 +173,13 @@ module _ (size : ℕ) where
       let f : File = file (t .hex) image map in
       fed-on (fed (going t) line image map) b text
       ∙ decide (eqb b 0x0A)
-      (λ z. ap (λ (s : Fed). end s text) (byte-ends t b line image map z ∙ ap (λ (a : Answer File). took t (settled a image map) line) (ap (λ (k : List ℕ). recordIn size (t .hex) (trimmedOf k) image map) (held-is l t line h) ∙ record-trimmed size (t .hex) image map (length line) l room))
+      (λ z. ap (λ (s : Fed). end s text) (byte-ends size t b line image map (eqb-true b 0x0A z) ∙ ap (λ (a : Answer File). took t (settled a image map) line) (ap (λ (k : List ℕ). recordIn size (t .hex) (trimmedOf k) image map) (held-is l t line h) ∙ record-trimmed size (t .hex) image map (length line) l room))
       ∙ went t line image map text (recordIn size (t .hex) (trimmedOf l) image map) (readFrom size (t .lines + 1) (linesFrom [] text)) next
       (λ g. reads text [] line (g .image) (g .map) (fresh t (g .reader)) room (held-none (fresh t (g .reader)) line refl) (omega (arith, next))
       ∙ ap (λ (n : ℕ). readFrom size n (linesFrom [] text) g) next)
       ∙ sym (ap (λ (ls : List (List ℕ)). readFrom size (t .lines) ls f) (lines-end l text b z) ∙ read-on (t .lines) (trimmedOf l) (linesFrom [] text) f))
-      (λ z. decide (ltb (t .len) (length line))
-      (λ k. ap (λ (s : Fed). end s text) (byte-kept t b line image map z k)
-      ∙ reads text (l ++ (b ∷ [])) (set line (t .len) b) image map (longer t) (simp length-set room) (held-more l t line h b (ltb-true (t .len) (length line) k)) (omega arith))
-      (λ k. ap (λ (s : Fed). end s text) (byte-lost t b line image map z k)
-      ∙ reads text (l ++ (b ∷ [])) line image map t room (held-lost l t line h b (ltb-false (t .len) (length line) k)) (omega arith))
+      (λ z. ap (λ (s : Fed). end s text) (byte-kept size t b line image map (eqb-false b 0x0A z))
+      ∙ reads text (l ++ (b ∷ [])) (set line (t .len) b) image map (withKept t (keepOneOf (t .len) line)) (simp length-set room) (held-byte l t line h b) (omega arith)
       ∙ sym (ap (λ (ls : List (List ℕ)). readFrom size (t .lines) ls f) (lines-on l text b z)))
 
   -- from the start on, however the text was cut: what the paper says of its lines

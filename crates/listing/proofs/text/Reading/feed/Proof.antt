@@ -5,7 +5,7 @@ use borrow.Author.Needs.{needs}
 use lib.ListN.{length, drop}
 use Rattle.basis.specs.Board.{flashSize}
 use Rattle.listing.specs.Feed.{paperReading, fed, feedOf}
-use Rattle.listing.specs.Laws.Feed.{feed-next, feed-end}
+use Rattle.listing.specs.Laws.Feed.{rest-lent, feed-next, feed-end}
 use Rattle.listing.proofs.text.Reading.feed.Statement.{statement}
 use Rattle.listing.proofs.text.Reading.feed.Tie as tie
 
@@ -18,20 +18,35 @@ abbrev μ-loop : tie.MeasureT-loop
 loop-holds : tie.Need-loop-holds Inv-loop μ-loop
 loop-holds c = (search needs, refl, refl, refl, refl)
 
+sub-keep : tie.Need-sub-keep Inv-loop μ-loop
+sub-keep c = search needs
+
+part-keep-start : tie.Need-part-keep-start Inv-loop μ-loop
+part-keep-start c = search needs
+
+part-keep-end : tie.Need-part-keep-end Inv-loop μ-loop
+part-keep-end c = search needs
+
+keep-requires : tie.Need-keep-requires Inv-loop μ-loop
+keep-requires c κs = search needs
+
+add-i : tie.Need-add-i Inv-loop μ-loop
+add-i c = search needs
+
 shared-slice-read-byte : tie.Need-shared-slice-read-byte Inv-loop μ-loop
 shared-slice-read-byte c = search needs
 
 byte-requires : tie.Need-byte-requires Inv-loop μ-loop
 byte-requires c κs = search needs
 
-add-i : tie.Need-add-i Inv-loop μ-loop
-add-i c = search needs
+add-i-2 : tie.Need-add-i-2 Inv-loop μ-loop
+add-i-2 c = search needs
 
 loop-less : tie.Need-loop-less Inv-loop μ-loop
 loop-less c = search needs
 
 loop-again : tie.Need-loop-again Inv-loop μ-loop
-loop-again c = (search needs, search needs, search needs, search needs, feed-next flashSize _ _ _ _ (c .before .before .before .before .before .before .before .before .before .before .before .loop-test .taken) (c .before .before .before .before .before .before .byte .ensures) ∙ c .before .before .before .before .before .before .before .before .before .before .before .before .loop .inv .4)
+loop-again c = (search needs, search needs, search needs, search needs, feed-next flashSize _ _ _ _ _ _ _ (c .before .before .before .before .before .before .before .before .before .before .before .before .before .before .before .before .before .loop-test .taken) (rest-lent (c .before .before .before .before .before .before .before .before .before .before .before .before .before .before .before .before .before .before .before .before .before .before .before .args .bytes .now) (c .before .before .before .before .before .before .before .before .before .before .before .before .before .before .before .before .before .before .loop .i)) (c .before .before .before .before .before .before .before .before .before .before .before .before .before .before .keep .ensures .0) (c .before .before .before .before .before .before .before .before .before .before .before .before .before .before .keep .ensures .1 _ _) (c .before .before .before .before .before .before .byte .ensures) ∙ c .before .before .before .before .before .before .before .before .before .before .before .before .before .before .before .before .before .before .loop .inv .4)
 
 same-length : tie.Need-same-length Inv-loop μ-loop
 same-length c = search needs
@@ -52,9 +67,14 @@ feed-spec =
     Inv-loop
     μ-loop
     loop-holds
+    sub-keep
+    part-keep-start
+    part-keep-end
+    keep-requires
+    add-i
     shared-slice-read-byte
     byte-requires
-    add-i
+    add-i-2
     loop-less
     loop-again
     same-length

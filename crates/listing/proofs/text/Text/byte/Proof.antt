@@ -1,8 +1,8 @@
 -- `byte` meets its contract: 0A ends the line, another byte is kept where there is room.
 use mathlib.Core.Path.{ap, _∙_}
-use borrow.Author.Needs.{needs}
 use Rattle.listing.specs.Text.{trimmedOf}
-use Rattle.listing.proofs.Texts.{byte-ends, byte-kept, byte-lost}
+use Rattle.listing.proofs.Texts.{ended-by, kept-by}
+use borrow.Author.Needs.{needs}
 use Rattle.listing.proofs.text.Text.byte.Statement.{statement}
 use Rattle.listing.proofs.text.Text.byte.Tie as tie
 
@@ -25,22 +25,16 @@ same-length-3 : tie.Need-same-length-3
 same-length-3 c = search needs
 
 returns : tie.Need-returns
-returns c = byte-ends _ _ _ _ _ _ _ _ _ _ (c .before .before .before .before .before .before .before .before .before .before .if1 .taken) (c .before .before .before .before .before .before .before .trimmed .ensures ∙ ap trimmedOf (c .before .before .before .before .before .before .before .before .kept .ensures)) (c .before .before .before .before .take .ensures)
+returns c = ended-by _ _ _ _ _ _ _ _ _ _ (c .before .before .before .before .before .before .before .before .before .before .if1 .taken) (c .before .before .before .before .before .before .before .trimmed .ensures ∙ ap trimmedOf (c .before .before .before .before .before .before .before .before .kept .ensures)) (c .before .before .before .before .take .ensures)
 
-slice-write-line : tie.Need-slice-write-line
-slice-write-line c = search needs
-
-add-t19 : tie.Need-add-t19
-add-t19 c = search needs
+keep-one-requires : tie.Need-keep-one-requires
+keep-one-requires c κs = search needs
 
 same-length-4 : tie.Need-same-length-4
 same-length-4 c = search needs
 
 returns-2 : tie.Need-returns-2
-returns-2 c = byte-kept _ _ _ _ _ _ (c .before .before .if1 .left) (c .before .if2 .taken)
-
-returns-3 : tie.Need-returns-3
-returns-3 c = byte-lost _ _ _ _ _ _ (c .before .if1 .left) (c .if2 .left)
+returns-2 c = kept-by _ _ _ _ _ _ _ _ (c .before .before .before .before .before .if1 .left) (c .before .before .keep-one .ensures)
 
 pub byte-spec : {M : Type 1} → statement M
 byte-spec =
@@ -53,8 +47,6 @@ byte-spec =
     same-length-2
     same-length-3
     returns
-    slice-write-line
-    add-t19
+    keep-one-requires
     same-length-4
-    returns-2
-    returns-3)
+    returns-2)

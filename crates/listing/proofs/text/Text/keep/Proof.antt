@@ -1,0 +1,80 @@
+-- `keep` meets its contract: each byte of the stretch is kept, as one by one.
+use Prim.Native.Nat.{_≤_, _-_}
+use mathlib.Core.Path.{_≡_, refl}
+use borrow.Author.Needs.{needs}
+use lib.ListN.{length}
+use Rattle.basis.specs.Board.{flashSize}
+use Rattle.listing.specs.Feed.{feedOf}
+use Rattle.listing.proofs.Texts.{Gone, gone-more, gone-kept}
+use Rattle.listing.proofs.text.Text.keep.Statement.{statement}
+use Rattle.listing.proofs.text.Text.keep.Tie as tie
+
+abbrev Inv-loop : tie.InvT-loop
+Inv-loop self bytes line₀ len₀ i₀ line len i = (i ≤ length bytes - 1) × (length line ≡ length line₀) × Gone flashSize self line₀ bytes len line i
+
+abbrev μ-loop : tie.MeasureT-loop
+μ-loop self bytes line₀ len₀ i₀ line len i = length bytes - i
+
+loop-holds : tie.Need-loop-holds Inv-loop μ-loop
+unfolding feedOf
+loop-holds c = (search needs, refl, λ image map. refl)
+
+add-loop : tie.Need-add-loop Inv-loop μ-loop
+add-loop c = search needs
+
+shared-slice-read-if1 : tie.Need-shared-slice-read-if1 Inv-loop μ-loop
+shared-slice-read-if1 c = search needs
+
+stretch-requires : tie.Need-stretch-requires Inv-loop μ-loop
+stretch-requires c κs = search needs
+
+same-length : tie.Need-same-length Inv-loop μ-loop
+same-length c = search needs
+
+returns : tie.Need-returns Inv-loop μ-loop
+returns c = gone-kept _ _ _ _ _ _ _ _ _ (c .stretch .ensures) (c .before .before .before .before .loop .inv .0) (c .before .before .before .before .loop .inv .2)
+
+shared-slice-read-keep-one : tie.Need-shared-slice-read-keep-one Inv-loop μ-loop
+shared-slice-read-keep-one c = search needs
+
+keep-one-requires : tie.Need-keep-one-requires Inv-loop μ-loop
+keep-one-requires c κs = search needs
+
+add-i : tie.Need-add-i Inv-loop μ-loop
+add-i c = search needs
+
+loop-less : tie.Need-loop-less Inv-loop μ-loop
+loop-less c = search needs
+
+loop-again : tie.Need-loop-again Inv-loop μ-loop
+loop-again c = (search needs, search needs, gone-more _ _ _ _ _ _ _ _ _ (c .before .before .before .before .before .before .before .loop-test .taken) (c .before .before .before .before .before .if1 .left) (c .before .before .keep-one .ensures) (c .before .before .before .before .before .before .before .before .loop .inv .2))
+
+stretch-requires-2 : tie.Need-stretch-requires-2 Inv-loop μ-loop
+stretch-requires-2 c κs = search needs
+
+same-length-2 : tie.Need-same-length-2 Inv-loop μ-loop
+same-length-2 c = search needs
+
+returns-2 : tie.Need-returns-2 Inv-loop μ-loop
+returns-2 c = gone-kept _ _ _ _ _ _ _ _ _ (c .stretch2 .ensures) (c .before .before .loop .inv .0) (c .before .before .loop .inv .2)
+
+pub keep-spec : {M : Type 1} → statement M
+keep-spec =
+    tie.close
+    (tie.spec
+    Inv-loop
+    μ-loop
+    loop-holds
+    add-loop
+    shared-slice-read-if1
+    stretch-requires
+    same-length
+    returns
+    shared-slice-read-keep-one
+    keep-one-requires
+    add-i
+    loop-less
+    loop-again
+    stretch-requires-2
+    same-length-2
+    returns-2)
