@@ -2,17 +2,27 @@
 use Prim.Native.Nat.{ℕ}
 use mathlib.Core.List.{List, [], _∷_}
 
--- flash has 124 pages
+-- a page has 512 bytes, and a group 4 pages
+abbrev pub pageSize : ℕ
+pageSize = 512
+
+abbrev pub groupSize : ℕ
+groupSize = 0x800
+
+-- flash has 124 pages: 63,488 bytes
 abbrev pub pages : ℕ
 pages = 124
 
--- of 512 bytes each
 abbrev pub flashSize : ℕ
 flashSize = 0xF800
 
--- the map has one bit for each byte
+-- the map has one bit for each byte: 7,936 bytes
 abbrev pub mapSize : ℕ
 mapSize = 7936
+
+-- no answer is longer than the greeting
+abbrev pub answerMost : ℕ
+answerMost = 24
 
 -- "ADuC702x", three spaces, "-62", one space, "I31", four spaces, 0A 0D
 abbrev pub greeting : List ℕ

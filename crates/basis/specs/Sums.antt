@@ -3,13 +3,13 @@ use Prim.Native.Nat.{ℕ, _+_, _-_, _%_}
 use mathlib.Core.List.{List, [], _∷_}
 
 -- the plain sum, with no wrap
-unfoldable pub total : List ℕ → ℕ
-total [] = 0
-total (x ∷ s) = x + total s
+unfoldable pub plainSum : List ℕ → ℕ
+plainSum [] = 0
+plainSum (x ∷ s) = x + plainSum s
 
 -- the low byte of the sum
 unfoldable pub sumOf : List ℕ → ℕ
-sumOf s = total s % 256
+sumOf s = plainSum s % 256
 
 -- the checksum makes the low byte of the sum zero
 abbrev pub checksumOf : List ℕ → ℕ

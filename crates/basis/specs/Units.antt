@@ -1,13 +1,14 @@
--- The units: pages of 512 bytes, groups of 4 pages (0x800 bytes). Every conversion rounds down.
+-- The units: addresses, pages and groups. Every conversion rounds down.
 use Prim.Native.Nat.{ℕ, _*_, _/_}
+use Rattle.basis.specs.Board.{pageSize, groupSize}
 
 -- the page of an address
 abbrev pub pageOf : ℕ → ℕ
-pageOf a = a / 512
+pageOf a = a / pageSize
 
 -- the group of an address
 abbrev pub groupOf : ℕ → ℕ
-groupOf a = a / 0x800
+groupOf a = a / groupSize
 
 -- the group of a page
 abbrev pub pageGroupOf : ℕ → ℕ
@@ -15,4 +16,4 @@ pageGroupOf p = p / 4
 
 -- the first address of a page
 abbrev pub startOf : ℕ → ℕ
-startOf p = p * 512
+startOf p = p * pageSize

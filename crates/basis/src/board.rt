@@ -1,12 +1,19 @@
-// The board: 124 pages of 512 bytes, a map of one bit a byte, and how it greets.
+// The board: its pages and groups, a map of one bit a byte, and how it greets.
+pub const PAGE: u32 = 512;
+
+pub const GROUP: u32 = 4 * PAGE;
+
 pub const PAGES: u32 = 124;
 
 // The first address past flash.
-pub const FLASH: u32 = 0xF800;
+pub const END: u32 = PAGES * PAGE;
 
 // How many bytes flash and its image have.
-pub const IMAGE: usize = 0xF800;
+pub const SIZE: usize = END as usize;
 
-pub const MAP: usize = 7936;
+pub const MAP: usize = SIZE / 8;
 
-pub const GREETING: [u8; 24] = *b"ADuC702x   -62 I31    \n\r";
+// No answer is longer than the greeting.
+pub const ANSWER: usize = 24;
+
+pub const GREETING: [u8; ANSWER] = *b"ADuC702x   -62 I31    \n\r";

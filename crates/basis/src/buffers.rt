@@ -16,7 +16,7 @@ pub fn write(buffer: &mut [u8], bytes: &[u8])
 }
 
 // The first byte, or 0 where there is none.
-pub fn first(bytes: &[u8]) -> u8
+pub fn first_byte(bytes: &[u8]) -> u8
     ensures { λ r. ⌜ r ≡ getD (now (bytes .entry)) 0 0 ⌝ }
 {
     if bytes.len() == 0 {

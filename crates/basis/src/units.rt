@@ -3,6 +3,8 @@
 ghost use mathlib.Core.Path.{_≡_};
 ghost use Prim.Native.Nat.{_<_, _^_};
 ghost use Rattle.basis.specs.Units.{pageOf, groupOf, pageGroupOf, startOf};
+use crate::board::GROUP;
+use crate::board::PAGE;
 
 pub struct Address(pub u32);
 
@@ -14,13 +16,13 @@ impl Address {
     pub fn page(self) -> Page
         ensures { λ r. ⌜ r .0 ≡ pageOf (self .0) ⌝ }
     {
-        Page(self.0 / 512)
+        Page(self.0 / PAGE)
     }
 
     pub fn group(self) -> Group
         ensures { λ r. ⌜ r .0 ≡ groupOf (self .0) ⌝ }
     {
-        Group(self.0 / 2048)
+        Group(self.0 / GROUP)
     }
 }
 
@@ -36,6 +38,6 @@ impl Page {
         requires { ⌜ self .0 < 2 ^ 23 ⌝ }
         ensures { λ r. ⌜ r .0 ≡ startOf (self .0) ⌝ }
     {
-        Address(self.0 * 512)
+        Address(self.0 * PAGE)
     }
 }

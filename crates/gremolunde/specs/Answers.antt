@@ -3,7 +3,7 @@ use Prim.Native.Nat.{ℕ}
 use mathlib.Core.Bool.{Bool}
 use Rattle.basis.specs.Choice.{pick}
 use Rattle.basis.specs.Refusals.{Answer, refused, given}
-use Rattle.image.specs.Writer.{Told}
+use Rattle.image.specs.Writer.{Measured}
 use Rattle.image.specs.declared.hex.Hex.{Hex}
 use Rattle.line.specs.declared.rehearse.Load.{Load}
 use Rattle.loader.specs.declared.state.Loader.{Loader}
@@ -51,7 +51,7 @@ hexAnswer s (refused n) = record { number = n; reader = s }
 hexAnswer s (given h) = record { number = 0; reader = hexShown h }
 
 -- the address to go on from; a refusal hands it back
-abbrev pub writtenAnswer : ℕ → Answer Told → HexWritten
+abbrev pub writtenAnswer : ℕ → Answer Measured → HexWritten
 writtenAnswer a (refused n) = record { number = n; next = a; length = 0 }
 writtenAnswer a (given t) = record { number = 0; next = t .next; length = t .length }
 

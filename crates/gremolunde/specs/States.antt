@@ -8,7 +8,7 @@ use Rattle.loader.specs.declared.state.Condition.{Condition}
 use Rattle.loader.specs.declared.state.Condition.the-variants.{Waiting, Serving, Left}
 use Rattle.loader.specs.declared.state.Loader.{Loader}
 use Rattle.session.specs.Paper.{paperOutcome}
-use Rattle.session.specs.Phases.{erasing, writing, verifying}
+use Rattle.session.specs.Phases.{eraseAt, writeAt, verifyAt}
 use Rattle.session.specs.declared.phase.Outcome.{Outcome}
 use Rattle.session.specs.declared.phase.Phase.{Phase}
 use Rattle.session.specs.declared.phase.RunKind.{RunKind}
@@ -70,7 +70,7 @@ runShown RunKind.Jump = 0
 
 -- a phase that no file has: its page lies past every board
 abbrev pub nowhere : Phase
-nowhere = erasing 0xFFFFFFFF
+nowhere = eraseAt 0xFFFFFFFF
 
 -- the greeting and R have no place: with one they are nowhere
 abbrev pub placeless : Phase → ℕ → Phase
@@ -89,9 +89,9 @@ endMeant o =
 abbrev pub phaseMeant : ℕ → ℕ → Phase
 phaseMeant n place =
     pick (eqb n 0) (placeless Phase.Greeting place)
-    (pick (eqb n 1) (erasing place)
-    (pick (eqb n 2) (writing place)
-    (pick (eqb n 3) (verifying place)
+    (pick (eqb n 1) (eraseAt place)
+    (pick (eqb n 2) (writeAt place)
+    (pick (eqb n 3) (verifyAt place)
     (pick (eqb n 4) (placeless Phase.Run place)
     (pick (eqb n 5) (endMeant place) nowhere)))))
 

@@ -7,7 +7,7 @@ ghost use Rattle.basis.specs.Refusals.{refused};
 ghost use Rattle.gremolunde.specs.Answers.{noReader, hexAnswer, writtenAnswer};
 ghost use Rattle.gremolunde.specs.States.{hexMeant};
 ghost use Rattle.image.specs.Hex.{paperRead, settled, startIn, recordIn, closeOf};
-ghost use Rattle.image.specs.Writer.{paperWritten, told, textOf, writeIn};
+ghost use Rattle.image.specs.Writer.{paperWritten, measured, textBytes, writeIn};
 use crate::states::HexState;
 use crate::states::hex_meant;
 use crate::states::hex_shown;
@@ -96,7 +96,7 @@ pub extern "C" fn gremolunde_hex_write(
 ) -> HexWritten
     ensures { λ r. ⌜
         (let a = writeIn flashSize (now (image .entry)) (now (map .entry)) from (length (now (buffer .entry))) in
-        (r ≡ writtenAnswer from (told a)) × (now (buffer .exit) ≡ overlay (textOf a) (now (buffer .entry))))
+        (r ≡ writtenAnswer from (measured a)) × (now (buffer .exit) ≡ overlay (textBytes a) (now (buffer .entry))))
         ⌝ }
 {
     told(from, write(image, map, Address(from), buffer))

@@ -6,10 +6,10 @@ ghost use Rattle.basis.specs.Lists.{overlay};
 ghost use Rattle.basis.specs.Refusals.{bare};
 ghost use Rattle.gremolunde.specs.Answers.{takenAnswer};
 ghost use Rattle.gremolunde.specs.States.{loaderMeant, loaderShown};
-ghost use Rattle.loader.specs.Commands.{after};
+ghost use Rattle.loader.specs.Commands.{effectAfter};
 ghost use Rattle.loader.specs.Paper.{paperVerdict};
 ghost use Rattle.loader.specs.State.{factoryOf, resetOf};
-ghost use Rattle.loader.specs.Take.{takeOf, answerOf};
+ghost use Rattle.loader.specs.Take.{takeOf, answerBytes};
 use crate::states::LoaderState;
 use crate::states::loader_meant;
 use crate::states::loader_shown;
@@ -50,9 +50,9 @@ pub extern "C" fn gremolunde_loader_take(
     ensures { λ r. ⌜
         (let l = loaderMeant loader in
         let x = takeOf pages l (now (input .entry)) (now (flash .entry)) (length (now (answer .entry))) in
-        let e = after l (now (flash .entry)) x in
-        (r ≡ takenAnswer loader (bare x) (e .loader) (length (answerOf l x)))
-        × (now (flash .exit) ≡ e .flash) × (now (answer .exit) ≡ overlay (answerOf l x) (now (answer .entry))))
+        let e = effectAfter l (now (flash .entry)) x in
+        (r ≡ takenAnswer loader (bare x) (e .loader) (length (answerBytes l x)))
+        × (now (flash .exit) ≡ e .flash) × (now (answer .exit) ≡ overlay (answerBytes l x) (now (answer .entry))))
         ⌝ }
 {
     let taken = take(loader_meant(loader), input, flash, answer);

@@ -13,7 +13,6 @@ use crate::states::session_meant;
 use crate::states::session_shown;
 use basis::units::Address;
 use session::phase::Phase;
-use session::phase::number;
 use session::session::Mark;
 use session::session::Session;
 use session::session::Stepped;
@@ -152,6 +151,6 @@ fn outcome(phase: Phase) -> u32
         Phase::Write(_) => 45,
         Phase::Verify(_) => 45,
         Phase::Run => 45,
-        Phase::Ended(reached) => number(reached) as u32,
+        Phase::Ended(reached) => reached.number() as u32,
     }
 }

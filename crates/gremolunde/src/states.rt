@@ -12,7 +12,6 @@ use loader::state::Sequence;
 use session::phase::Outcome;
 use session::phase::Phase;
 use session::phase::RunKind;
-use session::phase::number;
 use session::session::Session;
 
 // `condition` is 0 waiting, 1 serving, 2 left; what else it may be counts as left.
@@ -240,6 +239,6 @@ fn place_shown(phase: Phase) -> u32
         Phase::Write(address) => address.0,
         Phase::Verify(address) => address.0,
         Phase::Run => 0,
-        Phase::Ended(outcome) => number(outcome) as u32,
+        Phase::Ended(outcome) => outcome.number() as u32,
     }
 }

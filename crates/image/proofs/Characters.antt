@@ -11,7 +11,7 @@ use lib.Seq.{drop-cons, append-snoc, take-suc-set}
 use borrow.Author.Tests.{lt-ltb, le-ltb, le-leb, lt-leb}
 use Rattle.basis.specs.Choice.{both}
 use Rattle.image.specs.Laws.Hex.{never}
-use Rattle.image.specs.Digits.{digitOf, allDigits, bytesOf}
+use Rattle.image.specs.Digits.{digitOf, allDigits, decoded}
 
 module _ (low high c : ℕ) where
   pub within : low ≤ c → c ≤ high → both (leb low c) (leb c high) ≡ true
@@ -28,8 +28,8 @@ module _ (line : List ℕ) (k : ℕ) (h : length line ≤ k) where
   unfolding allDigits
   digits-end = rw (drop-of-length-le line h)
 
-  pub bytes-end : bytesOf (drop k line) ≡ []
-  unfolding bytesOf
+  pub bytes-end : decoded (drop k line) ≡ []
+  unfolding decoded
   bytes-end = rw (drop-of-length-le line h)
 
 module _ (line : List ℕ) (i : ℕ) (h : 2 * i + 2 < length line) where
@@ -57,9 +57,9 @@ module _ (line : List ℕ) (i : ℕ) (h : 2 * i + 2 < length line) where
   unfolding allDigits
   digits-more a b = rw (pair, lt-ltb _ _ a, lt-ltb _ _ b)
 
-  pub bytes-more : (bytes : List ℕ) → i < length bytes → take i bytes ++ bytesOf (drop (2 * i + 1) line) ≡ take (i + 1) (set bytes i (16 * high + low)) ++ bytesOf (drop (2 * (i + 1) + 1) line)
-  unfolding bytesOf
+  pub bytes-more : (bytes : List ℕ) → i < length bytes → take i bytes ++ decoded (drop (2 * i + 1) line) ≡ take (i + 1) (set bytes i (16 * high + low)) ++ decoded (drop (2 * (i + 1) + 1) line)
+  unfolding decoded
   bytes-more bytes l =
-      ap (λ (d : List ℕ). take i bytes ++ bytesOf d) pair
-      ∙ sym (append-snoc (take i bytes) (16 * high + low) (bytesOf (drop (2 * (i + 1) + 1) line)))
+      ap (λ (d : List ℕ). take i bytes ++ decoded d) pair
+      ∙ sym (append-snoc (take i bytes) (16 * high + low) (decoded (drop (2 * (i + 1) + 1) line)))
       ∙ rw (add-one i, take-suc-set bytes i (16 * high + low) l)

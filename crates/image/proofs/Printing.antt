@@ -13,7 +13,7 @@ use Rattle.basis.specs.Sums.{sumOf, checksumOf}
 use Rattle.basis.specs.Laws.Lists.{overlay-next}
 use Rattle.basis.specs.Laws.Sums.{sum-append}
 use Rattle.image.specs.Flash.{stored, copyOf}
-use Rattle.image.specs.Writer.{letterOf, spelt, content, text, step, runLength, runFrom, lowest, stepFrom, writeIn}
+use Rattle.image.specs.Writer.{letterOf, spelt, content, text, step, recordLength, recordFrom, lowest, stepFrom, writeIn}
 use Rattle.image.specs.Laws.Flash.{copy-overlay}
 use Rattle.image.specs.Laws.Writer.{length-spelt, spelt-append}
 
@@ -79,8 +79,8 @@ module _ (size : ℕ) (image map : List ℕ) (a n : ℕ) (p : length image ≡ s
     unfolding stepFrom
     write-end h = write-step ∙ simp (le-ltb _ _ low, le-leb _ _ (rw ek at h))
 
-    pub write-run : (c m : ℕ) → k < size → c ≡ runLength map k → m ≡ c → writeIn size image map a n ≡ given (step (text k 0 (take m (drop k image))) (k + c))
+    pub write-run : (c m : ℕ) → k < size → c ≡ recordLength map k → m ≡ c → writeIn size image map a n ≡ given (step (text k 0 (take m (drop k image))) (k + c))
     unfolding stepFrom
     write-run c m h ec em =
         write-step
-        ∙ ap given ((simp (le-ltb _ _ low, lt-leb _ _ (rw ek at h))) ∙ ap (runFrom image map) (sym ek) ∙ ap (λ (l : ℕ). step (text k 0 (take l (drop k image))) (k + l)) (sym ec) ∙ ap (λ (l : ℕ). step (text k 0 (take l (drop k image))) (k + c)) (sym em))
+        ∙ ap given ((simp (le-ltb _ _ low, lt-leb _ _ (rw ek at h))) ∙ ap (recordFrom image map) (sym ek) ∙ ap (λ (l : ℕ). step (text k 0 (take l (drop k image))) (k + l)) (sym ec) ∙ ap (λ (l : ℕ). step (text k 0 (take l (drop k image))) (k + c)) (sym em))

@@ -18,7 +18,7 @@ allDigits [] = true
 allDigits (c ∷ s) = both (ltb (digitOf c) 16) (allDigits s)
 
 -- the bytes that the characters spell, two characters a byte, the higher digit first
-unfoldable pub bytesOf : List ℕ → List ℕ
-bytesOf [] = []
-bytesOf (c ∷ []) = []
-bytesOf (c ∷ d ∷ s) = (16 * digitOf c + digitOf d) ∷ bytesOf s
+unfoldable pub decoded : List ℕ → List ℕ
+decoded [] = []
+decoded (c ∷ []) = []
+decoded (c ∷ d ∷ s) = (16 * digitOf c + digitOf d) ∷ decoded s

@@ -6,7 +6,7 @@ use lib.Dec.{eqb, ltb}
 use lib.ListN.{length, drop, replicate}
 use Rattle.basis.specs.Choice.{pick, both, either}
 use Rattle.basis.specs.Refusals.{Answer, refused, given, _when_, first}
-use Rattle.image.specs.Digits.{bytesOf}
+use Rattle.image.specs.Digits.{decoded}
 use Rattle.image.specs.Flash.{copyOf}
 use Rattle.image.specs.Places.{anyNamed, nameAllOf}
 use Rattle.image.specs.Record.{paperRefusal, count, address, kind, payload, value, noColon, lengthWrong, notDigits, countWrong, sumWrong, isData, kindWrong, shapeWrong}
@@ -28,18 +28,18 @@ abbrev pub file : Hex → List ℕ → List ℕ → File
 file h image map = record { reader = h; image = image; map = map }
 
 -- the answer, with image and map as they then stand
-pub record Outcome : Type 0 where
+pub record Settled : Type 0 where
   pub answer : Answer Hex
   pub image : List ℕ
   pub map : List ℕ
 
-abbrev pub outcome : Answer Hex → List ℕ → List ℕ → Outcome
-outcome a image map = record { answer = a; image = image; map = map }
+abbrev pub settledAs : Answer Hex → List ℕ → List ℕ → Settled
+settledAs a image map = record { answer = a; image = image; map = map }
 
 -- a refusal leaves image and map as they stood
-abbrev pub settled : Answer File → List ℕ → List ℕ → Outcome
-settled (refused n) image map = outcome (refused n) image map
-settled (given f) image map = outcome (given (f .reader)) (f .image) (f .map)
+abbrev pub settled : Answer File → List ℕ → List ℕ → Settled
+settled (refused n) image map = settledAs (refused n) image map
+settled (given f) image map = settledAs (given (f .reader)) (f .image) (f .map)
 
 -- one bit an address
 abbrev pub sizeWrong : ℕ → List ℕ → List ℕ → Bool
@@ -64,19 +64,19 @@ abbrev pub fed : Hex → ℕ → Hex
 fed h n = record { linear = h .linear; segment = h .segment; ended = h .ended; taken = either (ltb 0 n) (h .taken) }
 
 -- and after a record of another type: 01 ends, 02 sets the segment base, 04 the linear base
-abbrev pub toldOf : Hex → List ℕ → Hex
-toldOf h b =
+abbrev pub otherOf : Hex → List ℕ → Hex
+otherOf h b =
     pick (eqb (kind b) 1) (record { linear = h .linear; segment = h .segment; ended = true; taken = h .taken })
     (pick (eqb (kind b) 2) (record { linear = h .linear; segment = 16 * value b; ended = h .ended; taken = h .taken })
     (pick (eqb (kind b) 4) (record { linear = 65536 * value b; segment = h .segment; ended = h .ended; taken = h .taken }) h))
 
 -- BB above 0 and place + BB above the board
-abbrev pub placeWrong : ℕ → Hex → List ℕ → Bool
-placeWrong size h b = both (ltb 0 (count b)) (ltb size (place h b + count b))
+abbrev pub pastBoard : ℕ → Hex → List ℕ → Bool
+pastBoard size h b = both (ltb 0 (count b)) (ltb size (place h b + count b))
 
 -- a place named before
-abbrev pub placeTaken : Hex → List ℕ → List ℕ → Bool
-placeTaken h b map = anyNamed map (place h b) (count b)
+abbrev pub namedBefore : Hex → List ℕ → List ℕ → Bool
+namedBefore h b map = anyNamed map (place h b) (count b)
 
 -- what a data record does
 abbrev pub placed : Hex → List ℕ → List ℕ → List ℕ → File
@@ -84,11 +84,11 @@ placed h b image map = file (fed h (count b)) (copyOf image (place h b) (payload
 
 -- what a record does
 abbrev pub effect : Hex → List ℕ → List ℕ → List ℕ → File
-effect h b image map = pick (isData b) (placed h b image map) (file (toldOf h b) image map)
+effect h b image map = pick (isData b) (placed h b image map) (file (otherOf h b) image map)
 
 unfoldable pub recordIn : ℕ → Hex → List ℕ → List ℕ → List ℕ → Answer File
 recordIn size h line image map =
-    let b = bytesOf (drop 1 line) in
+    let b = decoded (drop 1 line) in
     first
     (20 when sizeWrong size image map
     ∷ 21 when h .ended
@@ -99,8 +99,8 @@ recordIn size h line image map =
     ∷ 26 when sumWrong b
     ∷ 27 when kindWrong b
     ∷ 28 when shapeWrong b
-    ∷ 29 when both (isData b) (placeWrong size h b)
-    ∷ 30 when both (isData b) (placeTaken h b map)
+    ∷ 29 when both (isData b) (pastBoard size h b)
+    ∷ 30 when both (isData b) (namedBefore h b map)
     ∷ [])
     (given (effect h b image map))
 
@@ -112,15 +112,15 @@ applyIn size h n b image map =
     ∷ 26 when sumWrong b
     ∷ 27 when kindWrong b
     ∷ 28 when shapeWrong b
-    ∷ 29 when both (isData b) (placeWrong size h b)
-    ∷ 30 when both (isData b) (placeTaken h b map)
+    ∷ 29 when both (isData b) (pastBoard size h b)
+    ∷ 30 when both (isData b) (namedBefore h b map)
     ∷ [])
     (given (effect h b image map))
 
 -- and from 29 on, of a data record
 unfoldable pub dataIn : ℕ → Hex → List ℕ → List ℕ → List ℕ → Answer File
 dataIn size h b image map =
-    first (29 when placeWrong size h b ∷ 30 when placeTaken h b map ∷ []) (given (placed h b image map))
+    first (29 when pastBoard size h b ∷ 30 when namedBefore h b map ∷ []) (given (placed h b image map))
 
 -- no end record; no data byte taken since the start
 unfoldable pub closeOf : Hex → Answer Hex

@@ -9,7 +9,7 @@ use Rattle.basis.specs.Refusals.{Answer, refused, given, _when_, first}
 use Rattle.basis.specs.Sums.{sumOf}
 use Rattle.image.specs.Digits.{allDigits}
 use Rattle.image.specs.declared.record.Refusal.{Refusal}
-use Rattle.image.specs.declared.record.Refusal.the-variants.{Size, Ended, Colon, Length, Digit, Count, Sum, Kind, Shape, Place, Twice, NoEnd, NoData}
+use Rattle.image.specs.declared.record.Refusal.the-variants.{Size, Ended, Colon, Length, Digit, Count, Checksum, Kind, Shape, Place, Twice, NoEnd, NoData}
 use Rattle.image.specs.declared.record.Check.{Check}
 use Rattle.image.specs.declared.record.Check.the-variants.{Passed, Refused}
 
@@ -21,7 +21,7 @@ paperRefusal Colon = 22
 paperRefusal Length = 23
 paperRefusal Digit = 24
 paperRefusal Count = 25
-paperRefusal Sum = 26
+paperRefusal Checksum = 26
 paperRefusal Kind = 27
 paperRefusal Shape = 28
 paperRefusal Place = 29

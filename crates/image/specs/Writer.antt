@@ -42,12 +42,12 @@ abbrev pub step : List ℕ → ℕ → Step
 step s a = record { text = s; next = a }
 
 -- how much of the run at a goes into its record: up to the next multiple of 16
-abbrev pub runLength : List ℕ → ℕ → ℕ
-runLength map a = len (named map) a (16 - a % 16)
+abbrev pub recordLength : List ℕ → ℕ → ℕ
+recordLength map a = len (named map) a (16 - a % 16)
 
 -- the record at a
-abbrev pub runFrom : List ℕ → List ℕ → ℕ → Step
-runFrom image map a = step (text a 0 (take (runLength map a) (drop a image))) (a + runLength map a)
+abbrev pub recordFrom : List ℕ → List ℕ → ℕ → Step
+recordFrom image map a = step (text a 0 (take (recordLength map a) (drop a image))) (a + recordLength map a)
 
 -- the lowest named place from a on, or the board's size
 abbrev pub lowest : ℕ → List ℕ → ℕ → ℕ
@@ -56,7 +56,7 @@ lowest size map a = next (named map) a (size - a)
 unfoldable pub stepFrom : ℕ → List ℕ → List ℕ → ℕ → Step
 stepFrom size image map a =
     pick (ltb size a) (step [] a)
-    (pick (leb size (lowest size map a)) (step (text 0 1 []) (size + 1)) (runFrom image map (lowest size map a)))
+    (pick (leb size (lowest size map a)) (step (text 0 1 []) (size + 1)) (recordFrom image map (lowest size map a)))
 
 -- with a buffer of n bytes
 unfoldable pub writeIn : ℕ → List ℕ → List ℕ → ℕ → ℕ → Answer Step
@@ -64,20 +64,20 @@ writeIn size image map a n =
     first (20 when sizeWrong size image map ∷ 33 when ltb n 44 ∷ []) (given (stepFrom size image map a))
 
 -- the length of what is written, and the address to go on from
-pub record Told : Type 0 where
+pub record Measured : Type 0 where
   pub length : ℕ
   pub next : ℕ
 
-abbrev pub paperWritten : Written → Answer Told
+abbrev pub paperWritten : Written → Answer Measured
 paperWritten Size = refused 20
 paperWritten Short = refused 33
 paperWritten (Record n a) = given (record { length = n; next = a .0 })
 
-abbrev pub told : Answer Step → Answer Told
-told (refused n) = refused n
-told (given s) = given (record { length = length (s .text); next = s .next })
+abbrev pub measured : Answer Step → Answer Measured
+measured (refused n) = refused n
+measured (given s) = given (record { length = length (s .text); next = s .next })
 
 -- a refusal writes nothing
-abbrev pub textOf : Answer Step → List ℕ
-textOf (refused n) = []
-textOf (given s) = s .text
+abbrev pub textBytes : Answer Step → List ℕ
+textBytes (refused n) = []
+textBytes (given s) = s .text

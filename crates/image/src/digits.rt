@@ -3,7 +3,7 @@ ghost use mathlib.Core.Path.{_≡_};
 ghost use mathlib.Core.Bool.{true};
 ghost use Prim.Native.Nat.{_*_, _/_, _%_, _≤_};
 ghost use lib.ListN.{length, take, drop};
-ghost use Rattle.image.specs.Digits.{digitOf, allDigits, bytesOf};
+ghost use Rattle.image.specs.Digits.{digitOf, allDigits, decoded};
 
 // The value of a digit in either case; 16 for a character that is none.
 pub fn digit(c: u8) -> u8
@@ -21,7 +21,7 @@ pub fn digit(c: u8) -> u8
 pub fn decode(line: &[u8], bytes: &mut [u8]) -> bool
     requires { ⌜ (length (now line) % 2 ≡ 1) × (length (now line) / 2 ≤ length (now bytes)) ⌝ }
     ensures digits { λ r. ⌜ r ≡ allDigits (drop 1 (now (line .entry))) ⌝ }
-    ensures bytes { λ r. ⌜ (r ≡ true → take (length (now (line .entry)) / 2) (now (bytes .exit)) ≡ bytesOf (drop 1 (now (line .entry)))) ⌝ }
+    ensures bytes { λ r. ⌜ (r ≡ true → take (length (now (line .entry)) / 2) (now (bytes .exit)) ≡ decoded (drop 1 (now (line .entry)))) ⌝ }
 {
     let n = line.len() / 2;
     let mut i = 0;

@@ -6,7 +6,7 @@ ghost use lib.ListN.{length, replicate};
 ghost use Rattle.basis.specs.Refusals.{given};
 ghost use Rattle.basis.specs.Board.{flashSize, mapSize};
 ghost use Rattle.image.specs.Record.{count, kind, shapeOf};
-ghost use Rattle.image.specs.Hex.{paperRead, outcome, settled, startIn, recordIn, applyIn, dataIn, toldOf, closeOf};
+ghost use Rattle.image.specs.Hex.{paperRead, settledAs, settled, startIn, recordIn, applyIn, dataIn, otherOf, closeOf};
 use crate::flash::copy;
 use crate::places::any_named;
 use crate::places::name_all;
@@ -17,9 +17,9 @@ use crate::record::framing;
 use crate::record::shape;
 use crate::record::wide;
 use crate::record::word;
-use basis::board::FLASH;
-use basis::board::IMAGE;
+use basis::board::END;
 use basis::board::MAP;
+use basis::board::SIZE;
 use basis::units::Address;
 
 // Both bases, whether the end record came, and whether a data byte was taken.
@@ -39,9 +39,9 @@ pub enum Read {
 impl Hex {
     // A reader at the start of a file: the image filled with 0xFF, the map with 0.
     pub fn start(image: &mut [u8], map: &mut [u8]) -> Read
-        ensures { λ r. ⌜ outcome (paperRead r) (now (image .exit)) (now (map .exit)) ≡ settled (startIn flashSize (now (image .entry)) (now (map .entry))) (now (image .entry)) (now (map .entry)) ⌝ }
+        ensures { λ r. ⌜ settledAs (paperRead r) (now (image .exit)) (now (map .exit)) ≡ settled (startIn flashSize (now (image .entry)) (now (map .entry))) (now (image .entry)) (now (map .entry)) ⌝ }
     {
-        if image.len() != IMAGE {
+        if image.len() != SIZE {
             return Read::Refused(Refusal::Size);
         }
         if map.len() != MAP {
@@ -59,9 +59,9 @@ impl Hex {
 
     // One record, its line end removed. A refusal leaves image, map and reader as they stood.
     pub fn record(self, line: &[u8], image: &mut [u8], map: &mut [u8]) -> Read
-        ensures { λ r. ⌜ outcome (paperRead r) (now (image .exit)) (now (map .exit)) ≡ settled (recordIn flashSize self (now (line .entry)) (now (image .entry)) (now (map .entry))) (now (image .entry)) (now (map .entry)) ⌝ }
+        ensures { λ r. ⌜ settledAs (paperRead r) (now (image .exit)) (now (map .exit)) ≡ settled (recordIn flashSize self (now (line .entry)) (now (image .entry)) (now (map .entry))) (now (image .entry)) (now (map .entry)) ⌝ }
     {
-        if image.len() != IMAGE {
+        if image.len() != SIZE {
             return Read::Refused(Refusal::Size);
         }
         if map.len() != MAP {
@@ -77,7 +77,7 @@ impl Hex {
     // 22 to 30 and what the record does, with room for its bytes.
     fn take(self, line: &[u8], bytes: &mut [u8], image: &mut [u8], map: &mut [u8]) -> Read
         requires { ⌜ (length (now bytes) ≡ 260) × (length (now image) ≡ flashSize) × (length (now map) ≡ mapSize) × (self .ended ≡ false) ⌝ }
-        ensures { λ r. ⌜ outcome (paperRead r) (now (image .exit)) (now (map .exit)) ≡ settled (recordIn flashSize self (now (line .entry)) (now (image .entry)) (now (map .entry))) (now (image .entry)) (now (map .entry)) ⌝ }
+        ensures { λ r. ⌜ settledAs (paperRead r) (now (image .exit)) (now (map .exit)) ≡ settled (recordIn flashSize self (now (line .entry)) (now (image .entry)) (now (map .entry))) (now (image .entry)) (now (map .entry)) ⌝ }
     {
         let spelt = characters(line, bytes);
         if let Check::Refused(x) = spelt {
@@ -91,7 +91,7 @@ impl Hex {
     // 25 to 30 and what the record does, of the bytes of a record of `n` characters.
     fn apply(self, n: usize, bytes: &[u8], image: &mut [u8], map: &mut [u8]) -> Read
         requires { ⌜ (n ≡ 2 * length (now bytes) + 1) × (5 ≤ length (now bytes)) × (length (now image) ≡ flashSize) × (length (now map) ≡ mapSize) ⌝ }
-        ensures { λ r. ⌜ outcome (paperRead r) (now (image .exit)) (now (map .exit)) ≡ settled (applyIn flashSize self n (now (bytes .entry)) (now (image .entry)) (now (map .entry))) (now (image .entry)) (now (map .entry)) ⌝ }
+        ensures { λ r. ⌜ settledAs (paperRead r) (now (image .exit)) (now (map .exit)) ≡ settled (applyIn flashSize self n (now (bytes .entry)) (now (image .entry)) (now (map .entry))) (now (image .entry)) (now (map .entry)) ⌝ }
     {
         let framed = framing(n, bytes);
         if let Check::Refused(x) = framed {
@@ -104,20 +104,20 @@ impl Hex {
         if bytes[3] == 0 {
             return self.data(bytes, image, map);
         }
-        Read::Taken(self.told(bytes))
+        Read::Taken(self.other(bytes))
     }
 
     // 29 and 30, and the data bytes into image and map.
     fn data(self, bytes: &[u8], image: &mut [u8], map: &mut [u8]) -> Read
         requires { ⌜ (length (now bytes) ≡ 5 + count (now bytes)) × (length (now image) ≡ flashSize) × (length (now map) ≡ mapSize) ⌝ }
-        ensures { λ r. ⌜ outcome (paperRead r) (now (image .exit)) (now (map .exit)) ≡ settled (dataIn flashSize self (now (bytes .entry)) (now (image .entry)) (now (map .entry))) (now (image .entry)) (now (map .entry)) ⌝ }
+        ensures { λ r. ⌜ settledAs (paperRead r) (now (image .exit)) (now (map .exit)) ≡ settled (dataIn flashSize self (now (bytes .entry)) (now (image .entry)) (now (map .entry))) (now (image .entry)) (now (map .entry)) ⌝ }
     {
         let count = wide(bytes[0]);
         if count == 0 {
             return Read::Taken(self);
         }
         let place = self.linear as u64 + self.segment as u64 + word(bytes[1], bytes[2]) as u64;
-        if (FLASH as u64) < place + count as u64 {
+        if (END as u64) < place + count as u64 {
             return Read::Refused(Refusal::Place);
         }
         let at = place as usize;
@@ -137,9 +137,9 @@ impl Hex {
     }
 
     // The reader after a record that is no data.
-    fn told(mut self, bytes: &[u8]) -> Hex
+    fn other(mut self, bytes: &[u8]) -> Hex
         requires { ⌜ (length (now bytes) ≡ 5 + count (now bytes)) × (shapeOf (now bytes) ≡ given tt) × (kind (now bytes) ≡ 0 → ⊥) ⌝ }
-        ensures { λ r. ⌜ r ≡ toldOf self (now (bytes .entry)) ⌝ }
+        ensures { λ r. ⌜ r ≡ otherOf self (now (bytes .entry)) ⌝ }
     {
         let kind = bytes[3];
         if kind == 1 {

@@ -3,7 +3,7 @@ ghost use mathlib.Core.Path.{_≡_};
 ghost use Prim.Native.Nat.{_+_, _*_, _/_, _≤_};
 ghost use lib.ListN.{length, take, drop};
 ghost use Rattle.basis.specs.Refusals.{given};
-ghost use Rattle.image.specs.Digits.{bytesOf};
+ghost use Rattle.image.specs.Digits.{decoded};
 ghost use Rattle.image.specs.Record.{paperRefusal, paperCheck, count, charactersOf, framingOf, shapeOf};
 use crate::digits::decode;
 use basis::sums::sum;
@@ -15,7 +15,7 @@ pub enum Refusal {
     Length,
     Digit,
     Count,
-    Sum,
+    Checksum,
     Kind,
     Shape,
     Place,
@@ -35,7 +35,7 @@ impl Refusal {
             Refusal::Length => 23,
             Refusal::Digit => 24,
             Refusal::Count => 25,
-            Refusal::Sum => 26,
+            Refusal::Checksum => 26,
             Refusal::Kind => 27,
             Refusal::Shape => 28,
             Refusal::Place => 29,
@@ -55,7 +55,7 @@ pub enum Check {
 pub fn characters(line: &[u8], bytes: &mut [u8]) -> Check
     requires { ⌜ 260 ≤ length (now bytes) ⌝ }
     ensures answer { λ r. ⌜ paperCheck r ≡ charactersOf (now (line .entry)) ⌝ }
-    ensures bytes { λ r. ⌜ (paperCheck r ≡ given tt → take (length (now (line .entry)) / 2) (now (bytes .exit)) ≡ bytesOf (drop 1 (now (line .entry)))) ⌝ }
+    ensures bytes { λ r. ⌜ (paperCheck r ≡ given tt → take (length (now (line .entry)) / 2) (now (bytes .exit)) ≡ decoded (drop 1 (now (line .entry)))) ⌝ }
 {
     let n = line.len();
     if n == 0 {
@@ -89,7 +89,7 @@ pub fn framing(n: usize, bytes: &[u8]) -> Check
         return Check::Refused(Refusal::Count);
     }
     if sum(bytes) != 0 {
-        return Check::Refused(Refusal::Sum);
+        return Check::Refused(Refusal::Checksum);
     }
     Check::Passed
 }

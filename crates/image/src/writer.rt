@@ -5,14 +5,14 @@ ghost use lib.ListN.{length};
 ghost use Rattle.basis.specs.Lists.{overlay};
 ghost use Rattle.basis.specs.Board.{flashSize};
 ghost use Rattle.image.specs.Flash.{copyOf};
-ghost use Rattle.image.specs.Writer.{letterOf, spelt, text, paperWritten, told, textOf, writeIn};
-use basis::board::FLASH;
-use basis::board::IMAGE;
+ghost use Rattle.image.specs.Writer.{letterOf, spelt, text, paperWritten, measured, textBytes, writeIn};
+use basis::board::END;
 use basis::board::MAP;
+use basis::board::SIZE;
 use basis::sums::sum;
 use basis::units::Address;
 use runs::places::next_named;
-use runs::places::run_len;
+use runs::places::row_len;
 
 pub enum Written {
     Size,
@@ -23,10 +23,10 @@ pub enum Written {
 // The record that starts at the lowest named byte from `from` on, closed by 0A; the end record where there is none.
 // From above the board nothing is written.
 pub fn write(image: &[u8], map: &[u8], from: Address, buffer: &mut [u8]) -> Written
-    ensures answer { λ r. ⌜ paperWritten r ≡ told (writeIn flashSize (now (image .entry)) (now (map .entry)) (from .0) (length (now (buffer .entry)))) ⌝ }
-    ensures buffer { λ _. ⌜ now (buffer .exit) ≡ overlay (textOf (writeIn flashSize (now (image .entry)) (now (map .entry)) (from .0) (length (now (buffer .entry))))) (now (buffer .entry)) ⌝ }
+    ensures answer { λ r. ⌜ paperWritten r ≡ measured (writeIn flashSize (now (image .entry)) (now (map .entry)) (from .0) (length (now (buffer .entry)))) ⌝ }
+    ensures buffer { λ _. ⌜ now (buffer .exit) ≡ overlay (textBytes (writeIn flashSize (now (image .entry)) (now (map .entry)) (from .0) (length (now (buffer .entry))))) (now (buffer .entry)) ⌝ }
 {
-    if image.len() != IMAGE {
+    if image.len() != SIZE {
         return Written::Size;
     }
     if map.len() != MAP {
@@ -35,22 +35,22 @@ pub fn write(image: &[u8], map: &[u8], from: Address, buffer: &mut [u8]) -> Writ
     if buffer.len() < 44 {
         return Written::Short;
     }
-    if FLASH < from.0 {
+    if END < from.0 {
         return Written::Record {
             length: 0,
             next: from,
         };
     }
-    let place = next_named(map, from, Address(FLASH));
-    if FLASH <= place.0 {
+    let place = next_named(map, from, Address(END));
+    if END <= place.0 {
         let length = print(0, 1, &image[..0], buffer);
         return Written::Record {
             length,
-            next: Address(FLASH + 1),
+            next: Address(END + 1),
         };
     }
     let at = place.0;
-    let count = run_len(map, place, 16 - at % 16);
+    let count = row_len(map, place, 16 - at % 16);
     let first = at as usize;
     let end = first + count as usize;
     let length = print(at as u16, 0, &image[first..end], buffer);

@@ -12,7 +12,7 @@ use Rattle.basis.specs.Laws.Choice.{decide, both-true, both-false}
 use Rattle.basis.specs.Laws.Refusals.{stop, alike, through, apart, given-one, refused-one}
 use Rattle.basis.specs.Lists.{overlay}
 use Rattle.basis.specs.Refusals.{Answer, refused, given}
-use Rattle.line.specs.Line.{Moment, begun, momentAt, momentOf, rehearseOf, loaded, leftFlash, Rehearses}
+use Rattle.line.specs.Line.{Moment, begun, momentAt, momentIn, rehearseOf, loaded, leftFlash, Rehearses}
 use Rattle.line.specs.declared.exchange.Loss.{Loss}
 use Rattle.line.specs.declared.rehearse.Load.{Load}
 use Rattle.loader.specs.State.{resetOf}
@@ -20,17 +20,18 @@ use Rattle.loader.specs.declared.state.Loader.{Loader}
 use Rattle.runs.specs.Pieces.{namedCount}
 use Rattle.session.specs.Laws.Steps.{start-size, start-empty, start-given}
 use Rattle.session.specs.Plan.{total}
-use Rattle.session.specs.Session.{Sent, measured, sentBytes, rightSizes, waiting, started}
+use Rattle.session.specs.Session.{Sent, measured, sentBytes, rightSizes, atGreeting, started}
 use Rattle.session.specs.declared.phase.RunKind.{RunKind}
 use Rattle.session.specs.declared.session.Next.{Next}
+use Rattle.packet.specs.Packet.{packetMost}
 
 -- what a start that is not refused gives
 pub record Starts (image m : List ℕ) (kind : RunKind) (room : ℕ) (y : Next) : Type 0 where
   pub image-long : length image ≡ flashSize
   pub map-long : length m ≡ mapSize
   pub some : 0 < namedCount m
-  pub next-is : y ≡ record { session = waiting m kind; len = 1 }
-  pub started-is : started image m room kind ≡ given (record { session = waiting m kind; packet = 0x08 ∷ [] })
+  pub next-is : y ≡ record { session = atGreeting m kind; len = 1 }
+  pub started-is : started image m room kind ≡ given (record { session = atGreeting m kind; packet = 0x08 ∷ [] })
 
 pub starting : (image m : List ℕ) (kind : RunKind) (room : ℕ) (y : Next) → given y ≡ measured (started image m room kind) → Starts image m kind room y
 starting image m kind room y e =
@@ -51,7 +52,7 @@ starting image m kind room y e =
 
 -- with the loader reset that is a moment just begun, also by its own kind and loader
 module _ {image m : List ℕ} {kind : RunKind} {room : ℕ} {y : Next} (s : Starts image m kind room y) (l r : Loader) (reset : r ≡ resetOf l) (f packet old : List ℕ) (p : packet ≡ overlay (sentBytes (started image m room kind)) old) where
-  pub begun-moment : momentOf (record { loader = r; session = y .session; len = y .len }) f packet ≡ begun m kind l f
+  pub begun-moment : momentIn (record { loader = r; session = y .session; len = y .len }) f packet ≡ begun m kind l f
   begun-moment = λ i. record { loader = reset i; flash = f; session = s .next-is i .session; wire = wire i }
     where
       wire : take (y .len) packet ≡ 0x08 ∷ []
@@ -59,7 +60,7 @@ module _ {image m : List ℕ} {kind : RunKind} {room : ℕ} {y : Next} (s : Star
           ap (λ (n : Next). take (n .len) packet) (s .next-is)
           ∙ ap (take 1) (p ∙ ap (λ (a : Answer Sent). overlay (sentBytes a) old) (s .started-is))
 
-  pub begun-again : momentOf (record { loader = r; session = y .session; len = y .len }) f packet ≡ begun m (y .session .kind) r f
+  pub begun-again : momentIn (record { loader = r; session = y .session; len = y .len }) f packet ≡ begun m (y .session .kind) r f
   begun-again =
       begun-moment
       ∙ sym (ap (λ (n : Next). begun m (n .session .kind) l f) (s .next-is))
@@ -72,19 +73,19 @@ module _ (image m : List ℕ) (kind : RunKind) (l : Loader) (losses : ℕ → Lo
   -- 20 for the flash
   pub flash-refused : (length f ≡ flashSize → ⊥) → Rehearses whole f (refused 20) f
   unfolding rehearseOf
-  flash-refused n = rw (stop 20 _ _ (given (momentAt image m losses (begun m kind l f) (total m + 1))) (ap not (both-false (eqb (length f) flashSize) (rightSizes (length image) (length m) 259) (ne-eqb _ _ n)))) (record { result-is = refl; flash-is = refl })
+  flash-refused n = rw (stop 20 _ _ (given (momentAt image m losses (begun m kind l f) (total m + 1))) (ap not (both-false (eqb (length f) flashSize) (rightSizes (length image) (length m) packetMost) (ne-eqb _ _ n)))) (record { result-is = refl; flash-is = refl })
 
   module _ (size : length f ≡ flashSize) where
     -- what the start refuses is refused, and what it gives is driven to the end
-    refused-too : {n : ℕ} → started image m 259 kind ≡ refused n → whole ≡ refused n
+    refused-too : {n : ℕ} → started image m packetMost kind ≡ refused n → whole ≡ refused n
     unfolding rehearseOf started
     refused-too e = rw (eq-eqb (length f) flashSize size) (alike _ _ _ e)
 
-    given-too : {s : Sent} → started image m 259 kind ≡ given s → whole ≡ given (momentAt image m losses (begun m kind l f) (total m + 1))
+    given-too : {s : Sent} → started image m packetMost kind ≡ given s → whole ≡ given (momentAt image m losses (begun m kind l f) (total m + 1))
     unfolding rehearseOf started
     given-too e = rw (eq-eqb (length f) flashSize size) (through _ _ _ e)
 
-    pub start-refused : {n room : ℕ} → room ≡ 259 → refused n ≡ measured (started image m room kind) → Rehearses whole f (refused n) f
+    pub start-refused : {n room : ℕ} → room ≡ packetMost → refused n ≡ measured (started image m room kind) → Rehearses whole f (refused n) f
     start-refused {n} {room} full e = go (started image m room kind) refl e
       where
         go : (a : Answer Sent) → started image m room kind ≡ a → refused n ≡ measured a → Rehearses whole f (refused n) f
@@ -92,7 +93,7 @@ module _ (image m : List ℕ) (kind : RunKind) (l : Loader) (losses : ℕ → Lo
             rw (refused-too (ap (λ (r : ℕ). started image m r kind) (sym full) ∙ t), refused-one e) (record { result-is = refl; flash-is = refl })
         go (given s) t e = absurd (apart e)
 
-    pub driven : {room : ℕ} {y : Next} → room ≡ 259 → Starts image m kind room y → (r : Load) (flash : List ℕ) (x : Moment) → x ≡ begun m kind l f
+    pub driven : {room : ℕ} {y : Next} → room ≡ packetMost → Starts image m kind room y → (r : Load) (flash : List ℕ) (x : Moment) → x ≡ begun m kind l f
         → (let z = momentAt image m losses x (total m + 1) in (r .loader ≡ z .loader) × (r .session ≡ z .session) × (flash ≡ z .flash)) → Rehearses whole f (given r) flash
     driven full s r flash x b z =
         let w = given-too (ap (λ (r : ℕ). started image m r kind) (sym full) ∙ s .started-is) in

@@ -6,30 +6,31 @@ use native.Mathlib.Omega.{arith}
 use lib.Dec.{eqb}
 use lib.ListN.{length, take, length-append}
 use lib.Seq.{take-append-seam}
-use Rattle.basis.specs.Board.{pages}
+use Rattle.basis.specs.Board.{pages, answerMost}
 use Rattle.basis.specs.Laws.Refusals.{apart, given-one}
 use Rattle.basis.specs.Lists.{overlay}
 use Rattle.basis.specs.Refusals.{Answer, refused, given}
-use Rattle.line.specs.Line.{Moment, takes, sends, arrives, reply, stepped, between, onward, exchangeOf, Delivers, Exchanges}
+use Rattle.line.specs.Line.{Moment, loaderTakes, sends, arrives, reply, stepped, between, stepsOn, exchangeOf, Delivers, Exchanges}
 use Rattle.line.specs.declared.exchange.Loss.{Loss}
 use Rattle.loader.specs.Take.{takeOf, Takes}
 use Rattle.loader.specs.declared.state.Loader.{Loader}
 use Rattle.session.specs.Events.{classifyOf}
 use Rattle.session.specs.Session.{Sent, measured, sentBytes, stepOf}
 use Rattle.session.specs.declared.session.Next.{Next}
+use Rattle.packet.specs.Packet.{packetMost}
 
 pub lost : {o : Loss} {l : Loader} {s f old : List ℕ} → o ≡ Loss.Lost → Delivers o l s f old l 0 f old
 lost e = rw e (record { loader-is = refl; flash-is = refl; arrived-is = refl; answer-is = refl })
 
-module _ (o : Loss) (l : Loader) (s f old : List ℕ) (room : ℕ) {v : Answer (Unit {0})} {next : Loader} {answered : ℕ} {flash answer : List ℕ} (full : room ≡ 24) (t : Takes (takeOf pages l s f room) l f old v next answered flash answer) where
-  at-24 : Takes (takes l s f) l f old v next answered flash answer
-  at-24 = subst (λ (n : ℕ). Takes (takeOf pages l s f n) l f old v next answered flash answer) full t
+module _ (o : Loss) (l : Loader) (s f old : List ℕ) (room : ℕ) {v : Answer (Unit {0})} {next : Loader} {answered : ℕ} {flash answer : List ℕ} (full : room ≡ answerMost) (t : Takes (takeOf pages l s f room) l f old v next answered flash answer) where
+  at-full : Takes (loaderTakes l s f) l f old v next answered flash answer
+  at-full = subst (λ (n : ℕ). Takes (takeOf pages l s f n) l f old v next answered flash answer) full t
 
   pub whole : o ≡ Loss.Whole → Delivers o l s f old next answered flash answer
-  whole e = rw e (record { loader-is = at-24 .does-is .loader-is; flash-is = at-24 .does-is .flash-is; arrived-is = at-24 .answered-is; answer-is = at-24 .answer-is })
+  whole e = rw e (record { loader-is = at-full .does-is .loader-is; flash-is = at-full .does-is .flash-is; arrived-is = at-full .answered-is; answer-is = at-full .answer-is })
 
   pub unanswered : o ≡ Loss.Unanswered → Delivers o l s f old next 0 flash answer
-  unanswered e = rw e (record { loader-is = at-24 .does-is .loader-is; flash-is = at-24 .does-is .flash-is; arrived-is = refl; answer-is = at-24 .answer-is })
+  unanswered e = rw e (record { loader-is = at-full .does-is .loader-is; flash-is = at-full .does-is .flash-is; arrived-is = refl; answer-is = at-full .answer-is })
 
 -- what arrives stands at the start of the answer buffer
 prefix : (o : Loss) (l : Loader) (s f old : List ℕ) → (length (arrives o l s f) ≤ length (overlay (sends o l s f) old)) × (take (length (arrives o l s f)) (overlay (sends o l s f) old) ≡ arrives o l s f)
@@ -44,7 +45,7 @@ module _ {o : Loss} {l next : Loader} {s f old flash answer : List ℕ} {arrived
   pub arrived-bytes : take arrived answer ≡ arrives o l s f
   arrived-bytes = rw (d .arrived-is, d .answer-is) (prefix o l s f old .1)
 
-module _ (image m : List ℕ) (o : Loss) (x : Moment) (oldPacket packet oldAnswer answer flash : List ℕ) (room arrived : ℕ) (next : Loader) (full : room ≡ 259)
+module _ (image m : List ℕ) (o : Loss) (x : Moment) (oldPacket packet oldAnswer answer flash : List ℕ) (room arrived : ℕ) (next : Loader) (full : room ≡ packetMost)
     (d : Delivers o (x .loader) (x .wire) (x .flash) oldAnswer next arrived flash answer) where
   abbrev said : Answer Sent
   said = stepOf image m room (x .session) (classifyOf (eqb arrived 0) (take arrived answer))
@@ -52,8 +53,8 @@ module _ (image m : List ℕ) (o : Loss) (x : Moment) (oldPacket packet oldAnswe
   said-is : said ≡ stepped image m o x
   said-is =
       ap (λ (n : ℕ). stepOf image m n (x .session) (classifyOf (eqb arrived 0) (take arrived answer))) full
-      ∙ ap (λ (n : ℕ). stepOf image m 259 (x .session) (classifyOf (eqb n 0) (take arrived answer))) (d .arrived-is)
-      ∙ ap (λ (b : List ℕ). stepOf image m 259 (x .session) (classifyOf (eqb (length (reply o x)) 0) b)) (arrived-bytes d)
+      ∙ ap (λ (n : ℕ). stepOf image m packetMost (x .session) (classifyOf (eqb n 0) (take arrived answer))) (d .arrived-is)
+      ∙ ap (λ (b : List ℕ). stepOf image m packetMost (x .session) (classifyOf (eqb (length (reply o x)) 0) b)) (arrived-bytes d)
 
   module _ (p : packet ≡ overlay (sentBytes said) oldPacket) where
     packet-as : packet ≡ overlay (sentBytes (stepped image m o x)) oldPacket
@@ -66,10 +67,10 @@ module _ (image m : List ℕ) (o : Loss) (x : Moment) (oldPacket packet oldAnswe
         let s = sent-as (stepped image m o x) (e ∙ ap measured said-is) in
         let q = s .1 in
         record {
-          loader-is = d .loader-is ∙ sym (ap (λ (a : Answer Sent). onward (between o x) a .loader) q);
-          session-is = ap (λ (n : Next). n .session) (s .2) ∙ sym (ap (λ (a : Answer Sent). onward (between o x) a .session) q);
-          len-is = ap (λ (n : Next). n .len) (s .2) ∙ sym (ap (λ (a : Answer Sent). length (onward (between o x) a .wire)) q);
-          flash-is = d .flash-is ∙ sym (ap (λ (a : Answer Sent). onward (between o x) a .flash) q);
+          loader-is = d .loader-is ∙ sym (ap (λ (a : Answer Sent). stepsOn (between o x) a .loader) q);
+          session-is = ap (λ (n : Next). n .session) (s .2) ∙ sym (ap (λ (a : Answer Sent). stepsOn (between o x) a .session) q);
+          len-is = ap (λ (n : Next). n .len) (s .2) ∙ sym (ap (λ (a : Answer Sent). length (stepsOn (between o x) a .wire)) q);
+          flash-is = d .flash-is ∙ sym (ap (λ (a : Answer Sent). stepsOn (between o x) a .flash) q);
           packet-is = packet-as;
           answer-is = d .answer-is;
         }
@@ -85,10 +86,10 @@ module _ (image m : List ℕ) (o : Loss) (x : Moment) (oldPacket packet oldAnswe
         let s = kept-as (stepped image m o x) (e ∙ ap measured said-is) in
         let q = s .1 in
         record {
-          loader-is = d .loader-is ∙ sym (ap (λ (a : Answer Sent). onward (between o x) a .loader) q);
-          session-is = sym (ap (λ (a : Answer Sent). onward (between o x) a .session) q);
-          len-is = w ∙ sym (ap (λ (a : Answer Sent). length (onward (between o x) a .wire)) q);
-          flash-is = d .flash-is ∙ sym (ap (λ (a : Answer Sent). onward (between o x) a .flash) q);
+          loader-is = d .loader-is ∙ sym (ap (λ (a : Answer Sent). stepsOn (between o x) a .loader) q);
+          session-is = sym (ap (λ (a : Answer Sent). stepsOn (between o x) a .session) q);
+          len-is = w ∙ sym (ap (λ (a : Answer Sent). length (stepsOn (between o x) a .wire)) q);
+          flash-is = d .flash-is ∙ sym (ap (λ (a : Answer Sent). stepsOn (between o x) a .flash) q);
           packet-is = packet-as;
           answer-is = d .answer-is;
         }

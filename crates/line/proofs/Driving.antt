@@ -12,8 +12,8 @@ use Rattle.basis.specs.Choice.{pick}
 use Rattle.basis.specs.Lists.{Bytes, overlay}
 use Rattle.basis.specs.Refusals.{Answer, refused, given}
 use Rattle.line.specs.Laws.Moments.{going, stays}
-use Rattle.line.specs.Line.{Moment, begun, between, stepped, onward, exchangeOf, momentAt, momentOf, Exchanges}
-use Rattle.line.specs.declared.exchange.Ends.{Ends}
+use Rattle.line.specs.Line.{Moment, begun, between, stepped, stepsOn, exchangeOf, momentAt, momentIn, Exchanges}
+use Rattle.line.specs.declared.exchange.Link.{Link}
 use Rattle.line.specs.declared.exchange.Loss.{Loss}
 use Rattle.loader.specs.declared.state.Loader.{Loader}
 use Rattle.runs.specs.Pieces.{namedCount}
@@ -24,15 +24,15 @@ use Rattle.session.specs.declared.phase.RunKind.{RunKind}
 
 -- ---- what an exchange leaves in the packet buffer is what is on the wire
 
-module _ (image m : List ℕ) (o : Loss) (ends : Ends) (before old : List ℕ) (fits : ends .len ≤ length old) where
+module _ (image m : List ℕ) (o : Loss) (link : Link) (before old : List ℕ) (fits : link .len ≤ length old) where
   abbrev here : Moment
-  here = momentOf ends before old
+  here = momentIn link before old
 
-  wired : (a : Answer Sent) → (length (onward (between o here) a .wire) ≤ length (overlay (sentBytes a) old)) × (take (length (onward (between o here) a .wire)) (overlay (sentBytes a) old) ≡ onward (between o here) a .wire)
-  wired (refused n) = let e = length-take-le (ends .len) old fits in (omega (arith, e), ap (λ (k : ℕ). take k old) e)
+  wired : (a : Answer Sent) → (length (stepsOn (between o here) a .wire) ≤ length (overlay (sentBytes a) old)) × (take (length (stepsOn (between o here) a .wire)) (overlay (sentBytes a) old) ≡ stepsOn (between o here) a .wire)
+  wired (refused n) = let e = length-take-le (link .len) old fits in (omega (arith, e), ap (λ (k : ℕ). take k old) e)
   wired (given s) = (simp length-append (omega arith), take-append-seam (s .packet) _)
 
-  module _ {oldAnswer flash packet answer : List ℕ} {r : Ends} (x : Exchanges image m o here old oldAnswer r flash packet answer) where
+  module _ {oldAnswer flash packet answer : List ℕ} {r : Link} (x : Exchanges image m o here old oldAnswer r flash packet answer) where
     pub len-fits : r .len ≤ length packet
     unfolding exchangeOf
     len-fits = rw (x .len-is, x .packet-is) (wired (stepped image m o here) .0)
@@ -41,7 +41,7 @@ module _ (image m : List ℕ) (o : Loss) (ends : Ends) (before old : List ℕ) (
     unfolding exchangeOf
     wire = rw (x .len-is, x .packet-is) (wired (stepped image m o here) .1)
 
-    pub exchanged : momentOf r flash packet ≡ exchangeOf image m o here
+    pub exchanged : momentIn r flash packet ≡ exchangeOf image m o here
     exchanged = λ i. record { loader = x .loader-is i; flash = x .flash-is i; session = x .session-is i; wire = wire i }
 
 -- ---- turns

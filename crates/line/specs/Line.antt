@@ -5,25 +5,26 @@ use mathlib.Core.List.{List, [], _∷_}
 use mathlib.Core.Path.{_≡_}
 use lib.Dec.{eqb}
 use lib.ListN.{length, getD, take}
-use Rattle.basis.specs.Board.{pages, flashSize}
+use Rattle.basis.specs.Board.{pages, flashSize, answerMost}
 use Rattle.basis.specs.Choice.{pick, both}
 use Rattle.basis.specs.Lists.{overlay}
 use Rattle.basis.specs.Refusals.{Answer, refused, given, _when_, first}
-use Rattle.line.specs.declared.exchange.Ends.{Ends}
+use Rattle.line.specs.declared.exchange.Link.{Link}
 use Rattle.line.specs.declared.exchange.Loss.{Loss}
 use Rattle.line.specs.declared.rehearse.Load.{Load}
-use Rattle.loader.specs.Commands.{Effect, after}
+use Rattle.loader.specs.Commands.{Effect, effectAfter}
 use Rattle.loader.specs.State.{resetOf}
-use Rattle.loader.specs.Take.{takeOf, answerOf}
+use Rattle.loader.specs.Take.{takeOf, answerBytes}
 use Rattle.loader.specs.declared.state.Loader.{Loader}
 use Rattle.runs.specs.Pieces.{namedCount}
 use Rattle.session.specs.Events.{classifyOf}
 use Rattle.session.specs.Phases.{ended}
 use Rattle.session.specs.Plan.{total}
-use Rattle.session.specs.Session.{Sent, sentBytes, rightSizes, waiting, stepOf}
+use Rattle.session.specs.Session.{Sent, sentBytes, rightSizes, atGreeting, stepOf}
 use Rattle.session.specs.declared.event.Event.{Event}
 use Rattle.session.specs.declared.phase.RunKind.{RunKind}
 use Rattle.session.specs.declared.session.Session.{Session}
+use Rattle.packet.specs.Packet.{packetMost}
 
 -- what stands at a moment: the loader and its flash, the session, and what it has sent last
 pub record Moment : Type 0 where
@@ -34,51 +35,51 @@ pub record Moment : Type 0 where
 
 -- a freshly reset loader, and a session just started: the opening byte is on the wire
 abbrev pub begun : List ℕ → RunKind → Loader → List ℕ → Moment
-begun m kind l f = record { loader = resetOf l; flash = f; session = waiting m kind; wire = 0x08 ∷ [] }
+begun m kind l f = record { loader = resetOf l; flash = f; session = atGreeting m kind; wire = 0x08 ∷ [] }
 
 -- the loader takes what arrives; what is lost changes nothing
-abbrev pub takes : Loader → List ℕ → List ℕ → Answer Effect
-takes l s f = takeOf pages l s f 24
+abbrev pub loaderTakes : Loader → List ℕ → List ℕ → Answer Effect
+loaderTakes l s f = takeOf pages l s f answerMost
 
-abbrev pub servedOf : Loss → Loader → List ℕ → List ℕ → Effect
-servedOf Loss.Whole l s f = after l f (takes l s f)
-servedOf Loss.Lost l s f = record { loader = l; flash = f }
-servedOf Loss.Unanswered l s f = after l f (takes l s f)
+abbrev pub delivered : Loss → Loader → List ℕ → List ℕ → Effect
+delivered Loss.Whole l s f = effectAfter l f (loaderTakes l s f)
+delivered Loss.Lost l s f = record { loader = l; flash = f }
+delivered Loss.Unanswered l s f = effectAfter l f (loaderTakes l s f)
 
 -- the answer that the loader sends, and what of it arrives
 abbrev pub sends : Loss → Loader → List ℕ → List ℕ → List ℕ
-sends Loss.Whole l s f = answerOf l (takes l s f)
+sends Loss.Whole l s f = answerBytes l (loaderTakes l s f)
 sends Loss.Lost l s f = []
-sends Loss.Unanswered l s f = answerOf l (takes l s f)
+sends Loss.Unanswered l s f = answerBytes l (loaderTakes l s f)
 
 abbrev pub arrives : Loss → Loader → List ℕ → List ℕ → List ℕ
-arrives Loss.Whole l s f = answerOf l (takes l s f)
+arrives Loss.Whole l s f = answerBytes l (loaderTakes l s f)
 arrives Loss.Lost l s f = []
 arrives Loss.Unanswered l s f = []
 
 -- between the loader's step and the session's
 abbrev pub between : Loss → Moment → Moment
 between o x =
-    record { loader = servedOf o (x .loader) (x .wire) (x .flash) .loader; flash = servedOf o (x .loader) (x .wire) (x .flash) .flash; session = x .session; wire = x .wire }
+    record { loader = delivered o (x .loader) (x .wire) (x .flash) .loader; flash = delivered o (x .loader) (x .wire) (x .flash) .flash; session = x .session; wire = x .wire }
 
 -- what the session hears: no answer is silence
 abbrev pub reply : Loss → Moment → List ℕ
 reply o x = arrives o (x .loader) (x .wire) (x .flash)
 
-abbrev pub heard : List ℕ → Event
-heard b = classifyOf (eqb (length b) 0) b
+abbrev pub eventIn : List ℕ → Event
+eventIn b = classifyOf (eqb (length b) 0) b
 
 -- the session's step
 abbrev pub stepped : List ℕ → List ℕ → Loss → Moment → Answer Sent
-stepped image m o x = stepOf image m 259 (x .session) (heard (reply o x))
+stepped image m o x = stepOf image m packetMost (x .session) (eventIn (reply o x))
 
-abbrev pub onward : Moment → Answer Sent → Moment
-onward x (refused n) = x
-onward x (given s) = record { loader = x .loader; flash = x .flash; session = s .session; wire = s .packet }
+abbrev pub stepsOn : Moment → Answer Sent → Moment
+stepsOn x (refused n) = x
+stepsOn x (given s) = record { loader = x .loader; flash = x .flash; session = s .session; wire = s .packet }
 
 -- one exchange: the loader's step, then the session's
 unfoldable pub exchangeOf : List ℕ → List ℕ → Loss → Moment → Moment
-exchangeOf image m o x = onward (between o x) (stepped image m o x)
+exchangeOf image m o x = stepsOn (between o x) (stepped image m o x)
 
 -- after n exchanges, each with its loss; after the end there are none
 unfoldable pub momentAt : List ℕ → List ℕ → (ℕ → Loss) → Moment → ℕ → Moment
@@ -96,23 +97,23 @@ lossAt s i = lossOf (getD s i 0)
 unfoldable pub rehearseOf : List ℕ → List ℕ → RunKind → Loader → (ℕ → Loss) → List ℕ → Answer Moment
 rehearseOf image m kind l losses f =
     first
-    (20 when not (both (eqb (length f) flashSize) (rightSizes (length image) (length m) 259))
+    (20 when not (both (eqb (length f) flashSize) (rightSizes (length image) (length m) packetMost))
     ∷ 32 when eqb (namedCount m) 0 ∷ [])
     (given (momentAt image m losses (begun m kind l f) (total m + 1)))
 
 -- ---- what the functions show
 
 -- loader, session and packet buffer as a moment
-abbrev pub momentOf : Ends → List ℕ → List ℕ → Moment
-momentOf e flash packet = record { loader = e .loader; flash = flash; session = e .session; wire = take (e .len) packet }
+abbrev pub momentIn : Link → List ℕ → List ℕ → Moment
+momentIn e flash packet = record { loader = e .loader; flash = flash; session = e .session; wire = take (e .len) packet }
 
 pub record Delivers (o : Loss) (l : Loader) (s f old : List ℕ) (next : Loader) (arrived : ℕ) (flash answer : List ℕ) : Type 0 where
-  pub loader-is : next ≡ servedOf o l s f .loader
-  pub flash-is : flash ≡ servedOf o l s f .flash
+  pub loader-is : next ≡ delivered o l s f .loader
+  pub flash-is : flash ≡ delivered o l s f .flash
   pub arrived-is : arrived ≡ length (arrives o l s f)
   pub answer-is : answer ≡ overlay (sends o l s f) old
 
-pub record Exchanges (image m : List ℕ) (o : Loss) (x : Moment) (oldPacket oldAnswer : List ℕ) (r : Ends) (flash packet answer : List ℕ) : Type 0 where
+pub record Exchanges (image m : List ℕ) (o : Loss) (x : Moment) (oldPacket oldAnswer : List ℕ) (r : Link) (flash packet answer : List ℕ) : Type 0 where
   pub loader-is : r .loader ≡ exchangeOf image m o x .loader
   pub session-is : r .session ≡ exchangeOf image m o x .session
   pub len-is : r .len ≡ length (exchangeOf image m o x .wire)

@@ -2,8 +2,9 @@
 ghost use mathlib.Core.Path.{_≡_};
 ghost use Prim.Native.Nat.{_≤_};
 ghost use lib.ListN.{length};
-ghost use Rattle.basis.specs.Board.{flashSize, mapSize};
-ghost use Rattle.line.specs.Line.{lossOf, lossAt, momentOf, Delivers, Exchanges};
+ghost use Rattle.basis.specs.Board.{flashSize, mapSize, answerMost};
+ghost use Rattle.packet.specs.Packet.{packetMost};
+ghost use Rattle.line.specs.Line.{lossOf, lossAt, momentIn, Delivers, Exchanges};
 use loader::state::Loader;
 use loader::take::take;
 use session::session::Session;
@@ -45,7 +46,7 @@ impl Loss {
 }
 
 // Loader and session between two exchanges, with the length of the packet that is out.
-pub struct Ends {
+pub struct Link {
     pub loader: Loader,
     pub session: Session,
     pub len: usize,
@@ -59,33 +60,33 @@ struct Delivered {
 
 // No answer is silence.
 pub fn exchange(
-    ends: Ends,
+    link: Link,
     loss: Loss,
     image: &[u8],
     map: &[u8],
     flash: &mut [u8],
     packet: &mut [u8],
     answer: &mut [u8],
-) -> Ends
-    requires { ⌜ (length (now image) ≡ flashSize) × (length (now map) ≡ mapSize) × (length (now flash) ≡ flashSize) × (length (now packet) ≡ 259) × (length (now answer) ≡ 24) × (ends .len ≤ 259) ⌝ }
-    ensures { λ r. ⌜ Exchanges (now (image .entry)) (now (map .entry)) loss (momentOf ends (now (flash .entry)) (now (packet .entry))) (now (packet .entry)) (now (answer .entry)) r (now (flash .exit)) (now (packet .exit)) (now (answer .exit)) ⌝ }
+) -> Link
+    requires { ⌜ (length (now image) ≡ flashSize) × (length (now map) ≡ mapSize) × (length (now flash) ≡ flashSize) × (length (now packet) ≡ packetMost) × (length (now answer) ≡ answerMost) × (link .len ≤ packetMost) ⌝ }
+    ensures { λ r. ⌜ Exchanges (now (image .entry)) (now (map .entry)) loss (momentIn link (now (flash .entry)) (now (packet .entry))) (now (packet .entry)) (now (answer .entry)) r (now (flash .exit)) (now (packet .exit)) (now (answer .exit)) ⌝ }
 {
-    let loader = ends.loader;
-    let session = ends.session;
-    let len = ends.len;
+    let loader = link.loader;
+    let session = link.session;
+    let len = link.len;
     let delivered = deliver(loader, loss, &packet[..len], flash, answer);
     let after = delivered.loader;
     let arrived = delivered.arrived;
     match session.step(arrived == 0, &answer[..arrived], image, map, packet) {
         Stepped::Next(next) => {
             let session = next.session;
-            Ends {
+            Link {
                 loader: after,
                 session,
                 len: next.len,
             }
         }
-        Stepped::Refused(_) => Ends {
+        Stepped::Refused(_) => Link {
             loader: after,
             session,
             len,
@@ -101,7 +102,7 @@ fn deliver(
     flash: &mut [u8],
     answer: &mut [u8],
 ) -> Delivered
-    requires { ⌜ length (now answer) ≡ 24 ⌝ }
+    requires { ⌜ length (now answer) ≡ answerMost ⌝ }
     ensures { λ r. ⌜ Delivers loss loader (now (packet .entry)) (now (flash .entry)) (now (answer .entry)) (r .loader) (r .arrived) (now (flash .exit)) (now (answer .exit)) ⌝ }
 {
     match loss {

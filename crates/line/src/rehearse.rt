@@ -3,19 +3,21 @@ ghost use mathlib.Core.Path.{_≡_};
 ghost use mathlib.Core.Bool.{not};
 ghost use Prim.Native.Nat.{_+_, _<_, _≤_};
 ghost use lib.ListN.{length};
-ghost use Rattle.basis.specs.Board.{flashSize, mapSize};
-ghost use Rattle.line.specs.Line.{begun, momentAt, lossAt, rehearseOf, momentOf, Rehearses};
+ghost use Rattle.basis.specs.Board.{flashSize, mapSize, answerMost};
+ghost use Rattle.packet.specs.Packet.{packetMost};
+ghost use Rattle.line.specs.Line.{begun, momentAt, lossAt, rehearseOf, momentIn, Rehearses};
 ghost use Rattle.line.specs.Paper.{paperRehearsed};
 ghost use Rattle.runs.specs.Pieces.{namedCount};
 ghost use Rattle.session.specs.Phases.{ended};
 ghost use Rattle.session.specs.Plan.{total};
-use crate::exchange::Ends;
+use crate::exchange::Link;
 use crate::exchange::Loss;
 use crate::exchange::exchange;
-use basis::board::FLASH;
+use basis::board::ANSWER;
+use basis::board::SIZE;
 use loader::state::Loader;
+use packet::build::PACKET;
 use session::phase::RunKind;
-use session::phase::ended;
 use session::session::Refusal;
 use session::session::Session;
 use session::session::Stepped;
@@ -42,11 +44,11 @@ pub fn rehearse(
 ) -> Rehearsed
     ensures { λ r. ⌜ Rehearses (rehearseOf (now (image .entry)) (now (map .entry)) kind loader (lossAt (now (losses .entry))) (now (flash .entry))) (now (flash .entry)) (paperRehearsed r) (now (flash .exit)) ⌝ }
 {
-    if flash.len() != FLASH as usize {
+    if flash.len() != SIZE {
         return Rehearsed::Refused(Refusal::Size);
     }
-    let mut packet = [0u8; 259];
-    let mut answer = [0u8; 24];
+    let mut packet = [0u8; PACKET];
+    let mut answer = [0u8; ANSWER];
     begin(
         kind,
         loader,
@@ -69,14 +71,14 @@ fn begin(
     packet: &mut [u8],
     answer: &mut [u8],
 ) -> Rehearsed
-    requires { ⌜ (length (now flash) ≡ flashSize) × (length (now packet) ≡ 259) × (length (now answer) ≡ 24) ⌝ }
+    requires { ⌜ (length (now flash) ≡ flashSize) × (length (now packet) ≡ packetMost) × (length (now answer) ≡ answerMost) ⌝ }
     ensures { λ r. ⌜ Rehearses (rehearseOf (now (image .entry)) (now (map .entry)) kind loader (lossAt (now (losses .entry))) (now (flash .entry))) (now (flash .entry)) (paperRehearsed r) (now (flash .exit)) ⌝ }
 {
     match Session::start(kind, image, map, packet) {
         Stepped::Refused(why) => Rehearsed::Refused(why),
         Stepped::Next(next) => {
             let session = next.session;
-            let first = Ends {
+            let first = Link {
                 loader: loader.reset(),
                 session,
                 len: next.len,
@@ -91,33 +93,33 @@ fn begin(
 
 // Exchanges until the session has ended.
 fn drive(
-    first: Ends,
+    first: Link,
     losses: &[u8],
     image: &[u8],
     map: &[u8],
     flash: &mut [u8],
     packet: &mut [u8],
     answer: &mut [u8],
-) -> Ends
-    requires { ⌜ (length (now image) ≡ flashSize) × (length (now map) ≡ mapSize) × (length (now flash) ≡ flashSize) × (length (now packet) ≡ 259) × (length (now answer) ≡ 24) × (0 < namedCount (now map)) × (first .len ≤ 259) × (momentOf first (now flash) (now packet) ≡ begun (now map) (first .session .kind) (first .loader) (now flash)) ⌝ }
+) -> Link
+    requires { ⌜ (length (now image) ≡ flashSize) × (length (now map) ≡ mapSize) × (length (now flash) ≡ flashSize) × (length (now packet) ≡ packetMost) × (length (now answer) ≡ answerMost) × (0 < namedCount (now map)) × (first .len ≤ packetMost) × (momentIn first (now flash) (now packet) ≡ begun (now map) (first .session .kind) (first .loader) (now flash)) ⌝ }
     ensures { λ r. ⌜
-        (let x = momentAt (now (image .entry)) (now (map .entry)) (lossAt (now (losses .entry))) (momentOf first (now (flash .entry)) (now (packet .entry))) (total (now (map .entry)) + 1) in
+        (let x = momentAt (now (image .entry)) (now (map .entry)) (lossAt (now (losses .entry))) (momentIn first (now (flash .entry)) (now (packet .entry))) (total (now (map .entry)) + 1) in
         (r .loader ≡ x .loader) × (r .session ≡ x .session) × (now (flash .exit) ≡ x .flash))
         ⌝ }
 {
-    let mut ends = first;
+    let mut link = first;
     let mut i = 0;
-    while is_open(ends) {
-        ends = exchange(ends, Loss::at(losses, i), image, map, flash, packet, answer);
+    while is_open(link) {
+        link = exchange(link, Loss::at(losses, i), image, map, flash, packet, answer);
         i += 1;
     }
-    ends
+    link
 }
 
-fn is_open(ends: Ends) -> bool
-    ensures { λ r. ⌜ r ≡ not (ended (ends .session .phase)) ⌝ }
+fn is_open(link: Link) -> bool
+    ensures { λ r. ⌜ r ≡ not (ended (link .session .phase)) ⌝ }
 {
-    let session = ends.session;
+    let session = link.session;
     let phase = session.phase;
-    !ended(phase)
+    !phase.ended()
 }

@@ -1,3 +1,3 @@
 pub mod Buffers
 pub mod Texts
-pub mod Pages
+pub mod Sheets

@@ -6,7 +6,7 @@ use native.Mathlib.Omega.{arith}
 use borrow.Author.Tests.{eq-eqb, ne-eqb}
 use lib.ListN.{length, getD, set, take}
 use Rattle.basis.specs.Refusals.{Answer}
-use Rattle.image.specs.Hex.{paperRead, Outcome, outcome, settled, startIn, recordIn}
+use Rattle.image.specs.Hex.{paperRead, Settled, settledAs, settled, startIn, recordIn}
 use Rattle.image.specs.Hex.{closeOf as closing}
 use Rattle.image.specs.Record.{paperRefusal}
 use Rattle.image.specs.declared.hex.Hex.{Hex}
@@ -15,7 +15,7 @@ use Rattle.image.specs.declared.record.Refusal.{Refusal}
 use Rattle.listing.specs.Text.{Verdict, refusedAt, result, trimmedOf, readIn}
 use Rattle.listing.specs.Laws.Feed.{feed-more, byte-ends, byte-kept}
 use Rattle.listing.specs.Laws.Reading.{text-reads}
-use Rattle.listing.specs.Feed.{Progress, stopped, going, Fed, fed, started, paperReading, begunBy, feedOf, closeOf, verdictOf, fedResult, nextLine, tookBy, took, withKept, keepOneOf, textByte, progressByte, Keeps, lastOf, shutBy, shutOf, shutFed, progressClosed}
+use Rattle.listing.specs.Feed.{Progress, stopped, going, Fed, fed, started, paperReading, begunBy, feedOf, closeOf, endedOf, fedResult, nextLine, tookBy, took, withKept, keepOneOf, textByte, progressByte, Keeps, lastOf, shutBy, shutOf, shutFed, progressClosed}
 use Rattle.listing.specs.declared.text.Reading.{Reading}
 use Rattle.listing.specs.declared.text.Text.{Text}
 
@@ -38,23 +38,23 @@ module _ (l : List ℕ) where
 -- ---- a record
 
 -- progress, image and map that an outcome gives
-abbrev pub Shown : (Answer Hex → Progress) → Progress → List ℕ → List ℕ → Outcome → Type 0
+abbrev pub Shown : (Answer Hex → Progress) → Progress → List ℕ → List ℕ → Settled → Type 0
 Shown by p image map o = (p ≡ by (o .answer)) × (image ≡ o .image) × (map ≡ o .map)
 
-pub shown : (by : Answer Hex → Progress) (r x : Read) (i m : List ℕ) (o : Outcome) → r ≡ x → outcome (paperRead r) i m ≡ o → Shown by (by (paperRead x)) i m o
+pub shown : (by : Answer Hex → Progress) (r x : Read) (i m : List ℕ) (o : Settled) → r ≡ x → settledAs (paperRead r) i m ≡ o → Shown by (by (paperRead x)) i m o
 shown by r x i m o e f =
-    let g : outcome (paperRead x) i m ≡ o = rw e at f in
-    (ap (λ (y : Outcome). by (y .answer)) g, ap (λ (y : Outcome). y .image) g, ap (λ (y : Outcome). y .map) g)
+    let g : settledAs (paperRead x) i m ≡ o = rw e at f in
+    (ap (λ (y : Settled). by (y .answer)) g, ap (λ (y : Settled). y .image) g, ap (λ (y : Settled). y .map) g)
 
-module _ (t : Text) (n : ℕ) (e : n ≡ nextLine t) (i m : List ℕ) (o : Outcome) (r : Read) where
-  pub took-given : (h : Hex) → r ≡ Read.Taken h → outcome (paperRead r) i m ≡ o → Shown (tookBy t) (going (record { hex = h; lines = n; len = 0 })) i m o
+module _ (t : Text) (n : ℕ) (e : n ≡ nextLine t) (i m : List ℕ) (o : Settled) (r : Read) where
+  pub took-given : (h : Hex) → r ≡ Read.Taken h → settledAs (paperRead r) i m ≡ o → Shown (tookBy t) (going (record { hex = h; lines = n; len = 0 })) i m o
   took-given h f g = rw e (shown (tookBy t) r (Read.Taken h) i m o f g)
 
-  pub took-refused : (x : Refusal) → r ≡ Read.Refused x → outcome (paperRead r) i m ≡ o → Shown (tookBy t) (stopped n (paperRefusal x)) i m o
+  pub took-refused : (x : Refusal) → r ≡ Read.Refused x → settledAs (paperRead r) i m ≡ o → Shown (tookBy t) (stopped n (paperRefusal x)) i m o
   took-refused x f g = rw e (shown (tookBy t) r (Read.Refused x) i m o f g)
 
 -- the same with the line buffer
-pub took-shown : (t : Text) (p : Progress) (line i m : List ℕ) (o : Outcome) → Shown (tookBy t) p i m o → fed p line i m ≡ took t o line
+pub took-shown : (t : Text) (p : Progress) (line i m : List ℕ) (o : Settled) → Shown (tookBy t) p i m o → fed p line i m ≡ took t o line
 took-shown t p line i m o s = rw (s .0, s .1, s .2)
 
 -- ---- a byte
@@ -127,12 +127,12 @@ module _ (size : ℕ) (r : Reading) (line : List ℕ) where
 
 -- ---- a whole text
 
-pub ended-refused : (r : Reading) (n : ℕ) (x : Refusal) → r ≡ Reading.Refused n x → refusedAt n (paperRefusal x) ≡ verdictOf (paperReading r)
+pub ended-refused : (r : Reading) (n : ℕ) (x : Refusal) → r ≡ Reading.Refused n x → refusedAt n (paperRefusal x) ≡ endedOf (paperReading r)
 ended-refused r n x e = rw e
 
 module _ (size : ℕ) (text line image map : List ℕ) (room : 523 ≤ length line) (few : length text + 1 < 2 ^ 64) where
-  pub read-by : (p q r : Progress) (i1 m1 l2 i2 m2 i3 m3 : List ℕ) → Shown begunBy p i1 m1 (settled (startIn size image map) image map) → fed q l2 i2 m2 ≡ feedOf size (fed p line i1 m1) text → fed r l2 i3 m3 ≡ closeOf size (fed q l2 i2 m2) → (v : Verdict) → v ≡ verdictOf r → result v i3 m3 ≡ readIn size text image map
+  pub read-by : (p q r : Progress) (i1 m1 l2 i2 m2 i3 m3 : List ℕ) → Shown begunBy p i1 m1 (settled (startIn size image map) image map) → fed q l2 i2 m2 ≡ feedOf size (fed p line i1 m1) text → fed r l2 i3 m3 ≡ closeOf size (fed q l2 i2 m2) → (v : Verdict) → v ≡ endedOf r → result v i3 m3 ≡ readIn size text image map
   read-by p q r i1 m1 l2 i2 m2 i3 m3 s f g v ev =
-      let o : Outcome = settled (startIn size image map) image map in
+      let o : Settled = settled (startIn size image map) image map in
       let e : fed p line i1 m1 ≡ started o line = rw (s .0, s .1, s .2) in
       ap (λ (x : Verdict). result x i3 m3) ev ∙ ap fedResult (g ∙ ap (closeOf size) (f ∙ ap (λ (x : Fed). feedOf size x text) e)) ∙ text-reads size text line image map room few

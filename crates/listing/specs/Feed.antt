@@ -6,7 +6,7 @@ use lib.Dec.{eqb, ltb}
 use lib.ListN.{length, set, take}
 use Rattle.basis.specs.Choice.{pick}
 use Rattle.basis.specs.Refusals.{Answer, refused, given}
-use Rattle.image.specs.Hex.{Outcome, settled, recordIn}
+use Rattle.image.specs.Hex.{Settled, settled, recordIn}
 use Rattle.image.specs.Hex.{closeOf as closing}
 use Rattle.image.specs.Record.{paperRefusal}
 use Rattle.image.specs.declared.hex.Hex.{Hex}
@@ -42,7 +42,7 @@ abbrev pub begunBy : Answer Hex → Progress
 begunBy (refused k) = stopped 0 k
 begunBy (given h) = going (record { hex = h; lines = 0; len = 0 })
 
-abbrev pub started : Outcome → List ℕ → Fed
+abbrev pub started : Settled → List ℕ → Fed
 started o line = fed (begunBy (o .answer)) line (o .image) (o .map)
 
 -- the number of the next line, in 64 bits
@@ -54,7 +54,7 @@ abbrev pub tookBy : Text → Answer Hex → Progress
 tookBy t (refused k) = stopped (nextLine t) k
 tookBy t (given h) = going (record { hex = h; lines = nextLine t; len = 0 })
 
-abbrev pub took : Text → Outcome → List ℕ → Fed
+abbrev pub took : Text → Settled → List ℕ → Fed
 took t o line = fed (tookBy t (o .answer)) line (o .image) (o .map)
 
 abbrev pub tookLine : ℕ → Text → List ℕ → List ℕ → List ℕ → List ℕ → Fed
@@ -115,12 +115,12 @@ abbrev pub closeOf : ℕ → Fed → Fed
 closeOf size s = progressClosed size (s .progress) (s .line) (s .image) (s .map)
 
 -- what a reading came to
-abbrev pub verdictOf : Progress → Verdict
-verdictOf (stopped n k) = refusedAt n k
-verdictOf (going t) = whole
+abbrev pub endedOf : Progress → Verdict
+endedOf (stopped n k) = refusedAt n k
+endedOf (going t) = whole
 
 abbrev pub resultOf : Progress → List ℕ → List ℕ → Result
-resultOf p image map = result (verdictOf p) image map
+resultOf p image map = result (endedOf p) image map
 
 abbrev pub fedResult : Fed → Result
 fedResult s = resultOf (s .progress) (s .image) (s .map)

@@ -55,9 +55,9 @@ paperBegun (Begun.Listing l) = given l
 paperBegun (Begun.Refused x) = refused (paperRefusal x)
 
 -- it begins where the session starts
-abbrev pub begunOf : List ℕ → Answer Sent → Answer Listing
-begunOf m (refused n) = refused n
-begunOf m (given x) = given (listingAt m 0)
+abbrev pub listingBy : List ℕ → Answer Sent → Answer Listing
+listingBy m (refused n) = refused n
+listingBy m (given x) = given (listingAt m 0)
 
 -- ---- a page
 
@@ -66,25 +66,25 @@ abbrev pub longestLine : ℕ
 longestLine = 542
 
 -- what is written, and how many packets are listed behind it
-pub record Page : Type 0 where
+pub record Sheet : Type 0 where
   pub text : List ℕ
   pub listed : ℕ
 
-abbrev pub page : List ℕ → ℕ → Page
-page s n = record { text = s; listed = n }
+abbrev pub sheet : List ℕ → ℕ → Sheet
+sheet s n = record { text = s; listed = n }
 
-abbrev pub behind : List ℕ → Page → Page
-behind s g = page (s ++ g .text) (g .listed)
+abbrev pub behind : List ℕ → Sheet → Sheet
+behind s g = sheet (s ++ g .text) (g .listed)
 
 -- whole lines, as long as the longest one has room
-unfoldable pub pageOf : ℕ → ℕ → List (List ℕ) → Page
-pageOf room n [] = page [] n
-pageOf room n (p ∷ ps) =
-    pick (ltb room longestLine) (page [] n)
-    (behind (stepLine (n + 1) p) (pageOf (room - length (stepLine (n + 1) p)) (n + 1) ps))
+unfoldable pub sheetOf : ℕ → ℕ → List (List ℕ) → Sheet
+sheetOf room n [] = sheet [] n
+sheetOf room n (p ∷ ps) =
+    pick (ltb room longestLine) (sheet [] n)
+    (behind (stepLine (n + 1) p) (sheetOf (room - length (stepLine (n + 1) p)) (n + 1) ps))
 
 -- k pages one after another, each in a buffer of so many bytes
-unfoldable pub pagesOf : ℕ → ℕ → ℕ → List (List ℕ) → List ℕ
-pagesOf zero room n ps = []
-pagesOf (suc k) room n ps =
-    pageOf room n ps .text ++ pagesOf k room (pageOf room n ps .listed) (drop (pageOf room n ps .listed - n) ps)
+unfoldable pub sheets : ℕ → ℕ → ℕ → List (List ℕ) → List ℕ
+sheets zero room n ps = []
+sheets (suc k) room n ps =
+    sheetOf room n ps .text ++ sheets k room (sheetOf room n ps .listed) (drop (sheetOf room n ps .listed - n) ps)

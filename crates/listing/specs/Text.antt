@@ -17,8 +17,8 @@ unfoldable pub linesFrom : List ℕ → List ℕ → List (List ℕ)
 linesFrom l [] = pick (eqb (length l) 0) [] (l ∷ [])
 linesFrom l (b ∷ t) = pick (eqb b 0x0A) (trimmedOf l ∷ linesFrom [] t) (linesFrom (l ++ (b ∷ [])) t)
 
-abbrev pub linesOf : List ℕ → List (List ℕ)
-linesOf t = linesFrom [] t
+abbrev pub textLines : List ℕ → List (List ℕ)
+textLines t = linesFrom [] t
 
 -- refused at a line, counted from 1 (0 at closing), with the paper's number; or a whole file
 pub data Verdict : Type 0 where
@@ -51,4 +51,4 @@ readFrom size n (l ∷ ls) f =
 
 -- a whole text, into an image and a map of the right size
 unfoldable pub readIn : ℕ → List ℕ → List ℕ → List ℕ → Result
-readIn size t image map = onward 0 image map (startIn size image map) (readFrom size 0 (linesOf t))
+readIn size t image map = onward 0 image map (startIn size image map) (readFrom size 0 (textLines t))

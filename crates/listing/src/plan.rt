@@ -5,16 +5,18 @@ ghost use lib.ListN.{length, getD, drop};
 ghost use Rattle.basis.specs.Board.{mapSize};
 ghost use Rattle.basis.specs.Lists.{overlay};
 ghost use Rattle.image.specs.Flash.{copyOf};
+ghost use Rattle.packet.specs.Packet.{packetMost};
 ghost use Rattle.runs.specs.Pieces.{namedCount};
 ghost use Rattle.session.specs.Plan.{plan, total};
 ghost use Rattle.session.specs.Session.{started};
 ghost use Rattle.session.specs.declared.phase.RunKind.{RunKind};
 ghost use Rattle.listing.specs.Lines.{headLine, stepLine, totalLine};
-ghost use Rattle.listing.specs.Plan.{Listed, listingAt, paperBegun, begunOf, packetAt, longestLine, pageOf};
+ghost use Rattle.listing.specs.Plan.{Listed, listingAt, paperBegun, listingBy, packetAt, longestLine, sheetOf};
 use crate::numbers::decimal;
 use crate::numbers::field;
 use basis::buffers::write;
 use image::writer::spell;
+use packet::build::PACKET;
 use session::cursor::after;
 use session::phase::Phase;
 use session::phase::RunKind;
@@ -39,7 +41,7 @@ pub enum Begun {
 }
 
 // The listing behind what was written, and how much that is.
-pub struct Page {
+pub struct Sheet {
     pub listing: Listing,
     pub len: usize,
 }
@@ -47,14 +49,14 @@ pub struct Page {
 impl Listing {
     // Refused as the session's start is.
     pub fn start(image: &[u8], map: &[u8]) -> Begun
-        ensures { λ r. ⌜ paperBegun r ≡ begunOf (now (map .entry)) (started (now (image .entry)) (now (map .entry)) 259 RunKind.Reset) ⌝ }
+        ensures { λ r. ⌜ paperBegun r ≡ listingBy (now (map .entry)) (started (now (image .entry)) (now (map .entry)) packetMost RunKind.Reset) ⌝ }
     {
-        let mut packet = [0u8; 259];
+        let mut packet = [0u8; PACKET];
         Listing::start_with(image, map, &mut packet)
     }
 
     fn start_with(image: &[u8], map: &[u8], packet: &mut [u8]) -> Begun
-        ensures { λ r. ⌜ paperBegun r ≡ begunOf (now (map .entry)) (started (now (image .entry)) (now (map .entry)) (length (now (packet .entry))) RunKind.Reset) ⌝ }
+        ensures { λ r. ⌜ paperBegun r ≡ listingBy (now (map .entry)) (started (now (image .entry)) (now (map .entry)) (length (now (packet .entry))) RunKind.Reset) ⌝ }
     {
         match Session::start(RunKind::Reset, image, map, packet) {
             Stepped::Next(next) => Begun::Listing(Listing::first(map, next.session)),
@@ -75,10 +77,10 @@ impl Listing {
     }
 
     // Whole lines of the packets that are left, as long as the longest one has room.
-    pub fn page(self, image: &[u8], map: &[u8], buffer: &mut [u8]) -> Page
+    pub fn sheet(self, image: &[u8], map: &[u8], buffer: &mut [u8]) -> Sheet
         requires { ⌜ Listed (now image) (now map) self ⌝ }
         ensures { λ r. ⌜
-            (let g = pageOf (length (now (buffer .entry))) (self .listed) (drop (self .listed) (plan (now (image .entry)) (now (map .entry)) RunKind.Reset)) in
+            (let g = sheetOf (length (now (buffer .entry))) (self .listed) (drop (self .listed) (plan (now (image .entry)) (now (map .entry)) RunKind.Reset)) in
             (r .listing ≡ listingAt (now (map .entry)) (g .listed)) × (r .len ≡ length (g .text)) × (now (buffer .exit) ≡ overlay (g .text) (now (buffer .entry))))
             ⌝ }
     {
@@ -86,24 +88,24 @@ impl Listing {
         let mut at = 0;
         while listing.listed < listing.total {
             if buffer.len() - at < LONGEST {
-                return Page { listing, len: at };
+                return Sheet { listing, len: at };
             }
             let next = listing.line(image, map, buffer, at);
             listing = next.listing;
             at = next.len;
         }
-        Page { listing, len: at }
+        Sheet { listing, len: at }
     }
 
     // The next packet's line, from `at` on.
-    fn line(self, image: &[u8], map: &[u8], buffer: &mut [u8], at: usize) -> Page
+    fn line(self, image: &[u8], map: &[u8], buffer: &mut [u8], at: usize) -> Sheet
         requires { ⌜ Listed (now image) (now map) self × (self .listed < self .total) × (at + longestLine ≤ length (now buffer)) ⌝ }
         ensures { λ r. ⌜
             (let s = stepLine (self .listed + 1) (packetAt (now (image .entry)) (now (map .entry)) (self .listed)) in
             (r .listing ≡ listingAt (now (map .entry)) (self .listed + 1)) × (r .len ≡ at + length s) × (now (buffer .exit) ≡ copyOf (now (buffer .entry)) at s) × (length s ≤ longestLine))
             ⌝ }
     {
-        let mut packet = [0u8; 259];
+        let mut packet = [0u8; PACKET];
         self.line_with(image, map, &mut packet, buffer, at)
     }
 
@@ -114,8 +116,8 @@ impl Listing {
         packet: &mut [u8],
         buffer: &mut [u8],
         at: usize,
-    ) -> Page
-        requires { ⌜ Listed (now image) (now map) self × (self .listed < self .total) × (length (now packet) ≡ 259) × (at + longestLine ≤ length (now buffer)) ⌝ }
+    ) -> Sheet
+        requires { ⌜ Listed (now image) (now map) self × (self .listed < self .total) × (length (now packet) ≡ packetMost) × (at + longestLine ≤ length (now buffer)) ⌝ }
         ensures { λ r. ⌜
             (let s = stepLine (self .listed + 1) (packetAt (now (image .entry)) (now (map .entry)) (self .listed)) in
             (r .listing ≡ listingAt (now (map .entry)) (self .listed + 1)) × (r .len ≡ at + length s) × (now (buffer .exit) ≡ copyOf (now (buffer .entry)) at s) × (length s ≤ longestLine))
@@ -130,7 +132,7 @@ impl Listing {
             listed,
             total: self.total,
         };
-        Page { listing, len }
+        Sheet { listing, len }
     }
 }
 

@@ -5,7 +5,7 @@ ghost use lib.ListN.{length, set, take};
 ghost use Rattle.basis.specs.Board.{flashSize};
 ghost use Rattle.image.specs.Hex.{settled, startIn, recordIn};
 ghost use Rattle.listing.specs.Text.{result, trimmedOf, readIn};
-ghost use Rattle.listing.specs.Feed.{going, paperReading, paperEnded, verdictOf, fed, begunBy, tookBy, keepOneOf, withKept, textByte, byteOf, feedOf, Keeps, lastOf, shutOf, closeOf};
+ghost use Rattle.listing.specs.Feed.{going, paperReading, paperEnded, endedOf, fed, begunBy, tookBy, keepOneOf, withKept, textByte, byteOf, feedOf, Keeps, lastOf, shutOf, closeOf};
 use image::hex::Hex;
 use image::hex::Read;
 use image::record::Refusal;
@@ -105,7 +105,7 @@ impl Reading {
 
     // What a text that is closed came to.
     fn ended(self) -> Ended
-        ensures { λ r. ⌜ paperEnded r ≡ verdictOf (paperReading self) ⌝ }
+        ensures { λ r. ⌜ paperEnded r ≡ endedOf (paperReading self) ⌝ }
     {
         match self {
             Reading::Open(_) => Ended::File,

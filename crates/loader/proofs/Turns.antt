@@ -11,7 +11,7 @@ use lib.ListN.{length, getD, drop, drop-of-length-le}
 use lib.Seq.{drop-cons}
 use Rattle.basis.specs.Bits.{bit}
 use Rattle.loader.specs.Protection.{anyOf}
-use Rattle.loader.specs.Verify.{sameOf}
+use Rattle.loader.specs.Verify.{equalsOf}
 use Rattle.packet.specs.Turn.{restoredOf}
 
 module _ (s g end : ℕ) where
@@ -28,14 +28,14 @@ module _ (s g end : ℕ) where
   any-end h = let e : end - g ≡ 0 = omega arith in rw e
 
 module _ (flash : List ℕ) (at i : ℕ) (s : List ℕ) where
-  pub same-on : i < length s → getD flash (at + i) 0 ≡ restoredOf (getD s i 0) → sameOf flash (at + i) (drop i s) ≡ sameOf flash (at + (i + 1)) (drop (i + 1) s)
-  unfolding sameOf
-  same-on h e = rw (← add-assoc at i 1, add-one i, drop-cons s i 0, eq-eqb _ _ e)
+  pub equals-on : i < length s → getD flash (at + i) 0 ≡ restoredOf (getD s i 0) → equalsOf flash (at + i) (drop i s) ≡ equalsOf flash (at + (i + 1)) (drop (i + 1) s)
+  unfolding equalsOf
+  equals-on h e = rw (← add-assoc at i 1, add-one i, drop-cons s i 0, eq-eqb _ _ e)
 
-  pub same-differs : i < length s → (getD flash (at + i) 0 ≡ restoredOf (getD s i 0) → ⊥) → sameOf flash (at + i) (drop i s) ≡ false
-  unfolding sameOf
-  same-differs h e = rw (drop-cons s i 0, ne-eqb _ _ e)
+  pub equals-differs : i < length s → (getD flash (at + i) 0 ≡ restoredOf (getD s i 0) → ⊥) → equalsOf flash (at + i) (drop i s) ≡ false
+  unfolding equalsOf
+  equals-differs h e = rw (drop-cons s i 0, ne-eqb _ _ e)
 
-  pub same-end : length s ≤ i → sameOf flash (at + i) (drop i s) ≡ true
-  unfolding sameOf
-  same-end h = rw (drop-of-length-le s h)
+  pub equals-end : length s ≤ i → equalsOf flash (at + i) (drop i s) ≡ true
+  unfolding equalsOf
+  equals-end h = rw (drop-of-length-le s h)

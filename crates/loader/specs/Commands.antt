@@ -11,10 +11,11 @@ use Rattle.basis.specs.Units.{pageOf, groupOf, pageGroupOf, startOf}
 use Rattle.image.specs.Flash.{eraseOf, storeOf}
 use Rattle.loader.specs.Protection.{none, withGroup, withRead, anyOf}
 use Rattle.loader.specs.State.{withCondition, withAdded, joinedOf, clearedOf}
-use Rattle.loader.specs.Verify.{sameOf}
+use Rattle.loader.specs.Verify.{equalsOf}
 use Rattle.loader.specs.declared.protection.Protection.{Protection}
 use Rattle.loader.specs.declared.state.Condition.the-variants.{Left}
 use Rattle.loader.specs.declared.state.Loader.{Loader}
+use Rattle.basis.specs.Board.{pageSize, groupSize}
 
 -- loader and flash after an accepted command
 pub record Effect : Type 0 where
@@ -26,7 +27,7 @@ abbrev pub protectedPages : Protection → ℕ → ℕ → Bool
 protectedPages s p q = anyOf (s .groups) (pageGroupOf p) (pageGroupOf (q + 3) - pageGroupOf p)
 
 abbrev pub protectedBytes : Protection → ℕ → ℕ → Bool
-protectedBytes s a e = anyOf (s .groups) (groupOf a) (groupOf (e + 0x7FF) - groupOf a)
+protectedBytes s a e = anyOf (s .groups) (groupOf a) (groupOf (e + (groupSize - 1)) - groupOf a)
 
 -- E: count 0 with address exactly 0 is the mass erase
 abbrev pub massErase : ℕ → ℕ → Bool
@@ -44,7 +45,7 @@ erasing k l a n f =
     first (9 when l .sequence .opened ∷ [])
     (pick (massErase a n)
     (given (record { loader = clearedOf l; flash = eraseOf f 0 (length f) }))
-    (first (eraseRows k l a n) (given (record { loader = l; flash = eraseOf f (startOf (pageOf a)) (n * 512) }))))
+    (first (eraseRows k l a n) (given (record { loader = l; flash = eraseOf f (startOf (pageOf a)) (n * pageSize) }))))
 
 -- W: each byte becomes old AND new
 unfoldable pub writeRows : ℕ → Loader → ℕ → ℕ → List Rule
@@ -63,7 +64,7 @@ verifyRows k l a d f =
     9 when l .sequence .opened
     ∷ 7 when ltb (startOf k) (a + length d)
     ∷ 8 when l .protection .read
-    ∷ 10 when not (sameOf f a d)
+    ∷ 10 when not (equalsOf f a d)
     ∷ []
 
 -- P, type 0x00 opens a sequence
@@ -76,7 +77,7 @@ addedOf k p a = pick (ltb a (startOf k)) (withGroup p (groupOf a)) (withRead p)
 
 unfoldable pub adding : ℕ → Loader → ℕ → Answer Loader
 adding k l a =
-    first (9 when not (l .sequence .opened) ∷ 7 when leb (startOf k + 0x800) a ∷ [])
+    first (9 when not (l .sequence .opened) ∷ 7 when leb (startOf k + groupSize) a ∷ [])
     (given (withAdded l (addedOf k (l .sequence .added) a)))
 
 -- type 0x01 joins the added groups to the protection in force, records the address as key, and closes
@@ -109,15 +110,15 @@ abbrev pub loaderAfter : Loader → Answer Loader → Loader
 loaderAfter l (refused n) = l
 loaderAfter l (given m) = m
 
-pub record Turns (x : Answer Loader) (l : Loader) (verdict : Answer (Unit {0})) (next : Loader) : Type 0 where
+pub record Changes (x : Answer Loader) (l : Loader) (verdict : Answer (Unit {0})) (next : Loader) : Type 0 where
   pub verdict-is : verdict ≡ bare x
   pub loader-is : next ≡ loaderAfter l x
 
-abbrev pub after : Loader → List ℕ → Answer Effect → Effect
-after l f (refused n) = record { loader = l; flash = f }
-after l f (given e) = e
+abbrev pub effectAfter : Loader → List ℕ → Answer Effect → Effect
+effectAfter l f (refused n) = record { loader = l; flash = f }
+effectAfter l f (given e) = e
 
 pub record Does (x : Answer Effect) (l : Loader) (f : List ℕ) (verdict : Answer (Unit {0})) (next : Loader) (flash : List ℕ) : Type 0 where
   pub verdict-is : verdict ≡ bare x
-  pub loader-is : next ≡ after l f x .loader
-  pub flash-is : flash ≡ after l f x .flash
+  pub loader-is : next ≡ effectAfter l f x .loader
+  pub flash-is : flash ≡ effectAfter l f x .flash

@@ -2,14 +2,14 @@
 use Prim.Native.Nat.{ℕ}
 use Rattle.basis.specs.Refusals.{Answer, refused, given}
 use Rattle.loader.specs.declared.verdict.Refusal.{Refusal}
-use Rattle.loader.specs.declared.verdict.Refusal.the-variants.{Size, Closed, Unread, Sequence, Address, Protected, Differs}
+use Rattle.loader.specs.declared.verdict.Refusal.the-variants.{Size, Unheard, Unread, Sequence, Address, Protected, Differs}
 use Rattle.loader.specs.declared.verdict.Verdict.{Verdict}
 use Rattle.loader.specs.declared.verdict.Verdict.the-variants.{Accepted, Refused}
 use Rattle.packet.specs.Paper.{paperRefusal as paperUnread}
 
 abbrev pub paperRefusal : Refusal → ℕ
 paperRefusal Size = 20
-paperRefusal Closed = 11
+paperRefusal Unheard = 11
 paperRefusal (Unread x) = paperUnread x
 paperRefusal Sequence = 9
 paperRefusal Address = 7

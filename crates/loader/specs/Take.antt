@@ -5,7 +5,7 @@ use mathlib.Core.List.{List, [], _∷_}
 use mathlib.Core.Path.{_≡_}
 use lib.Dec.{ltb, eqb}
 use lib.ListN.{length, getD, take, drop}
-use Rattle.basis.specs.Board.{greeting}
+use Rattle.basis.specs.Board.{greeting, answerMost}
 use Rattle.basis.specs.Choice.{pick, both, either}
 use Rattle.basis.specs.Lists.{overlay}
 use Rattle.basis.specs.Refusals.{Answer, refused, given, _when_, first, bare}
@@ -37,34 +37,34 @@ abbrev pub obeyed : ℕ → Loader → List ℕ → List ℕ → Answer Parts �
 obeyed k l s f (refused n) = refused n
 obeyed k l s f (given p) = obeyOf k l (p .command) (p .address) (take (p .size) (drop (p .place) s)) f
 
-unfoldable pub servedOf : ℕ → Loader → List ℕ → List ℕ → Answer Effect
-servedOf k l s f = obeyed k l s f (readOf s)
+unfoldable pub serveOf : ℕ → Loader → List ℕ → List ℕ → Answer Effect
+serveOf k l s f = obeyed k l s f (readOf s)
 
 -- 11: left, or waiting and the input is not the single 08; waiting takes that byte and serves
-unfoldable pub heardOf : ℕ → Loader → List ℕ → List ℕ → Answer Effect
-heardOf k l s f =
+unfoldable pub hearOf : ℕ → Loader → List ℕ → List ℕ → Answer Effect
+hearOf k l s f =
     first (11 when either (left (l .condition)) (both (waiting (l .condition)) (not (opens s))) ∷ [])
-    (pick (waiting (l .condition)) (given (record { loader = withCondition l Serving; flash = f })) (servedOf k l s f))
+    (pick (waiting (l .condition)) (given (record { loader = withCondition l Serving; flash = f })) (serveOf k l s f))
 
 -- 20: flash not its size, or answer buffer under 24
 unfoldable pub takeOf : ℕ → Loader → List ℕ → List ℕ → ℕ → Answer Effect
 takeOf k l s f room =
-    first (20 when either (not (eqb (length f) (startOf k))) (ltb room 24) ∷ []) (heardOf k l s f)
+    first (20 when either (not (eqb (length f) (startOf k))) (ltb room answerMost) ∷ []) (hearOf k l s f)
 
 -- 20, 11, 1 and 2 are not answered
 abbrev pub quiet : ℕ → Bool
 quiet n = either (eqb n 20) (either (eqb n 11) (either (eqb n 1) (eqb n 2)))
 
 -- any other refusal answers BEL 07; acceptance answers the greeting where the loader was waiting, else ACK 06
-abbrev pub toldOf : Bool → Answer (Unit {0}) → List ℕ
-toldOf w (refused n) = pick (quiet n) [] (0x07 ∷ [])
-toldOf w (given u) = pick w greeting (0x06 ∷ [])
+abbrev pub tellOf : Bool → Answer (Unit {0}) → List ℕ
+tellOf w (refused n) = pick (quiet n) [] (0x07 ∷ [])
+tellOf w (given u) = pick w greeting (0x06 ∷ [])
 
-abbrev pub answerOf : Loader → Answer Effect → List ℕ
-answerOf l x = toldOf (waiting (l .condition)) (bare x)
+abbrev pub answerBytes : Loader → Answer Effect → List ℕ
+answerBytes l x = tellOf (waiting (l .condition)) (bare x)
 
 -- what the entry shows: besides loader and flash, the answer bytes and how many they are
 pub record Takes (x : Answer Effect) (l : Loader) (f old : List ℕ) (verdict : Answer (Unit {0})) (next : Loader) (answered : ℕ) (flash answer : List ℕ) : Type 0 where
   pub does-is : Does x l f verdict next flash
-  pub answered-is : answered ≡ length (answerOf l x)
-  pub answer-is : answer ≡ overlay (answerOf l x) old
+  pub answered-is : answered ≡ length (answerBytes l x)
+  pub answer-is : answer ≡ overlay (answerBytes l x) old

@@ -8,6 +8,6 @@ use Rattle.basis.specs.Choice.{both}
 use Rattle.packet.specs.Turn.{restoredOf}
 
 -- all bytes, turned back, equal flash from address a on
-unfoldable pub sameOf : List ℕ → ℕ → List ℕ → Bool
-sameOf flash a [] = true
-sameOf flash a (t ∷ s) = both (eqb (getD flash a 0) (restoredOf t)) (sameOf flash (a + 1) s)
+unfoldable pub equalsOf : List ℕ → ℕ → List ℕ → Bool
+equalsOf flash a [] = true
+equalsOf flash a (t ∷ s) = both (eqb (getD flash a 0) (restoredOf t)) (equalsOf flash (a + 1) s)

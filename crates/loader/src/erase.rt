@@ -12,7 +12,8 @@ use crate::state::Loader;
 use crate::verdict::Acted;
 use crate::verdict::Refusal;
 use crate::verdict::Verdict;
-use basis::board::FLASH;
+use basis::board::END;
+use basis::board::PAGE;
 use basis::board::PAGES;
 use basis::units::Address;
 use basis::units::Page;
@@ -39,7 +40,7 @@ pub fn erase(loader: Loader, address: Address, count: u8, flash: &mut [u8]) -> A
             image::flash::erase(
                 flash,
                 address.page().start().0 as usize,
-                count as usize * 512,
+                count as usize * PAGE as usize,
             );
             Acted {
                 loader,
@@ -79,7 +80,7 @@ fn judge(loader: Loader, address: Address, count: u8) -> Verdict
     if count == 0 {
         return Verdict::Refused(Refusal::Address);
     }
-    if FLASH <= address.0 {
+    if END <= address.0 {
         return Verdict::Refused(Refusal::Address);
     }
     if PAGES < end {

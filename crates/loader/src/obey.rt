@@ -12,7 +12,7 @@ use crate::state::Loader;
 use crate::verdict::Acted;
 use crate::verify::verify;
 use crate::write::write;
-use basis::buffers::first;
+use basis::buffers::first_byte;
 use basis::units::Address;
 use packet::table::Command;
 
@@ -28,13 +28,13 @@ pub fn obey(
     ensures { λ r. ⌜ Does (obeyOf pages loader (paperCommand command) (address .0) (now (sent .entry)) (now (flash .entry))) loader (now (flash .entry)) (paperVerdict (r .verdict)) (r .loader) (now (flash .exit)) ⌝ }
 {
     match command {
-        Command::Erase => erase(loader, address, first(sent), flash),
+        Command::Erase => erase(loader, address, first_byte(sent), flash),
         Command::Write => write(loader, address, sent, flash),
         Command::Verify => Acted {
             loader,
             verdict: verify(loader, address, sent, flash),
         },
-        Command::Protect => protect(loader, address, first(sent)),
+        Command::Protect => protect(loader, address, first_byte(sent)),
         Command::Run => run(loader, address),
     }
 }

@@ -1,18 +1,19 @@
 // P: a sequence is opened, groups are added to it, and closing it puts them in force.
 ghost use mathlib.Core.Path.{_≡_};
 ghost use Rattle.basis.specs.Board.{pages};
-ghost use Rattle.loader.specs.Commands.{Turns, opening, addedOf, adding, closing, protecting};
+ghost use Rattle.loader.specs.Commands.{Changes, opening, addedOf, adding, closing, protecting};
 ghost use Rattle.loader.specs.Paper.{paperVerdict};
 use crate::protection::Protection;
 use crate::state::Loader;
 use crate::verdict::Acted;
 use crate::verdict::Refusal;
 use crate::verdict::Verdict;
-use basis::board::FLASH;
+use basis::board::END;
+use basis::board::GROUP;
 use basis::units::Address;
 
 pub fn protect(loader: Loader, address: Address, kind: u8) -> Acted
-    ensures { λ r. ⌜ Turns (protecting pages loader (address .0) kind) loader (paperVerdict (r .verdict)) (r .loader) ⌝ }
+    ensures { λ r. ⌜ Changes (protecting pages loader (address .0) kind) loader (paperVerdict (r .verdict)) (r .loader) ⌝ }
 {
     match kind {
         0x00 => open(loader),
@@ -22,7 +23,7 @@ pub fn protect(loader: Loader, address: Address, kind: u8) -> Acted
 }
 
 fn open(loader: Loader) -> Acted
-    ensures { λ r. ⌜ Turns (opening loader) loader (paperVerdict (r .verdict)) (r .loader) ⌝ }
+    ensures { λ r. ⌜ Changes (opening loader) loader (paperVerdict (r .verdict)) (r .loader) ⌝ }
 {
     if loader.sequence.opened {
         return Acted {
@@ -37,7 +38,7 @@ fn open(loader: Loader) -> Acted
 }
 
 fn add(loader: Loader, address: Address) -> Acted
-    ensures { λ r. ⌜ Turns (adding pages loader (address .0)) loader (paperVerdict (r .verdict)) (r .loader) ⌝ }
+    ensures { λ r. ⌜ Changes (adding pages loader (address .0)) loader (paperVerdict (r .verdict)) (r .loader) ⌝ }
 {
     if !loader.sequence.opened {
         return Acted {
@@ -45,7 +46,7 @@ fn add(loader: Loader, address: Address) -> Acted
             verdict: Verdict::Refused(Refusal::Sequence),
         };
     }
-    if FLASH + 0x800 <= address.0 {
+    if END + GROUP <= address.0 {
         return Acted {
             loader,
             verdict: Verdict::Refused(Refusal::Address),
@@ -63,7 +64,7 @@ fn add(loader: Loader, address: Address) -> Acted
 fn added(protection: Protection, address: Address) -> Protection
     ensures { λ r. ⌜ r ≡ addedOf pages protection (address .0) ⌝ }
 {
-    if address.0 < FLASH {
+    if address.0 < END {
         protection.with_group(address.group())
     } else {
         protection.with_read()
@@ -71,7 +72,7 @@ fn added(protection: Protection, address: Address) -> Protection
 }
 
 fn close(loader: Loader, address: Address) -> Acted
-    ensures { λ r. ⌜ Turns (closing loader (address .0)) loader (paperVerdict (r .verdict)) (r .loader) ⌝ }
+    ensures { λ r. ⌜ Changes (closing loader (address .0)) loader (paperVerdict (r .verdict)) (r .loader) ⌝ }
 {
     if !loader.sequence.opened {
         return Acted {

@@ -1,6 +1,6 @@
 // R: the loader is left.
 ghost use mathlib.Core.Path.{_≡_};
-ghost use Rattle.loader.specs.Commands.{Turns, running};
+ghost use Rattle.loader.specs.Commands.{Changes, running};
 ghost use Rattle.loader.specs.Paper.{paperVerdict};
 use crate::state::Condition;
 use crate::state::Loader;
@@ -11,7 +11,7 @@ use basis::units::Address;
 
 // Address 0 jumps, address 1 resets by software.
 pub fn run(loader: Loader, address: Address) -> Acted
-    ensures { λ r. ⌜ Turns (running loader (address .0)) loader (paperVerdict (r .verdict)) (r .loader) ⌝ }
+    ensures { λ r. ⌜ Changes (running loader (address .0)) loader (paperVerdict (r .verdict)) (r .loader) ⌝ }
 {
     if loader.sequence.opened {
         return Acted {

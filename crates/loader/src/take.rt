@@ -2,11 +2,11 @@
 ghost use mathlib.Core.Path.{_≡_};
 ghost use Prim.Native.Nat.{_≤_};
 ghost use lib.ListN.{length};
-ghost use Rattle.basis.specs.Board.{pages, flashSize};
+ghost use Rattle.basis.specs.Board.{pages, flashSize, answerMost};
 ghost use Rattle.basis.specs.Lists.{overlay};
 ghost use Rattle.loader.specs.Commands.{Does};
 ghost use Rattle.loader.specs.Paper.{paperRefusal, paperVerdict};
-ghost use Rattle.loader.specs.Take.{waiting, opens, servedOf, heardOf, takeOf, quiet, toldOf, Takes};
+ghost use Rattle.loader.specs.Take.{waiting, opens, serveOf, hearOf, takeOf, quiet, tellOf, Takes};
 ghost use Rattle.packet.specs.Paper.{paperRefusal as paperUnread};
 use crate::obey::obey;
 use crate::state::Condition;
@@ -14,8 +14,9 @@ use crate::state::Loader;
 use crate::verdict::Acted;
 use crate::verdict::Refusal;
 use crate::verdict::Verdict;
-use basis::board::FLASH;
+use basis::board::ANSWER;
 use basis::board::GREETING;
+use basis::board::SIZE;
 use basis::buffers::write;
 use packet::read::Reading;
 use packet::read::read;
@@ -30,14 +31,14 @@ pub struct Taken {
 pub fn take(loader: Loader, input: &[u8], flash: &mut [u8], answer: &mut [u8]) -> Taken
     ensures { λ r. ⌜ Takes (takeOf pages loader (now (input .entry)) (now (flash .entry)) (length (now (answer .entry)))) loader (now (flash .entry)) (now (answer .entry)) (paperVerdict (r .verdict)) (r .loader) (r .answered) (now (flash .exit)) (now (answer .exit)) ⌝ }
 {
-    if flash.len() != FLASH as usize {
+    if flash.len() != SIZE {
         return Taken {
             loader,
             verdict: Verdict::Refused(Refusal::Size),
             answered: 0,
         };
     }
-    if answer.len() < 24 {
+    if answer.len() < ANSWER {
         return Taken {
             loader,
             verdict: Verdict::Refused(Refusal::Size),
@@ -68,7 +69,7 @@ fn is_waiting(loader: Loader) -> bool
 // What the condition lets in.
 fn hear(loader: Loader, input: &[u8], flash: &mut [u8]) -> Acted
     requires { ⌜ length (now flash) ≡ flashSize ⌝ }
-    ensures { λ r. ⌜ Does (heardOf pages loader (now (input .entry)) (now (flash .entry))) loader (now (flash .entry)) (paperVerdict (r .verdict)) (r .loader) (now (flash .exit)) ⌝ }
+    ensures { λ r. ⌜ Does (hearOf pages loader (now (input .entry)) (now (flash .entry))) loader (now (flash .entry)) (paperVerdict (r .verdict)) (r .loader) (now (flash .exit)) ⌝ }
 {
     let condition = loader.condition;
     match condition {
@@ -76,7 +77,7 @@ fn hear(loader: Loader, input: &[u8], flash: &mut [u8]) -> Acted
             if !is_opening(input) {
                 return Acted {
                     loader,
-                    verdict: Verdict::Refused(Refusal::Closed),
+                    verdict: Verdict::Refused(Refusal::Unheard),
                 };
             }
             Acted {
@@ -87,7 +88,7 @@ fn hear(loader: Loader, input: &[u8], flash: &mut [u8]) -> Acted
         Condition::Serving => serve(loader, input, flash),
         Condition::Left => Acted {
             loader,
-            verdict: Verdict::Refused(Refusal::Closed),
+            verdict: Verdict::Refused(Refusal::Unheard),
         },
     }
 }
@@ -103,7 +104,7 @@ fn is_opening(input: &[u8]) -> bool
 
 fn serve(loader: Loader, input: &[u8], flash: &mut [u8]) -> Acted
     requires { ⌜ length (now flash) ≡ flashSize ⌝ }
-    ensures { λ r. ⌜ Does (servedOf pages loader (now (input .entry)) (now (flash .entry))) loader (now (flash .entry)) (paperVerdict (r .verdict)) (r .loader) (now (flash .exit)) ⌝ }
+    ensures { λ r. ⌜ Does (serveOf pages loader (now (input .entry)) (now (flash .entry))) loader (now (flash .entry)) (paperVerdict (r .verdict)) (r .loader) (now (flash .exit)) ⌝ }
 {
     match read(input) {
         Reading::Refused(why) => Acted {
@@ -122,14 +123,14 @@ fn serve(loader: Loader, input: &[u8], flash: &mut [u8]) -> Acted
 
 // The answer bytes of a verdict, and how many.
 fn tell(waiting: bool, verdict: Verdict, answer: &mut [u8]) -> usize
-    requires { ⌜ 24 ≤ length (now answer) ⌝ }
-    ensures { λ r. ⌜ (r ≡ length (toldOf waiting (paperVerdict verdict))) × (now (answer .exit) ≡ overlay (toldOf waiting (paperVerdict verdict)) (now (answer .entry))) ⌝ }
+    requires { ⌜ answerMost ≤ length (now answer) ⌝ }
+    ensures { λ r. ⌜ (r ≡ length (tellOf waiting (paperVerdict verdict))) × (now (answer .exit) ≡ overlay (tellOf waiting (paperVerdict verdict)) (now (answer .entry))) ⌝ }
 {
     match verdict {
         Verdict::Accepted => {
             if waiting {
                 write(answer, &GREETING);
-                return 24;
+                return ANSWER;
             }
             answer[0] = 0x06;
             1
@@ -150,7 +151,7 @@ fn is_quiet(why: Refusal) -> bool
 {
     match why {
         Refusal::Size => true,
-        Refusal::Closed => true,
+        Refusal::Unheard => true,
         Refusal::Unread(unread) => is_no_frame(unread),
         Refusal::Sequence => false,
         Refusal::Address => false,

@@ -5,7 +5,7 @@ use crate::state::Loader;
 
 pub enum Refusal {
     Size,
-    Closed,
+    Unheard,
     Unread(packet::table::Refusal),
     Sequence,
     Address,
@@ -19,7 +19,7 @@ impl Refusal {
     {
         match self {
             Refusal::Size => 20,
-            Refusal::Closed => 11,
+            Refusal::Unheard => 11,
             Refusal::Unread(why) => why.number(),
             Refusal::Sequence => 9,
             Refusal::Address => 7,

@@ -6,7 +6,7 @@ ghost use Rattle.basis.specs.Board.{pages, flashSize};
 ghost use Rattle.basis.specs.Refusals.{given, first};
 ghost use Rattle.loader.specs.Commands.{verifyRows};
 ghost use Rattle.loader.specs.Paper.{paperVerdict};
-ghost use Rattle.loader.specs.Verify.{sameOf};
+ghost use Rattle.loader.specs.Verify.{equalsOf};
 use crate::state::Loader;
 use crate::verdict::Refusal;
 use crate::verdict::Verdict;
@@ -27,16 +27,16 @@ pub fn verify(loader: Loader, address: Address, turned: &[u8], flash: &[u8]) -> 
     if loader.protection.read {
         return Verdict::Refused(Refusal::Protected);
     }
-    if !same(flash, address.0 as usize, turned) {
+    if !equals(flash, address.0 as usize, turned) {
         return Verdict::Refused(Refusal::Differs);
     }
     Verdict::Accepted
 }
 
 // Every byte, turned back, equals flash from `at` on.
-fn same(flash: &[u8], at: usize, turned: &[u8]) -> bool
+fn equals(flash: &[u8], at: usize, turned: &[u8]) -> bool
     requires { ⌜ at + length (now turned) ≤ length (now flash) ⌝ }
-    ensures { λ r. ⌜ r ≡ sameOf (now (flash .entry)) at (now (turned .entry)) ⌝ }
+    ensures { λ r. ⌜ r ≡ equalsOf (now (flash .entry)) at (now (turned .entry)) ⌝ }
 {
     let mut i = 0;
     while i < turned.len() {

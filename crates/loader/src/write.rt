@@ -12,7 +12,8 @@ use crate::state::Loader;
 use crate::verdict::Acted;
 use crate::verdict::Refusal;
 use crate::verdict::Verdict;
-use basis::board::FLASH;
+use basis::board::GROUP;
+use basis::board::SIZE;
 use basis::units::Address;
 
 pub fn write(loader: Loader, address: Address, bytes: &[u8], flash: &mut [u8]) -> Acted
@@ -45,7 +46,7 @@ fn judge(loader: Loader, address: Address, size: usize) -> Verdict
     }
     let protection = loader.protection;
     let end = address.0 + size as u32;
-    if protection.any(address.group(), Address(end + 0x7FF).group()) {
+    if protection.any(address.group(), Address(end + (GROUP - 1)).group()) {
         return Verdict::Refused(Refusal::Protected);
     }
     Verdict::Accepted
@@ -55,9 +56,8 @@ fn judge(loader: Loader, address: Address, size: usize) -> Verdict
 pub fn past_end(address: Address, size: usize) -> bool
     ensures { λ r. ⌜ r ≡ ltb flashSize (address .0 + size) ⌝ }
 {
-    let room = FLASH as usize;
-    if room < size {
+    if SIZE < size {
         return true;
     }
-    room - size < address.0 as usize
+    SIZE - size < address.0 as usize
 }

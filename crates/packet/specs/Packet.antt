@@ -30,9 +30,16 @@ summed c a d = (length d + 5) ∷ c ∷ addressBytes a ++ map (carriedOf c) d
 unfoldable pub packet : ℕ → ℕ → List ℕ → List ℕ
 packet c a d = 0x07 ∷ 0x0E ∷ summed c a d ++ (checksumOf (summed c a d) ∷ [])
 
+-- W and V carry at most 250 bytes, so no packet is longer than 259
+abbrev pub dataMost : ℕ
+dataMost = 250
+
+abbrev pub packetMost : ℕ
+packetMost = 259
+
 -- building into a buffer with room for so many bytes: 20, 5, 6, else the packet
 unfoldable pub buildOf : ℕ → ℕ → ℕ → List ℕ → Answer (List ℕ)
-buildOf room c a d = first (20 when ltb room 259 ∷ table c (length d + 5) (getD d 0 0)) (given (packet c a d))
+buildOf room c a d = first (20 when ltb room packetMost ∷ table c (length d + 5) (getD d 0 0)) (given (packet c a d))
 
 -- where an input has N, the command, the byte after the address, and the address
 abbrev pub count : List ℕ → ℕ
@@ -91,5 +98,5 @@ said c a d = record { command = c; address = a; place = 8; size = length d }
 abbrev pub plain : ℕ → ℕ → ℕ
 plain c b = pick (eqb c 0x56) (restoredOf b) b
 
-abbrev pub dataOf : Parts → List ℕ → List ℕ
-dataOf p s = map (plain (p .command)) (take (p .size) (drop (p .place) s))
+abbrev pub plainData : Parts → List ℕ → List ℕ
+plainData p s = map (plain (p .command)) (take (p .size) (drop (p .place) s))

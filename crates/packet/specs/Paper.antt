@@ -37,8 +37,8 @@ abbrev pub paperRow : Row.Row → Answer ℕ
 paperRow (row.Listed c) = given (paperCommand c)
 paperRow (row.Refused x) = refused (paperRefusal x)
 
-abbrev pub paperShaped : Command → Bool → Answer ℕ
-paperShaped c fits = pick fits (given (paperCommand c)) (refused 6)
+abbrev pub shapedOf : Command → Bool → Answer ℕ
+shapedOf c fits = pick fits (given (paperCommand c)) (refused 6)
 
 -- the packet's length, or the refusal
 abbrev pub paperBuilt : Built.Built → Answer ℕ

@@ -5,20 +5,23 @@ ghost use mathlib.Core.List.{map};
 ghost use lib.ListN.{length};
 ghost use Rattle.basis.specs.Lists.{overlay};
 ghost use Rattle.basis.specs.Refusals.{counted, written};
-ghost use Rattle.packet.specs.Packet.{frontOf, carriedOf, packet, buildOf};
+ghost use Rattle.packet.specs.Packet.{frontOf, carriedOf, packet, buildOf, dataMost, packetMost};
 ghost use Rattle.packet.specs.Paper.{paperBuilt};
 use crate::table::Refusal;
 use crate::table::Row;
 use crate::table::look_up;
 use crate::turn::turned;
-use basis::buffers::first;
+use basis::buffers::first_byte;
 use basis::sums::checksum;
 use basis::units::Address;
+
+// No packet is longer: eight bytes, 250 of data, and the checksum.
+pub const PACKET: usize = 259;
 
 pub enum Built {
     // The packet's length.
     Packet(usize),
-    // The buffer is under 259 bytes.
+    // The buffer has no room for the longest packet.
     NoRoom,
     Refused(Refusal),
 }
@@ -30,10 +33,10 @@ pub fn build(buffer: &mut [u8], command: u8, address: Address, plain: &[u8]) -> 
         (paperBuilt r ≡ counted b) × (now (buffer .exit) ≡ overlay (written b) (now (buffer .entry))))
         ⌝ }
 {
-    if buffer.len() < 259 {
+    if buffer.len() < PACKET {
         return Built::NoRoom;
     }
-    match look_up(command, plain.len() + 5, first(plain)) {
+    match look_up(command, plain.len() + 5, first_byte(plain)) {
         Row::Refused(why) => Built::Refused(why),
         Row::Listed(_) => Built::Packet(write(buffer, command, address, plain)),
     }
@@ -41,7 +44,7 @@ pub fn build(buffer: &mut [u8], command: u8, address: Address, plain: &[u8]) -> 
 
 // A packet whose data fit, into a buffer that has room for any.
 fn write(buffer: &mut [u8], command: u8, address: Address, plain: &[u8]) -> usize
-    requires { ⌜ (259 ≤ length (now buffer)) × (length (now plain) ≤ 250) ⌝ }
+    requires { ⌜ (packetMost ≤ length (now buffer)) × (length (now plain) ≤ dataMost) ⌝ }
     ensures { λ r. ⌜
         (r ≡ length (now (plain .entry)) + 9)
         × (now (buffer .exit) ≡ overlay (packet command (address .0) (now (plain .entry))) (now (buffer .entry)))

@@ -1,7 +1,7 @@
 // The command table: which commands there are, and what may follow the address.
 ghost use mathlib.Core.Path.{_≡_};
 ghost use Rattle.basis.specs.Refusals.{given, first};
-ghost use Rattle.packet.specs.Paper.{paperCommand, paperRefusal, paperRow, paperShaped};
+ghost use Rattle.packet.specs.Paper.{paperCommand, paperRefusal, paperRow, shapedOf};
 ghost use Rattle.packet.specs.Table.{table, dataCount, protectType};
 
 pub enum Command {
@@ -78,7 +78,7 @@ pub fn look_up(command: u8, n: usize, kind: u8) -> Row
 }
 
 fn shaped(command: Command, fits: bool) -> Row
-    ensures { λ r. ⌜ paperRow r ≡ paperShaped command fits ⌝ }
+    ensures { λ r. ⌜ paperRow r ≡ shapedOf command fits ⌝ }
 {
     if fits {
         Row::Listed(command)

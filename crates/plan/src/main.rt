@@ -2,8 +2,8 @@
 ghost use Prim.Native.Nat.{_≤_};
 ghost use lib.ListN.{length};
 ghost use Rattle.listing.specs.Plan.{longestLine};
-use basis::board::IMAGE;
 use basis::board::MAP;
+use basis::board::SIZE;
 use libc::STDERR_FILENO;
 use libc::STDIN_FILENO;
 use libc::STDOUT_FILENO;
@@ -24,7 +24,7 @@ enum Chunk {
 
 fn main() {
     let mut line = [0u8; LINE];
-    let mut image = [0u8; IMAGE];
+    let mut image = [0u8; SIZE];
     let mut map = [0u8; MAP];
     let mut buffer = io::large_buffer();
     run(&mut buffer, &mut line, &mut image, &mut map);
@@ -113,7 +113,7 @@ fn print(image: &[u8], map: &[u8], buffer: &mut [u8]) -> bool
     }
     let mut listing = first;
     while listing.listed < listing.total {
-        let page = listing.page(image, map, buffer);
+        let page = listing.sheet(image, map, buffer);
         listing = page.listing;
         if !put(buffer, page.len) {
             return false;

@@ -8,9 +8,10 @@ use Rattle.basis.specs.Units.{startOf}
 use Rattle.runs.specs.Map.{named}
 use Rattle.runs.specs.Pages.{touched}
 use Rattle.runs.specs.Runs.{next}
+use Rattle.basis.specs.Board.{pageSize}
 
 pub page-searched : (m : List ℕ) (q s e r : ℕ) → s ≡ startOf q → e ≡ startOf (q + 1) → r ≡ next (named m) s (e - s) → ltb r e ≡ touched m q
 unfolding touched
 page-searched m q s e r x y z =
-    let w : startOf (q + 1) - startOf q ≡ 512 = omega arith in
+    let w : startOf (q + 1) - startOf q ≡ pageSize = omega arith in
     rw (z, y, x, w)

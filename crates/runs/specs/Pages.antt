@@ -6,7 +6,8 @@ use lib.Dec.{ltb}
 use Rattle.basis.specs.Units.{startOf}
 use Rattle.runs.specs.Map.{named}
 use Rattle.runs.specs.Runs.{next}
+use Rattle.basis.specs.Board.{pageSize}
 
 -- the lowest named address from the page's start on lies in the page
 unfoldable pub touched : List ℕ → ℕ → Bool
-touched m q = ltb (next (named m) (startOf q) 512) (startOf (q + 1))
+touched m q = ltb (next (named m) (startOf q) pageSize) (startOf (q + 1))

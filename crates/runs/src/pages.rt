@@ -34,7 +34,7 @@ pub fn next_touched(map: &[u8], from: Page, limit: Page) -> Page
 }
 
 // How many touched pages stand in a row from `from` on, at most `cap`.
-pub fn page_run_len(map: &[u8], from: Page, cap: u32) -> u32
+pub fn page_row_len(map: &[u8], from: Page, cap: u32) -> u32
     requires { ⌜ (from .0 + cap < 2 ^ 23) × (length (now map) % 64 ≡ 0) ⌝ }
     ensures { λ r. ⌜ r ≡ len (touched (now (map .entry))) (from .0) cap ⌝ }
 {

@@ -27,7 +27,7 @@ pub fn next_named(map: &[u8], from: Address, limit: Address) -> Address
 }
 
 // How many named bytes stand in a row from `from` on, at most `cap`.
-pub fn run_len(map: &[u8], from: Address, cap: u32) -> u32
+pub fn row_len(map: &[u8], from: Address, cap: u32) -> u32
     requires { ⌜ from .0 + cap < 2 ^ 32 ⌝ }
     ensures { λ r. ⌜ r ≡ len (named (now (map .entry))) (from .0) cap ⌝ }
 {

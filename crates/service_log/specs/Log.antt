@@ -65,8 +65,8 @@ abbrev pub pairAt : List ℕ → ℕ → ℕ
 pairAt s i = getD s i 0 * 256 + getD s (i + 1) 0
 
 -- what an input says
-abbrev pub recordIn : List ℕ → Record
-recordIn s = record { version = getD s 2 0; outcome = getD s 3 0; acknowledged = pairAt s 4; total = pairAt s 6; bytes = pairAt s 8 }
+abbrev pub recordAt : List ℕ → Record
+recordAt s = record { version = getD s 2 0; outcome = getD s 3 0; acknowledged = pairAt s 4; total = pairAt s 6; bytes = pairAt s 8 }
 
 -- reading: 50 under 10 bytes, 51 length field other than 8 or input longer than 10 bytes, 52 version, 53 a false record
 unfoldable pub readOf : List ℕ → Answer Record
@@ -77,4 +77,4 @@ readOf s =
     ∷ 51 when ltb 10 (length s)
     ∷ 52 when not (eqb (getD s 2 0) 1)
     ∷ 53 when isFalseOf (getD s 3 0) (pairAt s 4) (pairAt s 6) (pairAt s 8) ∷ [])
-    (given (recordIn s))
+    (given (recordAt s))

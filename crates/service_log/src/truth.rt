@@ -1,7 +1,7 @@
 // What no record may say: the writer refuses it of a session, the reader of its input.
 ghost use mathlib.Core.Path.{_≡_};
 ghost use Rattle.service_log.specs.Log.{known, isFalseOf};
-use basis::board::FLASH;
+use basis::board::END;
 
 pub fn is_false(outcome: u8, acknowledged: u32, total: u32, bytes: u32) -> bool
     ensures { λ r. ⌜ r ≡ isFalseOf outcome acknowledged total bytes ⌝ }
@@ -15,7 +15,7 @@ pub fn is_false(outcome: u8, acknowledged: u32, total: u32, bytes: u32) -> bool
     if bytes == 0 {
         return true;
     }
-    if FLASH < bytes {
+    if END < bytes {
         return true;
     }
     if total < acknowledged {

@@ -8,8 +8,6 @@ ghost use Rattle.service_log.specs.Paper.{paperWritten};
 use crate::truth::is_false;
 use basis::buffers::write as put;
 use session::phase::Phase;
-use session::phase::ended;
-use session::phase::number;
 use session::session::Session;
 
 pub enum Written {
@@ -27,7 +25,7 @@ pub fn write(session: Session, buffer: &mut [u8]) -> Written
         ⌝ }
 {
     let phase = session.phase;
-    if !ended(phase) {
+    if !phase.ended() {
         return Written::Unfit;
     }
     let outcome = outcome_in(phase);
@@ -69,7 +67,7 @@ fn outcome_in(phase: Phase) -> u8
         Phase::Write(_) => 0,
         Phase::Verify(_) => 0,
         Phase::Run => 0,
-        Phase::Ended(outcome) => number(outcome),
+        Phase::Ended(outcome) => outcome.number(),
     }
 }
 

@@ -19,7 +19,7 @@ use Rattle.runs.specs.Pages.{touched}
 use Rattle.runs.specs.Pieces.{pieceMost, namedCount}
 use Rattle.runs.specs.Survey.{surveyOf}
 use Rattle.runs.specs.declared.survey.Surveyed.{Surveyed}
-use Rattle.session.specs.Phases.{placeOf, standsOf}
+use Rattle.session.specs.Phases.{placeOf, standsIn}
 use Rattle.session.specs.Plan.{total}
 use Rattle.session.specs.Session.{fitsOf}
 use Rattle.session.specs.declared.phase.Phase.{Phase}
@@ -28,8 +28,8 @@ use Rattle.session.proofs.Surveys.{Told, told}
 
 -- a cursor past the board stands nowhere
 module _ (m : List ℕ) (long : length m ≡ mapSize) where
-  past-stands : (ph : Phase) (k : ℕ) → flashSize ≤ placeOf ph → standsOf m ph k ≡ false
-  unfolding placeOf standsOf
+  past-stands : (ph : Phase) (k : ℕ) → flashSize ≤ placeOf ph → standsIn m ph k ≡ false
+  unfolding placeOf standsIn
   past-stands Phase.Greeting k l = absurd (omega arith)
   past-stands (Phase.Erase p) k l =
       decide (leb pages (p .0))
@@ -61,8 +61,8 @@ standsBy f (Phase.Ended o) k = false
 
 module _ (m : List ℕ) {f : Surveyed} (k : ℕ) where
   -- is what the file says of it
-  told-stands : (ph : Phase) → f ≡ surveyOf m (placeOf ph) → placeOf ph < flashSize → standsBy f ph k ≡ standsOf m ph k
-  unfolding placeOf standsOf
+  told-stands : (ph : Phase) → f ≡ surveyOf m (placeOf ph) → placeOf ph < flashSize → standsBy f ph k ≡ standsIn m ph k
+  unfolding placeOf standsIn
   told-stands Phase.Greeting e l = refl
   told-stands (Phase.Erase p) e l =
       decide (leb pages (p .0))

@@ -9,7 +9,7 @@ use Rattle.basis.specs.Refusals.{Answer, refused, given}
 use Rattle.runs.specs.Survey.{surveyOf}
 use Rattle.runs.specs.declared.survey.Surveyed.{Surveyed}
 use Rattle.session.specs.Plan.{total}
-use Rattle.session.specs.Session.{Sent, measured, sentBytes, waiting}
+use Rattle.session.specs.Session.{Sent, measured, sentBytes, atGreeting}
 use Rattle.session.specs.declared.phase.Phase.{Phase}
 use Rattle.session.specs.declared.phase.RunKind.{RunKind}
 use Rattle.session.specs.declared.session.Next.{Next}
@@ -24,7 +24,7 @@ handed r old after e p q g = rw e (ap given (λ i. record { session = p i; len =
 
 -- what a start makes of a survey is the session that waits
 pub opened : (m : List ℕ) (kind : RunKind) {f : Surveyed} {n : ℕ} → f ≡ surveyOf m 0 → n ≡ f .all .runs + 2 * f .all .pieces + 1
-    → record { kind = kind; phase = Phase.Greeting; acknowledged = 0; total = n; named = f .all .named } ≡ waiting m kind
+    → record { kind = kind; phase = Phase.Greeting; acknowledged = 0; total = n; named = f .all .named } ≡ atGreeting m kind
 opened m kind {f} {n} e g =
     let t = told m 0 e in
     let p : n ≡ total m = omega (arith, t .runs, t .pieces) in

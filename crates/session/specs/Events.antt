@@ -4,7 +4,7 @@ use mathlib.Core.Bool.{Bool, true, false}
 use mathlib.Core.List.{List, [], _∷_}
 use lib.Dec.{eqb}
 use lib.ListN.{length, take, drop}
-use Rattle.basis.specs.Board.{greeting}
+use Rattle.basis.specs.Board.{greeting, answerMost}
 use Rattle.basis.specs.Choice.{pick, both}
 use Rattle.session.specs.declared.event.Event.{Event}
 
@@ -18,7 +18,7 @@ sameOf (x ∷ s) (y ∷ t) = both (eqb x y) (sameOf s t)
 -- 24 bytes: bytes 0 to 14 and the last two exact, the rest free
 unfoldable pub greetsOf : List ℕ → Bool
 greetsOf b =
-    both (eqb (length b) 24)
+    both (eqb (length b) answerMost)
     (both (sameOf (take 15 b) (take 15 greeting)) (sameOf (drop 22 b) (drop 22 greeting)))
 
 -- silence is the event exactly when no answer arrives; else the greeting, the single byte 06, the single byte 07, or other bytes or none

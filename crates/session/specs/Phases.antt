@@ -33,21 +33,21 @@ packetOut image m kind Phase.Run = runPacket kind
 packetOut image m kind (Phase.Ended o) = []
 
 -- the phases at a page and at an address
-abbrev pub erasing : ℕ → Phase
-erasing q = Phase.Erase (record { 0 = q })
+abbrev pub eraseAt : ℕ → Phase
+eraseAt q = Phase.Erase (record { 0 = q })
 
-abbrev pub writing : ℕ → Phase
-writing a = Phase.Write (record { 0 = a })
+abbrev pub writeAt : ℕ → Phase
+writeAt a = Phase.Write (record { 0 = a })
 
-abbrev pub verifying : ℕ → Phase
-verifying a = Phase.Verify (record { 0 = a })
+abbrev pub verifyAt : ℕ → Phase
+verifyAt a = Phase.Verify (record { 0 = a })
 
 -- the phase after k acknowledgements: its packet is the k-th of the plan, counted from 0
 unfoldable pub phaseAt : List ℕ → ℕ → Phase
 phaseAt m k =
-    pick (ltb k (runCount m)) (erasing (select (runStarts m) k pages))
-    (pick (ltb k (runCount m + pieceCount m)) (writing (select (pieceStarts m) (k - runCount m) flashSize))
-    (pick (ltb k (runCount m + 2 * pieceCount m)) (verifying (select (pieceStarts m) (k - (runCount m + pieceCount m)) flashSize))
+    pick (ltb k (runCount m)) (eraseAt (select (runStarts m) k pages))
+    (pick (ltb k (runCount m + pieceCount m)) (writeAt (select (pieceStarts m) (k - runCount m) flashSize))
+    (pick (ltb k (runCount m + 2 * pieceCount m)) (verifyAt (select (pieceStarts m) (k - (runCount m + pieceCount m)) flashSize))
     Phase.Run))
 
 -- the first touched page and the first named byte
@@ -66,10 +66,10 @@ nextPiece m a = follow (named m) pieceMost flashSize a
 
 -- the phase that follows when the answer is the right one
 unfoldable pub afterOf : List ℕ → Phase → Phase
-afterOf m Phase.Greeting = erasing (lowestRun m)
-afterOf m (Phase.Erase p) = pick (ltb (nextRun m (p .0)) pages) (erasing (nextRun m (p .0))) (writing (lowestPiece m))
-afterOf m (Phase.Write a) = pick (ltb (nextPiece m (a .0)) flashSize) (writing (nextPiece m (a .0))) (verifying (lowestPiece m))
-afterOf m (Phase.Verify a) = pick (ltb (nextPiece m (a .0)) flashSize) (verifying (nextPiece m (a .0))) Phase.Run
+afterOf m Phase.Greeting = eraseAt (lowestRun m)
+afterOf m (Phase.Erase p) = pick (ltb (nextRun m (p .0)) pages) (eraseAt (nextRun m (p .0))) (writeAt (lowestPiece m))
+afterOf m (Phase.Write a) = pick (ltb (nextPiece m (a .0)) flashSize) (writeAt (nextPiece m (a .0))) (verifyAt (lowestPiece m))
+afterOf m (Phase.Verify a) = pick (ltb (nextPiece m (a .0)) flashSize) (verifyAt (nextPiece m (a .0))) Phase.Run
 afterOf m Phase.Run = Phase.Ended Outcome.Valid
 afterOf m (Phase.Ended o) = Phase.Ended o
 
@@ -87,13 +87,13 @@ abbrev pub ranked : (ℕ → Bool) → ℕ → ℕ → ℕ → Bool
 ranked starts base a k = both (starts a) (eqb (base + count starts a) k)
 
 -- the phase has the k-th packet of the file out, or waits for the greeting with none acknowledged
-unfoldable pub standsOf : List ℕ → Phase → ℕ → Bool
-standsOf m Phase.Greeting k = eqb k 0
-standsOf m (Phase.Erase p) k = ranked (runStarts m) 0 (p .0) k
-standsOf m (Phase.Write a) k = ranked (pieceStarts m) (runCount m) (a .0) k
-standsOf m (Phase.Verify a) k = ranked (pieceStarts m) (runCount m + pieceCount m) (a .0) k
-standsOf m Phase.Run k = eqb (runCount m + 2 * pieceCount m) k
-standsOf m (Phase.Ended o) k = false
+unfoldable pub standsIn : List ℕ → Phase → ℕ → Bool
+standsIn m Phase.Greeting k = eqb k 0
+standsIn m (Phase.Erase p) k = ranked (runStarts m) 0 (p .0) k
+standsIn m (Phase.Write a) k = ranked (pieceStarts m) (runCount m) (a .0) k
+standsIn m (Phase.Verify a) k = ranked (pieceStarts m) (runCount m + pieceCount m) (a .0) k
+standsIn m Phase.Run k = eqb (runCount m + 2 * pieceCount m) k
+standsIn m (Phase.Ended o) k = false
 
 -- the address that a phase's cursor names, or the board's end where it names none
 unfoldable pub placeOf : Phase → ℕ

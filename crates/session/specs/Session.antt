@@ -10,7 +10,7 @@ use Rattle.basis.specs.Refusals.{Answer, refused, given, _when_, first}
 use Rattle.runs.specs.Map.{named}
 use Rattle.runs.specs.Pieces.{pieceStarts, runCount, pieceCount, namedCount}
 use Rattle.runs.specs.Runs.{count}
-use Rattle.session.specs.Phases.{ended, packetOut, phaseAt, afterOf, standsOf}
+use Rattle.session.specs.Phases.{ended, packetOut, phaseAt, afterOf, standsIn}
 use Rattle.session.specs.Plan.{total}
 use Rattle.session.specs.declared.event.Event.{Event}
 use Rattle.session.specs.declared.phase.Outcome.{Outcome}
@@ -18,15 +18,16 @@ use Rattle.session.specs.declared.phase.Phase.{Phase}
 use Rattle.session.specs.declared.phase.RunKind.{RunKind}
 use Rattle.session.specs.declared.session.Next.{Next}
 use Rattle.session.specs.declared.session.Session.{Session}
-use Rattle.session.specs.declared.session.Verdict.{Verdict}
+use Rattle.session.specs.declared.session.Meaning.{Meaning}
+use Rattle.packet.specs.Packet.{packetMost}
 
 -- a session over a file, in a phase and with so many packets acknowledged
 abbrev pub sessionIn : List ℕ → RunKind → Phase → ℕ → Session
 sessionIn m kind phase k = record { kind = kind; phase = phase; acknowledged = k; total = total m; named = namedCount m }
 
 -- it waits for the greeting; or k packets are acknowledged; or all are
-abbrev pub waiting : List ℕ → RunKind → Session
-waiting m kind = sessionIn m kind Phase.Greeting 0
+abbrev pub atGreeting : List ℕ → RunKind → Session
+atGreeting m kind = sessionIn m kind Phase.Greeting 0
 
 abbrev pub stateAt : List ℕ → RunKind → ℕ → Session
 stateAt m kind k = sessionIn m kind (phaseAt m k) k
@@ -50,7 +51,7 @@ sentBytes (given x) = x .packet
 
 -- an image of 63,488 bytes, a map of 7,936, a packet buffer of at least 259
 abbrev pub rightSizes : ℕ → ℕ → ℕ → Bool
-rightSizes image m packet = both (eqb image flashSize) (both (eqb m mapSize) (leb 259 packet))
+rightSizes image m packet = both (eqb image flashSize) (both (eqb m mapSize) (leb packetMost packet))
 
 -- start: 20, 32 for an empty map, else the single byte 08 and the session that waits for the greeting
 unfoldable pub started : List ℕ → List ℕ → ℕ → RunKind → Answer Sent
@@ -58,41 +59,41 @@ started image m room kind =
     first
     (20 when not (rightSizes (length image) (length m) room)
     ∷ 32 when eqb (namedCount m) 0 ∷ [])
-    (given (record { session = waiting m kind; packet = 0x08 ∷ [] }))
+    (given (record { session = atGreeting m kind; packet = 0x08 ∷ [] }))
 
 -- first the greeting, else 42; silence is 40 everywhere
-abbrev pub judgedFirst : Event → Verdict
-judgedFirst Event.Greeting = Verdict.Greeted
-judgedFirst Event.Ack = Verdict.Over Outcome.NoGreeting
-judgedFirst Event.Bel = Verdict.Over Outcome.NoGreeting
-judgedFirst Event.Other = Verdict.Over Outcome.NoGreeting
-judgedFirst Event.Silence = Verdict.Over Outcome.Silence
+abbrev pub judgeFirstOf : Event → Meaning
+judgeFirstOf Event.Greeting = Meaning.Greeted
+judgeFirstOf Event.Ack = Meaning.Over Outcome.NoGreeting
+judgeFirstOf Event.Bel = Meaning.Over Outcome.NoGreeting
+judgeFirstOf Event.Other = Meaning.Over Outcome.NoGreeting
+judgeFirstOf Event.Silence = Meaning.Over Outcome.Silence
 
 -- later the single byte 06 goes on, the single byte 07 ends with 41, other bytes or none with 43
-abbrev pub judgedLater : Event → Verdict
-judgedLater Event.Greeting = Verdict.Over Outcome.Other
-judgedLater Event.Ack = Verdict.Acknowledged
-judgedLater Event.Bel = Verdict.Over Outcome.Bel
-judgedLater Event.Other = Verdict.Over Outcome.Other
-judgedLater Event.Silence = Verdict.Over Outcome.Silence
+abbrev pub judgeLaterOf : Event → Meaning
+judgeLaterOf Event.Greeting = Meaning.Over Outcome.Other
+judgeLaterOf Event.Ack = Meaning.Acknowledged
+judgeLaterOf Event.Bel = Meaning.Over Outcome.Bel
+judgeLaterOf Event.Other = Meaning.Over Outcome.Other
+judgeLaterOf Event.Silence = Meaning.Over Outcome.Silence
 
-abbrev pub judgeOf : Phase → Event → Verdict
-judgeOf Phase.Greeting e = judgedFirst e
-judgeOf (Phase.Erase p) e = judgedLater e
-judgeOf (Phase.Write a) e = judgedLater e
-judgeOf (Phase.Verify a) e = judgedLater e
-judgeOf Phase.Run e = judgedLater e
-judgeOf (Phase.Ended o) e = judgedLater e
+abbrev pub judgeOf : Phase → Event → Meaning
+judgeOf Phase.Greeting e = judgeFirstOf e
+judgeOf (Phase.Erase p) e = judgeLaterOf e
+judgeOf (Phase.Write a) e = judgeLaterOf e
+judgeOf (Phase.Verify a) e = judgeLaterOf e
+judgeOf Phase.Run e = judgeLaterOf e
+judgeOf (Phase.Ended o) e = judgeLaterOf e
 
 -- the session in another phase, with so many more acknowledged
 abbrev pub movedOf : Session → Phase → ℕ → Session
 movedOf s phase n = record { kind = s .kind; phase = phase; acknowledged = s .acknowledged + n; total = s .total; named = s .named }
 
 -- a greeting and an acknowledgement go on along the file, all else ends the session; the greeting acknowledges no packet
-abbrev pub heardOf : List ℕ → Session → Verdict → Session
-heardOf m s Verdict.Greeted = movedOf s (afterOf m (s .phase)) 0
-heardOf m s Verdict.Acknowledged = movedOf s (afterOf m (s .phase)) 1
-heardOf m s (Verdict.Over o) = movedOf s (Phase.Ended o) 0
+abbrev pub heardOf : List ℕ → Session → Meaning → Session
+heardOf m s Meaning.Greeted = movedOf s (afterOf m (s .phase)) 0
+heardOf m s Meaning.Acknowledged = movedOf s (afterOf m (s .phase)) 1
+heardOf m s (Meaning.Over o) = movedOf s (Phase.Ended o) 0
 
 -- the session after an event, and with the packet that it sends
 unfoldable pub tookOf : List ℕ → Session → Event → Session
@@ -107,7 +108,7 @@ fitsOf m s =
     both (ltb 0 (namedCount m))
     (both (eqb (s .named) (namedCount m))
     (both (eqb (s .total) (total m))
-    (standsOf m (s .phase) (s .acknowledged))))
+    (standsIn m (s .phase) (s .acknowledged))))
 
 -- a step: 20, 44 after the end, 46 for a file that is not the session's, else the event is taken
 unfoldable pub stepOf : List ℕ → List ℕ → ℕ → Session → Event → Answer Sent

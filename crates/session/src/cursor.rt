@@ -8,15 +8,15 @@ ghost use Rattle.session.specs.Phases.{atStart, lowestRun, lowestPiece, 
 ghost use Rattle.session.specs.declared.phase.Phase.{Phase};
 use crate::phase::Outcome;
 use crate::phase::Phase;
-use basis::board::FLASH;
+use basis::board::END;
 use basis::board::PAGES;
 use basis::units::Address;
 use basis::units::Page;
 use runs::pages::next_touched;
-use runs::pages::page_run_len;
+use runs::pages::page_row_len;
 use runs::places::PIECE;
 use runs::places::next_named;
-use runs::places::run_len;
+use runs::places::row_len;
 
 // The address that the cursor names, or the board's end where it names none.
 pub fn place(phase: Phase) -> Address
@@ -36,7 +36,7 @@ fn page_place(page: Page) -> Address
     ensures { λ r. ⌜ r .0 ≡ placeOf (Phase.Erase page) ⌝ }
 {
     if PAGES <= page.0 {
-        return Address(FLASH);
+        return Address(END);
     }
     page.start()
 }
@@ -72,7 +72,7 @@ fn after_write(map: &[u8], address: Address) -> Phase
     ensures { λ r. ⌜ r ≡ afterOf (now (map .entry)) (Phase.Write address) ⌝ }
 {
     let next = next_piece(map, address);
-    if next.0 < FLASH {
+    if next.0 < END {
         return Phase::Write(next);
     }
     Phase::Verify(first_piece(map))
@@ -83,7 +83,7 @@ fn after_verify(map: &[u8], address: Address) -> Phase
     ensures { λ r. ⌜ r ≡ afterOf (now (map .entry)) (Phase.Verify address) ⌝ }
 {
     let next = next_piece(map, address);
-    if next.0 < FLASH {
+    if next.0 < END {
         return Phase::Verify(next);
     }
     Phase::Run
@@ -100,7 +100,7 @@ fn first_piece(map: &[u8]) -> Address
     requires { ⌜ length (now map) ≡ mapSize ⌝ }
     ensures { λ r. ⌜ r .0 ≡ lowestPiece (now (map .entry)) ⌝ }
 {
-    next_named(map, Address(0), Address(FLASH))
+    next_named(map, Address(0), Address(END))
 }
 
 // The run after the one at `page`, or the board's end.
@@ -108,7 +108,7 @@ fn next_run(map: &[u8], page: Page) -> Page
     requires { ⌜ (length (now map) ≡ mapSize) × (page .0 < pages) ⌝ }
     ensures { λ r. ⌜ r .0 ≡ nextRun (now (map .entry)) (page .0) ⌝ }
 {
-    let end = page.0 + page_run_len(map, page, PAGES);
+    let end = page.0 + page_row_len(map, page, PAGES);
     next_touched(map, Page(end), Page(PAGES))
 }
 
@@ -117,6 +117,6 @@ fn next_piece(map: &[u8], address: Address) -> Address
     requires { ⌜ (length (now map) ≡ mapSize) × (address .0 < flashSize) ⌝ }
     ensures { λ r. ⌜ r .0 ≡ nextPiece (now (map .entry)) (address .0) ⌝ }
 {
-    let end = address.0 + run_len(map, address, PIECE);
-    next_named(map, Address(end), Address(FLASH))
+    let end = address.0 + row_len(map, address, PIECE);
+    next_named(map, Address(end), Address(END))
 }

@@ -1,6 +1,7 @@
 // What comes back from the board, as an event: an answer's bytes, or silence.
 ghost use mathlib.Core.Path.{_≡_};
 ghost use Rattle.session.specs.Events.{sameOf, greetsOf, classifyOf};
+use basis::board::ANSWER;
 
 pub enum Event {
     Greeting,
@@ -34,7 +35,7 @@ pub fn classify(silent: bool, answer: &[u8]) -> Event
 pub fn greets(answer: &[u8]) -> bool
     ensures { λ r. ⌜ r ≡ greetsOf (now (answer .entry)) ⌝ }
 {
-    if answer.len() != 24 {
+    if answer.len() != ANSWER {
         return false;
     }
     if !same(&answer[..15], b"ADuC702x   -62 ") {

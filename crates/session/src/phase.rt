@@ -29,28 +29,32 @@ pub enum Phase {
     Ended(Outcome),
 }
 
-// The outcome as the service log says it.
-pub fn number(outcome: Outcome) -> u8
-    ensures { λ r. ⌜ r ≡ paperOutcome outcome ⌝ }
-{
-    match outcome {
-        Outcome::Valid => 0,
-        Outcome::Silence => 40,
-        Outcome::Bel => 41,
-        Outcome::NoGreeting => 42,
-        Outcome::Other => 43,
+impl Outcome {
+    // As the service log says it.
+    pub fn number(self) -> u8
+        ensures { λ r. ⌜ r ≡ paperOutcome self ⌝ }
+    {
+        match self {
+            Outcome::Valid => 0,
+            Outcome::Silence => 40,
+            Outcome::Bel => 41,
+            Outcome::NoGreeting => 42,
+            Outcome::Other => 43,
+        }
     }
 }
 
-pub fn ended(phase: Phase) -> bool
-    ensures { λ r. ⌜ r ≡ ended phase ⌝ }
-{
-    match phase {
-        Phase::Greeting => false,
-        Phase::Erase(_) => false,
-        Phase::Write(_) => false,
-        Phase::Verify(_) => false,
-        Phase::Run => false,
-        Phase::Ended(_) => true,
+impl Phase {
+    pub fn ended(self) -> bool
+        ensures { λ r. ⌜ r ≡ ended self ⌝ }
+    {
+        match self {
+            Phase::Greeting => false,
+            Phase::Erase(_) => false,
+            Phase::Write(_) => false,
+            Phase::Verify(_) => false,
+            Phase::Run => false,
+            Phase::Ended(_) => true,
+        }
     }
 }

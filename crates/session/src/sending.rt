@@ -5,7 +5,7 @@ ghost use Prim.Native.Nat.{_+_, _<_, _≤_};
 ghost use lib.ListN.{length, getD};
 ghost use Rattle.basis.specs.Board.{flashSize, mapSize};
 ghost use Rattle.basis.specs.Lists.{overlay};
-ghost use Rattle.packet.specs.Packet.{packet};
+ghost use Rattle.packet.specs.Packet.{packet, packetMost};
 ghost use Rattle.packet.specs.Table.{listed, inShape};
 ghost use Rattle.runs.specs.Pieces.{pieceStarts, runStarts};
 ghost use Rattle.session.specs.Phases.{atStart, packetOut};
@@ -17,13 +17,13 @@ use basis::units::Address;
 use basis::units::Page;
 use packet::build::Built;
 use packet::build::build;
-use runs::pages::page_run_len;
+use runs::pages::page_row_len;
 use runs::places::PIECE;
-use runs::places::run_len;
+use runs::places::row_len;
 
 // Gives the packet's length; the greeting is not answered by one, and an ending sends none.
 pub fn send(image: &[u8], map: &[u8], kind: RunKind, phase: Phase, buffer: &mut [u8]) -> usize
-    requires { ⌜ (length (now image) ≡ flashSize) × (length (now map) ≡ mapSize) × (259 ≤ length (now buffer)) × (atStart (now map) phase ≡ true) ⌝ }
+    requires { ⌜ (length (now image) ≡ flashSize) × (length (now map) ≡ mapSize) × (packetMost ≤ length (now buffer)) × (atStart (now map) phase ≡ true) ⌝ }
     ensures { λ r. ⌜
         (let p = packetOut (now (image .entry)) (now (map .entry)) kind phase in
         (r ≡ length p) × (now (buffer .exit) ≡ overlay p (now (buffer .entry))))
@@ -40,20 +40,20 @@ pub fn send(image: &[u8], map: &[u8], kind: RunKind, phase: Phase, buffer: &mut 
 }
 
 fn send_erase(map: &[u8], page: Page, buffer: &mut [u8]) -> usize
-    requires { ⌜ (length (now map) ≡ mapSize) × (259 ≤ length (now buffer)) × (runStarts (now map) (page .0) ≡ true) ⌝ }
+    requires { ⌜ (length (now map) ≡ mapSize) × (packetMost ≤ length (now buffer)) × (runStarts (now map) (page .0) ≡ true) ⌝ }
     ensures { λ r. ⌜
         (let p = erasePacket (now (map .entry)) (page .0) in
         (r ≡ length p) × (now (buffer .exit) ≡ overlay p (now (buffer .entry))))
         ⌝ }
 {
-    let count = [page_run_len(map, page, PAGES) as u8];
+    let count = [page_row_len(map, page, PAGES) as u8];
     put(buffer, 0x45, page.start(), &count)
 }
 
 // W or V.
 fn send_piece(image: &[u8], map: &[u8], command: u8, address: Address, buffer: &mut [u8]) -> usize
     requires { ⌜
-        (length (now image) ≡ flashSize) × (length (now map) ≡ mapSize) × (259 ≤ length (now buffer))
+        (length (now image) ≡ flashSize) × (length (now map) ≡ mapSize) × (packetMost ≤ length (now buffer))
         × (carriesPiece command ≡ true) × (pieceStarts (now map) (address .0) ≡ true)
         ⌝ }
     ensures { λ r. ⌜
@@ -62,12 +62,12 @@ fn send_piece(image: &[u8], map: &[u8], command: u8, address: Address, buffer: &
         ⌝ }
 {
     let from = address.0 as usize;
-    let end = from + run_len(map, address, PIECE) as usize;
+    let end = from + row_len(map, address, PIECE) as usize;
     put(buffer, command, address, &image[from..end])
 }
 
 fn send_run(kind: RunKind, buffer: &mut [u8]) -> usize
-    requires { ⌜ 259 ≤ length (now buffer) ⌝ }
+    requires { ⌜ packetMost ≤ length (now buffer) ⌝ }
     ensures { λ r. ⌜ (r ≡ length (runPacket kind)) × (now (buffer .exit) ≡ overlay (runPacket kind) (now (buffer .entry))) ⌝ }
 {
     put(buffer, 0x52, run_address(kind), b"")
@@ -85,7 +85,7 @@ fn run_address(kind: RunKind) -> Address
 // A packet that stands in the table, into a buffer that has room for any.
 fn put(buffer: &mut [u8], command: u8, address: Address, plain: &[u8]) -> usize
     requires { ⌜
-        (259 ≤ length (now buffer)) × (listed command ≡ true)
+        (packetMost ≤ length (now buffer)) × (listed command ≡ true)
         × (inShape command (length (now plain) + 5) (getD (now plain) 0 0) ≡ true)
         ⌝ }
     ensures { λ r. ⌜

@@ -7,10 +7,11 @@ ghost use lib.ListN.{length};
 ghost use Rattle.basis.specs.Board.{flashSize, mapSize};
 ghost use Rattle.basis.specs.Choice.{pick, both};
 ghost use Rattle.basis.specs.Lists.{overlay};
+ghost use Rattle.packet.specs.Packet.{packetMost};
 ghost use Rattle.session.specs.Events.{classifyOf};
 ghost use Rattle.session.specs.Paper.{paperRefusal, paperStepped, paperMark};
 ghost use Rattle.session.specs.Phases.{atStart};
-ghost use Rattle.session.specs.Session.{measured, sentBytes, rightSizes, started, judgedFirst, judgedLater, judgeOf, movedOf, heardOf, tookOf, sent, fitsOf, stepOf, provedOf};
+ghost use Rattle.session.specs.Session.{measured, sentBytes, rightSizes, started, judgeFirstOf, judgeLaterOf, judgeOf, movedOf, heardOf, tookOf, sent, fitsOf, stepOf, provedOf};
 use crate::cursor::after;
 use crate::cursor::place;
 use crate::event::Event;
@@ -18,11 +19,12 @@ use crate::event::classify;
 use crate::phase::Outcome;
 use crate::phase::Phase;
 use crate::phase::RunKind;
-use crate::phase::ended;
 use crate::sending::send;
-use basis::board::FLASH;
+use basis::board::END;
 use basis::board::MAP;
+use basis::board::SIZE;
 use basis::units::Address;
+use packet::build::PACKET;
 use runs::map::named;
 use runs::survey::Counts;
 use runs::survey::survey;
@@ -78,7 +80,7 @@ pub enum Mark {
 }
 
 // What an event means to a session.
-enum Verdict {
+enum Meaning {
     Greeted,
     Acknowledged,
     Over(Outcome),
@@ -129,7 +131,7 @@ impl Session {
             return Stepped::Refused(Refusal::Size);
         }
         let phase = self.phase;
-        if ended(phase) {
+        if phase.ended() {
             return Stepped::Refused(Refusal::Ended);
         }
         if !self.fits(map) {
@@ -146,7 +148,7 @@ impl Session {
         if map.len() != MAP {
             return Mark::Size;
         }
-        if FLASH <= address.0 {
+        if END <= address.0 {
             return Mark::Open;
         }
         if !named(map, address) {
@@ -169,7 +171,7 @@ impl Session {
     {
         let phase = self.phase;
         let at = place(phase);
-        if FLASH <= at.0 {
+        if END <= at.0 {
             return false;
         }
         let found = survey(map, at);
@@ -197,7 +199,7 @@ impl Session {
 
     // An event that is not refused.
     fn take(self, event: Event, image: &[u8], map: &[u8], buffer: &mut [u8]) -> Next
-        requires { ⌜ (length (now image) ≡ flashSize) × (length (now map) ≡ mapSize) × (259 ≤ length (now buffer)) × (fitsOf (now map) self ≡ true) ⌝ }
+        requires { ⌜ (length (now image) ≡ flashSize) × (length (now map) ≡ mapSize) × (packetMost ≤ length (now buffer)) × (fitsOf (now map) self ≡ true) ⌝ }
         ensures { λ r. ⌜
             (let a = sent (now (image .entry)) (now (map .entry)) self event in
             (r .session ≡ a .session) × (r .len ≡ length (a .packet)) × (now (buffer .exit) ≡ overlay (a .packet) (now (buffer .entry))))
@@ -215,20 +217,20 @@ impl Session {
         ensures { λ r. ⌜ r ≡ tookOf (now (map .entry)) self event ⌝ }
     {
         let phase = self.phase;
-        let verdict = judge(phase, event);
-        self.heard(verdict, map)
+        let meaning = judge(phase, event);
+        self.heard(meaning, map)
     }
 
     // On along the file, or over.
-    fn heard(self, verdict: Verdict, map: &[u8]) -> Session
+    fn heard(self, meaning: Meaning, map: &[u8]) -> Session
         requires { ⌜ (length (now map) ≡ mapSize) × (atStart (now map) (self .phase) ≡ true) × (self .acknowledged < 2 ^ 31) ⌝ }
-        ensures { λ r. ⌜ r ≡ heardOf (now (map .entry)) self verdict ⌝ }
+        ensures { λ r. ⌜ r ≡ heardOf (now (map .entry)) self meaning ⌝ }
     {
         let phase = self.phase;
-        match verdict {
-            Verdict::Greeted => self.moved(after(map, phase), 0),
-            Verdict::Acknowledged => self.moved(after(map, phase), 1),
-            Verdict::Over(outcome) => self.moved(Phase::Ended(outcome), 0),
+        match meaning {
+            Meaning::Greeted => self.moved(after(map, phase), 0),
+            Meaning::Acknowledged => self.moved(after(map, phase), 1),
+            Meaning::Over(outcome) => self.moved(Phase::Ended(outcome), 0),
         }
     }
 
@@ -247,7 +249,7 @@ impl Session {
     }
 }
 
-fn judge(phase: Phase, event: Event) -> Verdict
+fn judge(phase: Phase, event: Event) -> Meaning
     ensures { λ r. ⌜ r ≡ judgeOf phase event ⌝ }
 {
     match phase {
@@ -261,41 +263,41 @@ fn judge(phase: Phase, event: Event) -> Verdict
 }
 
 // The greeting is awaited; all else ends the session.
-fn judge_first(event: Event) -> Verdict
-    ensures { λ r. ⌜ r ≡ judgedFirst event ⌝ }
+fn judge_first(event: Event) -> Meaning
+    ensures { λ r. ⌜ r ≡ judgeFirstOf event ⌝ }
 {
     match event {
-        Event::Greeting => Verdict::Greeted,
-        Event::Ack => Verdict::Over(Outcome::NoGreeting),
-        Event::Bel => Verdict::Over(Outcome::NoGreeting),
-        Event::Other => Verdict::Over(Outcome::NoGreeting),
-        Event::Silence => Verdict::Over(Outcome::Silence),
+        Event::Greeting => Meaning::Greeted,
+        Event::Ack => Meaning::Over(Outcome::NoGreeting),
+        Event::Bel => Meaning::Over(Outcome::NoGreeting),
+        Event::Other => Meaning::Over(Outcome::NoGreeting),
+        Event::Silence => Meaning::Over(Outcome::Silence),
     }
 }
 
 // An acknowledgement is awaited; all else ends the session.
-fn judge_later(event: Event) -> Verdict
-    ensures { λ r. ⌜ r ≡ judgedLater event ⌝ }
+fn judge_later(event: Event) -> Meaning
+    ensures { λ r. ⌜ r ≡ judgeLaterOf event ⌝ }
 {
     match event {
-        Event::Greeting => Verdict::Over(Outcome::Other),
-        Event::Ack => Verdict::Acknowledged,
-        Event::Bel => Verdict::Over(Outcome::Bel),
-        Event::Other => Verdict::Over(Outcome::Other),
-        Event::Silence => Verdict::Over(Outcome::Silence),
+        Event::Greeting => Meaning::Over(Outcome::Other),
+        Event::Ack => Meaning::Acknowledged,
+        Event::Bel => Meaning::Over(Outcome::Bel),
+        Event::Other => Meaning::Over(Outcome::Other),
+        Event::Silence => Meaning::Over(Outcome::Silence),
     }
 }
 
 fn right_sizes(image: usize, map: usize, packet: usize) -> bool
     ensures { λ r. ⌜ r ≡ rightSizes image map packet ⌝ }
 {
-    if image != FLASH as usize {
+    if image != SIZE {
         return false;
     }
     if map != MAP {
         return false;
     }
-    259 <= packet
+    PACKET <= packet
 }
 
 // Each run once, each piece twice, and R.

@@ -3,25 +3,25 @@ use Prim.Native.Nat.{ℕ, _+_, _%_, _<_}
 use mathlib.Core.List.{List, [], _∷_, _++_}
 use mathlib.Core.Path.{_≡_, refl}
 use native.Mathlib.Omega.{arith}
-use Rattle.basis.specs.Sums.{total, sumOf, checksumOf}
+use Rattle.basis.specs.Sums.{plainSum, sumOf, checksumOf}
 
-pub total-append : (s t : List ℕ) → total (s ++ t) ≡ total s + total t
-unfolding total
-total-append [] t = omega arith
-total-append (x ∷ s) t = omega (arith, total-append s t)
+pub plain-append : (s t : List ℕ) → plainSum (s ++ t) ≡ plainSum s + plainSum t
+unfolding plainSum
+plain-append [] t = omega arith
+plain-append (x ∷ s) t = omega (arith, plain-append s t)
 
 pub sum-nil : sumOf [] ≡ 0
-unfolding sumOf total
+unfolding sumOf plainSum
 sum-nil = refl
 
 pub sum-append : (s t : List ℕ) → sumOf (s ++ t) ≡ (sumOf s + sumOf t) % 256
 unfolding sumOf
-sum-append s t = omega (arith, total-append s t)
+sum-append s t = omega (arith, plain-append s t)
 
 -- one more byte
 pub sum-more : (s : List ℕ) (x : ℕ) → sumOf (s ++ (x ∷ [])) ≡ (sumOf s + x) % 256
-unfolding sumOf total
-sum-more s x = omega (arith, total-append s (x ∷ []))
+unfolding sumOf plainSum
+sum-more s x = omega (arith, plain-append s (x ∷ []))
 
 pub sum-below : (s : List ℕ) → sumOf s < 256
 unfolding sumOf

@@ -8,8 +8,8 @@ use lib.ListN.{getD, replicate}
 use Rattle.basis.specs.Choice.{both}
 use Rattle.basis.specs.Laws.Computed.{all}
 use Rattle.basis.specs.Refusals.{Answer, refused, given, first}
-use Rattle.basis.specs.Sums.{total, sumOf}
-use Rattle.image.specs.Digits.{digitOf, allDigits, bytesOf}
+use Rattle.basis.specs.Sums.{plainSum, sumOf}
+use Rattle.image.specs.Digits.{digitOf, allDigits, decoded}
 use Rattle.image.specs.Flash.{stored}
 use Rattle.image.specs.Hex.{File, fresh, recordIn}
 use Rattle.image.specs.Places.{anyNamed, nameAllOf}
@@ -37,7 +37,7 @@ linear (given f) = f .reader .linear
 -- accepted, and image and map stand as at the start
 abbrev unchanged : Answer File → Bool
 unchanged (refused n) = false
-unchanged (given f) = both (eqb (total (f .image)) (272 * 0xFF)) (eqb (total (f .map)) 0)
+unchanged (given f) = both (eqb (plainSum (f .image)) (272 * 0xFF)) (eqb (plainSum (f .map)) 0)
 
 abbrev cases : List Bool
 cases =
@@ -62,6 +62,6 @@ cases =
     ∷ eqb (number (on (0x02 ∷ 0x01 ∷ 0x0F ∷ 0x00 ∷ 0x00 ∷ 0x00 ∷ 0xEE ∷ []))) 29
     ∷ []
 
-pub paper-cases : all cases ≡ true
-unfolding first recordIn digitOf allDigits bytesOf stored anyNamed nameAllOf named nameOf total sumOf letterOf spelt
-paper-cases = refl
+pub record-cases : all cases ≡ true
+unfolding first recordIn digitOf allDigits decoded stored anyNamed nameAllOf named nameOf plainSum sumOf letterOf spelt
+record-cases = refl

@@ -8,14 +8,14 @@ use Rattle.basis.specs.Choice.{pick}
 use Rattle.basis.specs.Laws.Refusals.{apart, given-one, refused-one, determined}
 use Rattle.basis.specs.Lists.{overlay}
 use Rattle.basis.specs.Refusals.{Answer}
-use Rattle.image.specs.Hex.{paperRead, Outcome, outcome}
+use Rattle.image.specs.Hex.{paperRead, Settled, settledAs}
 use Rattle.image.specs.Record.{paperRefusal}
-use Rattle.image.specs.Writer.{Step, paperWritten, told, textOf}
+use Rattle.image.specs.Writer.{Step, paperWritten, measured, textBytes}
 use Rattle.image.specs.declared.hex.Hex.{Hex}
 use Rattle.image.specs.declared.hex.Read.{Read}
 use Rattle.image.specs.declared.hex.Read.the-variants.{Taken, Refused}
 use Rattle.image.specs.declared.record.Refusal.{Refusal}
-use Rattle.image.specs.declared.record.Refusal.the-variants.{Size, Ended, Colon, Length, Digit, Count, Sum, Kind, Shape, Place, Twice, NoEnd, NoData}
+use Rattle.image.specs.declared.record.Refusal.the-variants.{Size, Ended, Colon, Length, Digit, Count, Checksum, Kind, Shape, Place, Twice, NoEnd, NoData}
 use Rattle.image.specs.declared.writer.Written.{Written}
 use Rattle.image.specs.declared.writer.Written.the-variants as written
 
@@ -28,7 +28,7 @@ refusalBy n =
     (pick (eqb n 23) Length
     (pick (eqb n 24) Digit
     (pick (eqb n 25) Count
-    (pick (eqb n 26) Sum
+    (pick (eqb n 26) Checksum
     (pick (eqb n 27) Kind
     (pick (eqb n 28) Shape
     (pick (eqb n 29) Place
@@ -43,7 +43,7 @@ refusal-back Colon = refl
 refusal-back Length = refl
 refusal-back Digit = refl
 refusal-back Count = refl
-refusal-back Sum = refl
+refusal-back Checksum = refl
 refusal-back Kind = refl
 refusal-back Shape = refl
 refusal-back Place = refl
@@ -65,10 +65,10 @@ read-one (Refused x) (Taken g) e = absurd (apart e)
 read-one (Refused x) (Refused y) e = ap Refused (refusal-one x y (refused-one e))
 
 -- of start and of a record, with image and map as they leave them
-pub record-determined : {o : Outcome} (r s : Read) (i j m n : List ℕ) → outcome (paperRead r) i m ≡ o → outcome (paperRead s) j n ≡ o → (r ≡ s) × (i ≡ j) × (m ≡ n)
+pub record-determined : {o : Settled} (r s : Read) (i j m n : List ℕ) → settledAs (paperRead r) i m ≡ o → settledAs (paperRead s) j n ≡ o → (r ≡ s) × (i ≡ j) × (m ≡ n)
 record-determined r s i j m n p q =
     let e = p ∙ sym q in
-    (read-one r s (ap (λ (x : Outcome). x .answer) e), ap (λ (x : Outcome). x .image) e, ap (λ (x : Outcome). x .map) e)
+    (read-one r s (ap (λ (x : Settled). x .answer) e), ap (λ (x : Settled). x .image) e, ap (λ (x : Settled). x .map) e)
 
 pub close-determined : {a : Answer Hex} (r s : Read) → paperRead r ≡ a → paperRead s ≡ a → r ≡ s
 close-determined = determined paperRead read-one
@@ -86,5 +86,5 @@ written-one (written.Record n a) written.Short e = absurd (apart (sym e))
 written-one (written.Record n a) (written.Record m b) e =
     let g = given-one e in λ i. written.Record (g i .length) (record { 0 = g i .next })
 
-pub write-determined : (a : Answer Step) (r s : Written) (x y old : List ℕ) → (paperWritten r ≡ told a) × (x ≡ overlay (textOf a) old) → (paperWritten s ≡ told a) × (y ≡ overlay (textOf a) old) → (r ≡ s) × (x ≡ y)
+pub write-determined : (a : Answer Step) (r s : Written) (x y old : List ℕ) → (paperWritten r ≡ measured a) × (x ≡ overlay (textBytes a) old) → (paperWritten s ≡ measured a) × (y ≡ overlay (textBytes a) old) → (r ≡ s) × (x ≡ y)
 write-determined a r s x y old p q = (determined paperWritten written-one r s (p .0) (q .0), p .1 ∙ sym (q .1))

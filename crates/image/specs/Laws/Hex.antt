@@ -11,13 +11,13 @@ use Rattle.basis.specs.Choice.{pick, both, either}
 use Rattle.basis.specs.Refusals.{Answer, refused, given, Rule, _when_, first}
 use Rattle.basis.specs.Laws.Refusals.{passed}
 use Rattle.basis.specs.Lists.{Bytes}
-use Rattle.basis.specs.Sums.{total, sumOf}
-use Rattle.image.specs.Digits.{digitOf, allDigits, bytesOf}
+use Rattle.basis.specs.Sums.{plainSum, sumOf}
+use Rattle.image.specs.Digits.{digitOf, allDigits, decoded}
 use Rattle.image.specs.Writer.{letterOf, spelt, line}
 use Rattle.image.specs.Laws.Writer.{length-spelt, spelt-digits, spelt-bytes}
 use Rattle.basis.specs.Laws.Choice.{either-none}
 use Rattle.image.specs.Record.{count, kind, address, noColon, lengthWrong, notDigits, countWrong, sumWrong, isData, kindWrong, shapeWrong, charactersOf, framingOf, shapeOf}
-use Rattle.image.specs.Hex.{file, place, placeWrong, placeTaken, placed, toldOf, sizeWrong, recordIn, applyIn, dataIn}
+use Rattle.image.specs.Hex.{file, place, pastBoard, namedBefore, placed, otherOf, sizeWrong, recordIn, applyIn, dataIn}
 use Rattle.image.specs.declared.hex.Hex.{Hex}
 
 -- no pair of tests holds where the second fails
@@ -79,22 +79,22 @@ module _ (size : ℕ) (h : Hex) (image map : List ℕ) where
   size-right p q = simp (eq-eqb _ _ p, eq-eqb _ _ q)
 
   -- the table after 20 and 21: the characters, then the bytes
-  pub record-cut : (line : List ℕ) → sizeWrong size image map ≡ false → h .ended ≡ false → recordIn size h line image map ≡ after (charactersOf line) (applyIn size h (length line) (bytesOf (drop 1 line)) image map)
+  pub record-cut : (line : List ℕ) → sizeWrong size image map ≡ false → h .ended ≡ false → recordIn size h line image map ≡ after (charactersOf line) (applyIn size h (length line) (decoded (drop 1 line)) image map)
   unfolding first recordIn charactersOf applyIn
   record-cut line s e =
       passed-over (sizeWrong size image map) _ _ s
       ∙ passed-over (h .ended) _ _ e
       ∙ cut (22 when noColon line ∷ 23 when lengthWrong line ∷ 24 when notDigits line ∷ [])
-      (applyIn size h (length line) (bytesOf (drop 1 line)) image map)
+      (applyIn size h (length line) (decoded (drop 1 line)) image map)
 
   -- the table from 25 on: framing, type and shape, and then what the type asks
-  pub apply-cut : (n : ℕ) (b : List ℕ) → applyIn size h n b image map ≡ after (framingOf n b) (after (shapeOf b) (pick (isData b) (dataIn size h b image map) (given (file (toldOf h b) image map))))
+  pub apply-cut : (n : ℕ) (b : List ℕ) → applyIn size h n b image map ≡ after (framingOf n b) (after (shapeOf b) (pick (isData b) (dataIn size h b image map) (given (file (otherOf h b) image map))))
   unfolding first applyIn framingOf shapeOf dataIn
   apply-cut n b =
       cut (25 when countWrong n b ∷ 26 when sumWrong b ∷ []) _
       ∙ ap (after (framingOf n b)) (cut (27 when kindWrong b ∷ 28 when shapeWrong b ∷ []) _ ∙ ap (after (shapeOf b)) (by (isData b)))
     where
-      by : (t : Bool) → pick (both t (placeWrong size h b)) (refused 29) (pick (both t (placeTaken h b map)) (refused 30) (given (pick t (placed h b image map) (file (toldOf h b) image map)))) ≡ pick t (dataIn size h b image map) (given (file (toldOf h b) image map))
+      by : (t : Bool) → pick (both t (pastBoard size h b)) (refused 29) (pick (both t (namedBefore h b map)) (refused 30) (given (pick t (placed h b image map) (file (otherOf h b) image map)))) ≡ pick t (dataIn size h b image map) (given (file (otherOf h b) image map))
       by true = refl
       by false = refl
 
@@ -128,17 +128,17 @@ shape-data : (b : List ℕ) → kind b ≡ 0 → shapeOf b ≡ given tt
 unfolding first shapeOf
 shape-data b e = simp e
 
-data-placed : (size : ℕ) (h : Hex) (b image map : List ℕ) → place h b + count b ≤ size → placeTaken h b map ≡ false → dataIn size h b image map ≡ given (placed h b image map)
+data-placed : (size : ℕ) (h : Hex) (b image map : List ℕ) → place h b + count b ≤ size → namedBefore h b map ≡ false → dataIn size h b image map ≡ given (placed h b image map)
 unfolding first dataIn
 data-placed size h b image map l e = rw (le-ltb _ _ l, never (ltb 0 (count b)), e)
 
-end-read : (size : ℕ) (h : Hex) (image map : List ℕ) → after (charactersOf (line 0 1 [])) (applyIn size h (length (line 0 1 [])) (bytesOf (drop 1 (line 0 1 []))) image map) ≡ given (file (record { linear = h .linear; segment = h .segment; ended = true; taken = h .taken }) image map)
-unfolding first charactersOf applyIn digitOf allDigits bytesOf sumOf total letterOf spelt
+end-read : (size : ℕ) (h : Hex) (image map : List ℕ) → after (charactersOf (line 0 1 [])) (applyIn size h (length (line 0 1 [])) (decoded (drop 1 (line 0 1 []))) image map) ≡ given (file (record { linear = h .linear; segment = h .segment; ended = true; taken = h .taken }) image map)
+unfolding first charactersOf applyIn digitOf allDigits decoded sumOf plainSum letterOf spelt
 end-read size h image map = refl
 
 module _ (size : ℕ) (h : Hex) (image map : List ℕ) (right : sizeWrong size image map ≡ false) (going : h .ended ≡ false) where
   -- a data record that finds its places free and on the board
-  pub data-taken : (b : List ℕ) → Bytes b → length b ≡ 5 + count b → sumOf b ≡ 0 → kind b ≡ 0 → place h b + count b ≤ size → placeTaken h b map ≡ false → recordIn size h (0x3A ∷ spelt b) image map ≡ given (placed h b image map)
+  pub data-taken : (b : List ℕ) → Bytes b → length b ≡ 5 + count b → sumOf b ≡ 0 → kind b ≡ 0 → place h b + count b ≤ size → namedBefore h b map ≡ false → recordIn size h (0x3A ∷ spelt b) image map ≡ given (placed h b image map)
   data-taken b bytes long sum zero fits free =
       record-cut size h image map (0x3A ∷ spelt b) right going
       ∙ rw (spelling-characters b bytes long, spelt-bytes b bytes, apply-cut size h image map (length (0x3A ∷ spelt b)) b, spelling-framing b bytes long sum, shaped zero, eq-eqb _ _ zero) (open-place fits free)
@@ -146,7 +146,7 @@ module _ (size : ℕ) (h : Hex) (image map : List ℕ) (right : sizeWrong size i
       shaped : kind b ≡ 0 → shapeOf b ≡ given tt
       shaped e = shape-data b e
 
-      open-place : place h b + count b ≤ size → placeTaken h b map ≡ false → dataIn size h b image map ≡ given (placed h b image map)
+      open-place : place h b + count b ≤ size → namedBefore h b map ≡ false → dataIn size h b image map ≡ given (placed h b image map)
       open-place l e = data-placed size h b image map l e
 
   -- the end record

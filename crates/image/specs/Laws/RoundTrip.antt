@@ -21,7 +21,7 @@ use Rattle.image.specs.Flash.{copyOf, new}
 use Rattle.image.specs.Places.{nameAllOf}
 use Rattle.image.specs.Hex.{File, file, started, fed, place, placed, recordIn, closeOf}
 use Rattle.image.specs.declared.hex.Hex.{Hex}
-use Rattle.image.specs.Writer.{content, line, text, step, runLength, runFrom, lowest, stepFrom}
+use Rattle.image.specs.Writer.{content, line, text, step, recordLength, recordFrom, lowest, stepFrom}
 use Rattle.image.specs.RoundTrip.{unended, lines, addressAfter, readLines, Returned}
 use Rattle.image.specs.Laws.Flash.{length-stored, stored-below, stored-at}
 use Rattle.image.specs.Laws.Places.{any-none, name-all-length, name-all-bytes, name-all-below, name-all-above, name-all-in}
@@ -165,16 +165,16 @@ module _ (size : ℕ) (image map : List ℕ) where
         low-named : named map low ≡ true
         low-named = next-pass (named map) (size - a) a (omega arith)
 
-        run-some : 0 < runLength map low
+        run-some : 0 < recordLength map low
         run-some = len-ge (named map) (16 - low % 16) low 1 (omega arith) (λ i l. first-one i l)
           where
             first-one : (i : ℕ) → i < 1 → named map (low + i) ≡ true
             first-one i l = let e : low + i ≡ low = omega arith in rw e low-named
 
-        run-few : runLength map low ≤ 16 - low % 16
+        run-few : recordLength map low ≤ 16 - low % 16
         run-few = len-le (named map) low (16 - low % 16)
 
-        run-named : (j : ℕ) → low ≤ j → j < low + runLength map low → named map j ≡ true
+        run-named : (j : ℕ) → low ≤ j → j < low + recordLength map low → named map j ≡ true
         run-named j l m =
             let e : low + (j - low) ≡ j = omega arith in
             rw e at (len-in (named map) (16 - low % 16) low (j - low) (omega arith))
@@ -183,7 +183,7 @@ module _ (size : ℕ) (image map : List ℕ) where
       unfolding stepFrom
       step-end a l h = simp (le-ltb _ _ l, le-leb _ _ h)
 
-      step-run : (a : ℕ) → a ≤ size → lowest size map a < size → stepFrom size image map a ≡ runFrom image map (lowest size map a)
+      step-run : (a : ℕ) → a ≤ size → lowest size map a < size → stepFrom size image map a ≡ recordFrom image map (lowest size map a)
       unfolding stepFrom
       step-run a l h = simp (le-ltb _ _ l, lt-leb _ _ h)
 
@@ -253,7 +253,7 @@ module _ (size : ℕ) (image map : List ℕ) where
 
         module _ (a k : ℕ) (f : File) (u : Upto a f) (l : a ≤ size) (h : lowest size map a < size) where
           abbrev far : ℕ
-          far = runLength map (lowest size map a)
+          far = recordLength map (lowest size map a)
 
           upto-low : Upto (lowest size map a) f
           upto-low =
@@ -332,7 +332,7 @@ module _ (size : ℕ) (image map : List ℕ) where
           decide (leb size (lowest size map a))
           (λ e. rw (step-end a l (leb-true _ _ e)) (address-past k))
           (λ e. let h : lowest size map a < size = leb-false _ _ e in
-          rw (step-run a l h) (writer-ends k (lowest size map a + runLength map (lowest size map a)) (omega (arith, run-few a h)) (omega (arith, next-ge (named map) (size - a) a, run-some a h))))
+          rw (step-run a l h) (writer-ends k (lowest size map a + recordLength map (lowest size map a)) (omega (arith, run-few a h)) (omega (arith, next-ge (named map) (size - a) a, run-some a h))))
 
 -- Writing a file with a named byte record by record and reading the records back from a fresh reader is accepted throughout,
 -- closes, and gives the same map and the same named bytes.

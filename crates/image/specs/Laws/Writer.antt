@@ -8,7 +8,7 @@ use lib.ListN.{length}
 use borrow.Author.Tests.{lt-ltb}
 use Rattle.basis.specs.Lists.{Bytes}
 use Rattle.basis.specs.Laws.Computed.{agree}
-use Rattle.image.specs.Digits.{digitOf, allDigits, bytesOf}
+use Rattle.image.specs.Digits.{digitOf, allDigits, decoded}
 use Rattle.image.specs.Writer.{letterOf, spelt}
 
 pub length-spelt : (s : List ℕ) → length (spelt s) ≡ 2 * length s
@@ -43,8 +43,8 @@ spelt-digits (x ∷ s) h =
     below : x < 256 → x / 16 < 16
     below l = omega arith
 
-pub spelt-bytes : (s : List ℕ) → Bytes s → bytesOf (spelt s) ≡ s
-unfolding spelt bytesOf
+pub spelt-bytes : (s : List ℕ) → Bytes s → decoded (spelt s) ≡ s
+unfolding spelt decoded
 spelt-bytes [] h = refl
 spelt-bytes (x ∷ s) h =
     let e : 16 * (x / 16) + x % 16 ≡ x = omega arith in

@@ -9,11 +9,11 @@ use Rattle.basis.specs.Board.{flashSize, mapSize, greeting}
 use Rattle.basis.specs.Choice.{pick}
 use Rattle.basis.specs.Laws.Choice.{true-false}
 use Rattle.basis.specs.Refusals.{Answer, refused, given, bare}
-use Rattle.line.specs.Line.{Moment, begun, takes, servedOf, arrives, reply, heard, onward, between, exchangeOf}
+use Rattle.line.specs.Line.{Moment, begun, loaderTakes, delivered, arrives, reply, eventIn, stepsOn, between, exchangeOf}
 use Rattle.line.specs.declared.exchange.Loss.{Loss}
 use Rattle.loader.specs.Commands.{Effect}
 use Rattle.loader.specs.State.{resetOf}
-use Rattle.loader.specs.Take.{waiting as waits, quiet, toldOf, answerOf}
+use Rattle.loader.specs.Take.{waiting, quiet, tellOf, answerBytes}
 use Rattle.loader.specs.declared.state.Condition.the-variants.{Serving}
 use Rattle.loader.specs.declared.state.Loader.{Loader}
 use Rattle.runs.specs.Pieces.{namedCount}
@@ -23,44 +23,45 @@ use Rattle.session.specs.Laws.States.{greeting-state, ack-next, ack-last, step-
 use Rattle.session.specs.Laws.Steps.{step-taken}
 use Rattle.session.specs.Phases.{packetOut, phaseAt}
 use Rattle.session.specs.Plan.{total}
-use Rattle.session.specs.Session.{sessionIn, waiting, stateAt, rightSizes, tookOf}
+use Rattle.session.specs.Session.{sessionIn, atGreeting, stateAt, rightSizes, tookOf}
 use Rattle.session.specs.declared.event.Event.{Event}
 use Rattle.session.specs.declared.phase.Outcome.{Outcome}
 use Rattle.session.specs.declared.phase.Phase.{Phase}
 use Rattle.session.specs.declared.phase.RunKind.{RunKind}
 use Rattle.session.specs.declared.session.Session.{Session}
+use Rattle.packet.specs.Packet.{packetMost}
 
 -- ---- what the session hears
 
 -- no answer is silence
-pub silence-is : (b : List ℕ) → b ≡ [] → heard b ≡ Event.Silence
-silence-is b e = ap heard e ∙ silence-heard []
+pub silence-is : (b : List ℕ) → b ≡ [] → eventIn b ≡ Event.Silence
+silence-is b e = ap eventIn e ∙ silence-heard []
 
-refusal-heard : (n : ℕ) → isAck (heard (toldOf false (refused n))) ≡ false
+refusal-heard : (n : ℕ) → isAck (eventIn (tellOf false (refused n))) ≡ false
 refusal-heard n = go (quiet n)
   where
-    go : (q : Bool) → isAck (heard (pick q [] (0x07 ∷ []))) ≡ false
+    go : (q : Bool) → isAck (eventIn (pick q [] (0x07 ∷ []))) ≡ false
     go true = ap isAck (silence-heard [])
     go false = ap isAck bel-heard
 
 -- an ACK comes from a loader that has let the packet through, and nothing was lost
-pub acked : (o : Loss) (l : Loader) (s f : List ℕ) → l .condition ≡ Serving → heard (arrives o l s f) ≡ Event.Ack → (o ≡ Loss.Whole) × (e : Effect) × (takes l s f ≡ given e)
-acked Loss.Whole l s f c h = go (takes l s f) refl (sym (ap isAck (sym (ap (λ (w : Bool). heard (toldOf w (bare (takes l s f)))) (ap waits c)) ∙ h)))
+pub acked : (o : Loss) (l : Loader) (s f : List ℕ) → l .condition ≡ Serving → eventIn (arrives o l s f) ≡ Event.Ack → (o ≡ Loss.Whole) × (e : Effect) × (loaderTakes l s f ≡ given e)
+acked Loss.Whole l s f c h = go (loaderTakes l s f) refl (sym (ap isAck (sym (ap (λ (w : Bool). eventIn (tellOf w (bare (loaderTakes l s f)))) (ap waiting c)) ∙ h)))
   where
-    go : (x : Answer Effect) → takes l s f ≡ x → true ≡ isAck (heard (toldOf false (bare x))) → (Loss.Whole ≡ Loss.Whole) × (e : Effect) × (takes l s f ≡ given e)
+    go : (x : Answer Effect) → loaderTakes l s f ≡ x → true ≡ isAck (eventIn (tellOf false (bare x))) → (Loss.Whole ≡ Loss.Whole) × (e : Effect) × (loaderTakes l s f ≡ given e)
     go (refused n) e t = absurd (true-false (t ∙ refusal-heard n))
     go (given y) e t = (refl, y, e)
 acked Loss.Lost l s f c h = absurd (true-false (sym (ap isAck (sym (silence-heard []) ∙ h))))
 acked Loss.Unanswered l s f c h = absurd (true-false (sym (ap isAck (sym (silence-heard []) ∙ h))))
 
 -- and what it lets through it acknowledges
-pub let-acked : (l : Loader) (s f : List ℕ) (e : Effect) → l .condition ≡ Serving → takes l s f ≡ given e → heard (arrives Loss.Whole l s f) ≡ Event.Ack
-let-acked l s f e c q = ap (λ (x : Answer Effect). heard (answerOf l x)) q ∙ ap (λ (w : Bool). heard (pick w greeting (0x06 ∷ []))) (ap waits c) ∙ ack-heard
+pub let-acked : (l : Loader) (s f : List ℕ) (e : Effect) → l .condition ≡ Serving → loaderTakes l s f ≡ given e → eventIn (arrives Loss.Whole l s f) ≡ Event.Ack
+let-acked l s f e c q = ap (λ (x : Answer Effect). eventIn (answerBytes l x)) q ∙ ap (λ (w : Bool). eventIn (pick w greeting (0x06 ∷ []))) (ap waiting c) ∙ ack-heard
 
 -- ---- where the session stands then
 
 module _ (image m : List ℕ) (right : length image ≡ flashSize) (long : length m ≡ mapSize) (some : 0 < namedCount m) (kind : RunKind) where
-  right-sizes : rightSizes (length image) (length m) 259 ≡ true
+  right-sizes : rightSizes (length image) (length m) packetMost ≡ true
   right-sizes = rw (eq-eqb _ _ right, eq-eqb _ _ long)
 
   -- k packets are acknowledged and the next is on the wire; or the session has ended
@@ -76,34 +77,34 @@ module _ (image m : List ℕ) (right : length image ≡ flashSize) (long : lengt
 
   module _ (o : Loss) (e : Effect) (k : ℕ) (l : k < total m) where
     abbrev pub served : Effect
-    served = servedOf o (e .loader) (packetOut image m kind (phaseAt m k)) (e .flash)
+    served = delivered o (e .loader) (packetOut image m kind (phaseAt m k)) (e .flash)
 
-    pub taken : exchangeOf image m o (standing e k) ≡ went served (tookOf m (stateAt m kind k) (heard (reply o (standing e k))))
+    pub taken : exchangeOf image m o (standing e k) ≡ went served (tookOf m (stateAt m kind k) (eventIn (reply o (standing e k))))
     unfolding exchangeOf
-    taken = ap (onward (between o (standing e k))) (step-state image m 259 kind right-sizes long some k (heard (reply o (standing e k))) l)
+    taken = ap (stepsOn (between o (standing e k))) (step-state image m packetMost kind right-sizes long some k (eventIn (reply o (standing e k))) l)
 
-    pub on-ack : k + 1 < total m → heard (reply o (standing e k)) ≡ Event.Ack → exchangeOf image m o (standing e k) ≡ standing served (k + 1)
+    pub on-ack : k + 1 < total m → eventIn (reply o (standing e k)) ≡ Event.Ack → exchangeOf image m o (standing e k) ≡ standing served (k + 1)
     on-ack n h = taken ∙ ap (λ (v : Event). went served (tookOf m (stateAt m kind k) v)) h ∙ ap (went served) (ack-next m long some kind k n)
 
-    pub on-last : k + 1 ≡ total m → heard (reply o (standing e k)) ≡ Event.Ack → exchangeOf image m o (standing e k) ≡ over served Outcome.Valid (total m)
+    pub on-last : k + 1 ≡ total m → eventIn (reply o (standing e k)) ≡ Event.Ack → exchangeOf image m o (standing e k) ≡ over served Outcome.Valid (total m)
     on-last n h = taken ∙ ap (λ (v : Event). went served (tookOf m (stateAt m kind k) v)) h ∙ ap (went served) (ack-last m long some kind k n)
 
-    pub on-else : isAck (heard (reply o (standing e k))) ≡ false → (u : Outcome) × (failing u k ≡ true) × (exchangeOf image m o (standing e k) ≡ over served u k)
-    on-else h = let f = not-ack m long some kind k (heard (reply o (standing e k))) h l in (f .0, f .1, taken ∙ ap (went served) (f .2))
+    pub on-else : isAck (eventIn (reply o (standing e k))) ≡ false → (u : Outcome) × (failing u k ≡ true) × (exchangeOf image m o (standing e k) ≡ over served u k)
+    on-else h = let f = not-ack m long some kind k (eventIn (reply o (standing e k))) h l in (f .0, f .1, taken ∙ ap (went served) (f .2))
 
   -- the opening byte
   module _ (o : Loss) (l : Loader) (f : List ℕ) where
     abbrev pub opened : Effect
-    opened = servedOf o (resetOf l) (0x08 ∷ []) f
+    opened = delivered o (resetOf l) (0x08 ∷ []) f
 
-    pub taken-first : exchangeOf image m o (begun m kind l f) ≡ went opened (tookOf m (waiting m kind) (heard (reply o (begun m kind l f))))
+    pub taken-first : exchangeOf image m o (begun m kind l f) ≡ went opened (tookOf m (atGreeting m kind) (eventIn (reply o (begun m kind l f))))
     unfolding exchangeOf
     taken-first =
-        ap (onward (between o (begun m kind l f)))
-        (step-taken image m 259 (waiting m kind) (heard (reply o (begun m kind l f))) right-sizes refl (waiting-fits m long some kind))
+        ap (stepsOn (between o (begun m kind l f)))
+        (step-taken image m packetMost (atGreeting m kind) (eventIn (reply o (begun m kind l f))) right-sizes refl (waiting-fits m long some kind))
 
-    pub on-greeting : heard (reply o (begun m kind l f)) ≡ Event.Greeting → exchangeOf image m o (begun m kind l f) ≡ standing opened 0
-    on-greeting h = taken-first ∙ ap (λ (v : Event). went opened (tookOf m (waiting m kind) v)) h ∙ ap (went opened) (greeting-state m long some kind)
+    pub on-greeting : eventIn (reply o (begun m kind l f)) ≡ Event.Greeting → exchangeOf image m o (begun m kind l f) ≡ standing opened 0
+    on-greeting h = taken-first ∙ ap (λ (v : Event). went opened (tookOf m (atGreeting m kind) v)) h ∙ ap (went opened) (greeting-state m long some kind)
 
-    pub on-silence : heard (reply o (begun m kind l f)) ≡ Event.Silence → (u : Outcome) × (failing u 0 ≡ true) × (exchangeOf image m o (begun m kind l f) ≡ over opened u 0)
-    on-silence h = let g = not-greeting m long some kind (heard (reply o (begun m kind l f))) (ap isGreeting h) in (g .0, g .1, taken-first ∙ ap (went opened) (g .2))
+    pub on-silence : eventIn (reply o (begun m kind l f)) ≡ Event.Silence → (u : Outcome) × (failing u 0 ≡ true) × (exchangeOf image m o (begun m kind l f) ≡ over opened u 0)
+    on-silence h = let g = not-greeting m long some kind (eventIn (reply o (begun m kind l f))) (ap isGreeting h) in (g .0, g .1, taken-first ∙ ap (went opened) (g .2))

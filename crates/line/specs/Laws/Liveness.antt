@@ -9,7 +9,7 @@ use lib.Dec.{eqb, leb, ltb}
 use lib.ListN.{length, getD, take, drop, length-map, length-drop}
 use lib.Seq.{getD-take, getD-drop, ext-getD, length-take-le}
 use Rattle.basis.specs.Bits.{bit}
-use Rattle.basis.specs.Board.{pages, flashSize, mapSize}
+use Rattle.basis.specs.Board.{pages, flashSize, mapSize, pageSize}
 use Rattle.basis.specs.Laws.Choice.{decide}
 use Rattle.basis.specs.Laws.Lists.{bytes-take, bytes-drop}
 use Rattle.basis.specs.Lists.{Bytes}
@@ -18,13 +18,13 @@ use Rattle.basis.specs.Units.{pageOf, pageGroupOf, startOf}
 use Rattle.image.specs.Flash.{eraseOf, storeOf}
 use Rattle.image.specs.Laws.Flash.{Blank, length-erase, erase-below, erase-above, erase-at, length-store, store-below, store-above, store-blank-at}
 use Rattle.line.specs.Laws.Safety.{Serves, takes-erase, takes-write, takes-verify, takes-run}
-use Rattle.line.specs.Line.{takes}
+use Rattle.line.specs.Line.{loaderTakes}
 use Rattle.loader.specs.Commands.{Effect, keeping}
 use Rattle.loader.specs.Laws.Commands.{erase-passes, write-passes, verify-passes, run-passes}
 use Rattle.loader.specs.Laws.Protection.{free-pages, free-bytes}
 use Rattle.loader.specs.Laws.Verify.{stands-same}
 use Rattle.loader.specs.State.{withCondition}
-use Rattle.loader.specs.Verify.{sameOf}
+use Rattle.loader.specs.Verify.{equalsOf}
 use Rattle.loader.specs.declared.state.Condition.the-variants.{Left}
 use Rattle.loader.specs.declared.state.Loader.{Loader}
 use Rattle.packet.specs.Laws.Turn.{restored-turned, undone}
@@ -38,7 +38,7 @@ use Rattle.runs.specs.Pages.{touched}
 use Rattle.runs.specs.Pieces.{pieceMost, pieceStarts, pieceLen, runStarts, runLen, runCount, pieceCount}
 use Rattle.runs.specs.Runs.{count}
 use Rattle.session.specs.Laws.Starts.{piece-carried}
-use Rattle.session.specs.Laws.Turns.{Ranked, Turn, erases, writes, verifies, runs}
+use Rattle.session.specs.Laws.Out.{Ranked, Out, erases, writes, verifies, runs}
 use Rattle.session.specs.Phases.{packetOut, phaseAt}
 use Rattle.session.specs.Plan.{erasePacket, writePacket, pieceBytes, runAddress}
 use Rattle.session.specs.declared.phase.Phase.{Phase}
@@ -57,7 +57,7 @@ pub record Grows (image m : List ℕ) (k : ℕ) (f : List ℕ) : Type 0 where
 
 -- the packet is let through, and leaves this
 pub record Lets (image m : List ℕ) (l : Loader) (s f : List ℕ) (k : ℕ) (e : Effect) : Type 0 where
-  pub let-is : takes l s f ≡ given e
+  pub let-is : loaderTakes l s f ≡ given e
   pub grows : Grows image m (k + 1) (e .flash)
   pub loader-is : k < runCount m + 2 * pieceCount m → e .loader ≡ l
 
@@ -84,7 +84,7 @@ module _ (image m : List ℕ) (right : length image ≡ flashSize) (long : lengt
 
   module _ (q : ℕ) (r : Ranked (runStarts m) q k) (b : k < runCount m) where
     abbrev erased : List ℕ
-    erased = eraseOf f (startOf (pageOf (startOf q))) (runLen m q * 512)
+    erased = eraseOf f (startOf (pageOf (startOf q))) (runLen m q * pageSize)
 
     inside : q + runLen m q ≤ pages
     inside = file-run m long q (r .begins)
@@ -93,18 +93,18 @@ module _ (image m : List ℕ) (right : length image ≡ flashSize) (long : lengt
     erased-or : {R : Type 0} (a : ℕ) → (getD erased a 0 ≡ 0xFF → R) → ((q ≤ pageOf a → pageOf a < q + runLen m q → ⊥) → getD erased a 0 ≡ getD f a 0 → R) → R
     erased-or a blanked stays =
         decide (ltb a (startOf q))
-        (λ d. let e = ltb-true a (startOf q) d in stays (λ x y. omega arith) (erase-below f (startOf (pageOf (startOf q))) (runLen m q * 512) a (omega arith)))
-        (λ d. decide (leb (startOf q + runLen m q * 512) a)
-        (λ c. let e = leb-true (startOf q + runLen m q * 512) a c in stays (λ x y. omega arith) (erase-above f (startOf (pageOf (startOf q))) (runLen m q * 512) a (omega arith)))
-        (λ c. let e = leb-false (startOf q + runLen m q * 512) a c in
+        (λ d. let e = ltb-true a (startOf q) d in stays (λ x y. omega arith) (erase-below f (startOf (pageOf (startOf q))) (runLen m q * pageSize) a (omega arith)))
+        (λ d. decide (leb (startOf q + runLen m q * pageSize) a)
+        (λ c. let e = leb-true (startOf q + runLen m q * pageSize) a c in stays (λ x y. omega arith) (erase-above f (startOf (pageOf (startOf q))) (runLen m q * pageSize) a (omega arith)))
+        (λ c. let e = leb-false (startOf q + runLen m q * pageSize) a c in
         let g = ltb-false a (startOf q) d in
         let j : startOf (pageOf (startOf q)) + (a - startOf q) ≡ a = omega arith in
-        blanked (subst (λ (i : ℕ). getD erased i 0 ≡ 0xFF) j (erase-at f (startOf (pageOf (startOf q))) (runLen m q * 512) (a - startOf q) (omega arith) (omega (arith, inside, h .size))))))
+        blanked (subst (λ (i : ℕ). getD erased i 0 ≡ 0xFF) j (erase-at f (startOf (pageOf (startOf q))) (runLen m q * pageSize) (a - startOf q) (omega arith) (omega (arith, inside, h .size))))))
 
     erase-grows : Grows image m (k + 1) erased
     erase-grows =
         record {
-          size = length-erase f (startOf (pageOf (startOf q))) (runLen m q * 512) ∙ h .size;
+          size = length-erase f (startOf (pageOf (startOf q))) (runLen m q * pageSize) ∙ h .size;
           written = λ a t c. absurd (omega (arith, ranks a t .0));
           blank = λ a t c d. erased-or a (λ e. e)
               (λ out same. decide (eqb (count (runStarts m) (pageOf a + 1)) (k + 1))
@@ -117,7 +117,7 @@ module _ (image m : List ℕ) (right : length image ≡ flashSize) (long : lengt
         let n = piece-some (touched m) pages (omega arith) q (r .begins) in
         let i = inside in
         record {
-          let-is = ap (λ (s : List ℕ). takes l s f) e
+          let-is = ap (λ (s : List ℕ). loaderTakes l s f) e
               ∙ takes-erase image m right long l serves f (h .size) q (r .begins)
               ∙ erase-passes pages l (startOf q) (runLen m q) (given (record { loader = l; flash = erased })) (λ z. omega arith) (omega arith) (omega arith)
               (free-pages (l .protection) (pageOf (startOf q)) (pageOf (startOf q) + runLen m q) (omega arith)
@@ -190,7 +190,7 @@ module _ (image m : List ℕ) (right : length image ≡ flashSize) (long : lengt
       write-let e =
           let n = piece-some (named m) pieceMost (omega arith) s (r .begins) in
           record {
-            let-is = ap (λ (x : List ℕ). takes l x f) e
+            let-is = ap (λ (x : List ℕ). loaderTakes l x f) e
                 ∙ takes-write image m right long l serves f (h .size) s (r .begins)
                 ∙ write-passes pages l s (length piece) (given (record { loader = l; flash = stored })) (serves .sequence-is) (omega (arith, long-is, fits))
                 (free-bytes (l .protection) s (s + length piece) (omega (arith, long-is))
@@ -201,7 +201,7 @@ module _ (image m : List ℕ) (right : length image ≡ flashSize) (long : lengt
 
     -- ---- V
 
-    verify-same : runCount m + pieceCount m ≤ k → sameOf f s (map turnedOf piece) ≡ true
+    verify-same : runCount m + pieceCount m ≤ k → equalsOf f s (map turnedOf piece) ≡ true
     verify-same c =
         stands-same f s (map turnedOf piece) (omega (arith, length-map piece turnedOf, long-is, fits, h .size))
         (ap (λ (n : ℕ). take n (drop s f)) (length-map piece turnedOf ∙ long-is)
@@ -218,13 +218,13 @@ module _ (image m : List ℕ) (right : length image ≡ flashSize) (long : lengt
         blank = λ a n d e. absurd (omega (arith, ranks a n .1));
       }
 
-  pub lets : Turn m k → (e : Effect) × Lets image m l sends f k e
+  pub lets : Out m k → (e : Effect) × Lets image m l sends f k e
   lets (erases q e r b) = (record { loader = l; flash = erased q r b }, erase-let q r b (ap (packetOut image m kind) e))
   lets (writes s j e r t b) = (record { loader = l; flash = stored s j r t }, write-let s j r t (ap (packetOut image m kind) e))
   lets (verifies s j e r t b) = (
     record { loader = l; flash = f },
     record {
-      let-is = ap (λ (ph : Phase). takes l (packetOut image m kind ph) f) e
+      let-is = ap (λ (ph : Phase). loaderTakes l (packetOut image m kind ph) f) e
           ∙ takes-verify image m right long l serves f (h .size) s (r .begins)
           ∙ ap (keeping f) (verify-passes pages l s (map turnedOf (pieceBytes image m s)) f (given l) (serves .sequence-is)
           (omega (arith, length-map (piece s j r) turnedOf, long-is s j r, fits s j r)) (free .readable) (verify-same s j r (omega arith)));
@@ -235,7 +235,7 @@ module _ (image m : List ℕ) (right : length image ≡ flashSize) (long : lengt
   lets (runs e t) = (
     record { loader = withCondition l Left; flash = f },
     record {
-      let-is = ap (λ (ph : Phase). takes l (packetOut image m kind ph) f) e
+      let-is = ap (λ (ph : Phase). loaderTakes l (packetOut image m kind ph) f) e
           ∙ takes-run image m right long l serves f (h .size) kind
           ∙ ap (keeping f) (run-passes l (runAddress kind) (serves .sequence-is) (low kind));
       grows = late-grows (omega arith);

@@ -7,7 +7,7 @@ use native.Mathlib.Omega.{arith}
 use borrow.Author.Tests.{eqb-true, eqb-false, ltb-true, ltb-false}
 use lib.Dec.{eqb, ltb}
 use lib.ListN.{length}
-use Rattle.basis.specs.Board.{pages, flashSize, mapSize}
+use Rattle.basis.specs.Board.{pages, flashSize, mapSize, answerMost}
 use Rattle.basis.specs.Choice.{pick}
 use Rattle.basis.specs.Laws.Choice.{decide, true-false}
 use Rattle.basis.specs.Laws.Refusals.{given-one}
@@ -19,12 +19,12 @@ use Rattle.line.specs.Laws.Exchange.{silence-is, let-acked, standing, se
 use Rattle.line.specs.Laws.Liveness.{Free, Grows, Lets, lets}
 use Rattle.line.specs.Laws.Safety.{Serves}
 use Rattle.line.specs.Laws.Stages.{Holds, Stage, starts, stands, ends, stage, served-holds, serving-serves, opening-holds, first-flash}
-use Rattle.line.specs.Line.{Moment, begun, takes, between, reply, heard, exchangeOf, momentAt}
+use Rattle.line.specs.Line.{Moment, begun, loaderTakes, between, reply, eventIn, exchangeOf, momentAt}
 use Rattle.line.specs.declared.exchange.Loss.{Loss}
-use Rattle.loader.specs.Commands.{Effect, after as leaves}
+use Rattle.loader.specs.Commands.{Effect, effectAfter}
 use Rattle.loader.specs.Laws.Host.{sent-opening}
 use Rattle.loader.specs.State.{resetOf, withCondition}
-use Rattle.loader.specs.Take.{answerOf}
+use Rattle.loader.specs.Take.{answerBytes}
 use Rattle.loader.specs.declared.state.Condition.the-variants.{Serving}
 use Rattle.loader.specs.declared.state.Loader.{Loader}
 use Rattle.packet.specs.Laws.Packet.{packet-command}
@@ -38,10 +38,10 @@ use Rattle.session.specs.Laws.Events.{greeting-heard}
 use Rattle.session.specs.Laws.Marks.{proved-is, all-marked}
 use Rattle.session.specs.Laws.Series.{failing, silence-ends}
 use Rattle.session.specs.Laws.States.{phase-open}
-use Rattle.session.specs.Laws.Turns.{Turn, erases, writes, verifies, runs, turn}
+use Rattle.session.specs.Laws.Out.{Out, erases, writes, verifies, runs, out-after}
 use Rattle.session.specs.Phases.{ended, packetOut, phaseAt}
 use Rattle.session.specs.Plan.{pieceBytes, total}
-use Rattle.session.specs.Session.{waiting, stateAt, marked, tookOf}
+use Rattle.session.specs.Session.{atGreeting, stateAt, marked, tookOf}
 use Rattle.session.specs.declared.event.Event.{Event}
 use Rattle.session.specs.declared.phase.Outcome.{Outcome}
 use Rattle.session.specs.declared.phase.Phase.{Phase}
@@ -77,9 +77,9 @@ module _ (image m before : List ℕ) (right : length image ≡ flashSize) (long 
 
   -- on the wire R comes after every V
   run-late : (k : ℕ) → k < total m → command (packetOut image m kind (phaseAt m k)) ≡ 0x52 → runCount m + 2 * pieceCount m ≤ k
-  run-late k b = go (turn m long k b)
+  run-late k b = go (out-after m long k b)
     where
-      go : Turn m k → command (packetOut image m kind (phaseAt m k)) ≡ 0x52 → runCount m + 2 * pieceCount m ≤ k
+      go : Out m k → command (packetOut image m kind (phaseAt m k)) ≡ 0x52 → runCount m + 2 * pieceCount m ≤ k
       go (erases q e r c) h = absurd (omega (arith, sym (packet-command 0x45 (startOf q) (runLen m q ∷ [])) ∙ (rw e at h)))
       go (writes a j e r t c) h = absurd (omega (arith, sym (packet-command 0x57 a (pieceBytes image m a)) ∙ (rw e at h)))
       go (verifies a j e r t c) h = absurd (omega (arith, sym (packet-command 0x56 a (pieceBytes image m a)) ∙ (rw e at h)))
@@ -102,7 +102,7 @@ module _ (image m before : List ℕ) (right : length image ≡ flashSize) (long 
 
   pub stage-safe : (n : ℕ) (x : Moment) → Stage image m before right long some bytes kind l n x → Safe image m before x
   stage-safe n x (starts z q) =
-      rw q (holds-safe 0 (begun m kind l before) refl (opening-holds image m before right long some bytes kind l before refl size) (λ r. absurd (omega arith)) (λ v. absurd (open-invalid (waiting m kind) refl v)))
+      rw q (holds-safe 0 (begun m kind l before) refl (opening-holds image m before right long some bytes kind l before refl size) (λ r. absurd (omega arith)) (λ v. absurd (open-invalid (atGreeting m kind) refl v)))
   stage-safe n x (stands e k z b s h q) =
       rw q (holds-safe k _ refl h (run-late k b) (λ v. absurd (open-invalid (stateAt m kind k) (phase-open m k) v)))
   stage-safe n x (ends e u k h v q) =
@@ -110,7 +110,7 @@ module _ (image m before : List ℕ) (right : length image ≡ flashSize) (long 
 
   pub amid-safe : (o : Loss) (n : ℕ) (x : Moment) → Stage image m before right long some bytes kind l n x → ended (x .session .phase) ≡ false → Safe image m before (between o x)
   amid-safe o n x (starts z q) t =
-      rw q (holds-safe 0 (between o (begun m kind l before)) refl (opening-holds image m before right long some bytes kind l _ (first-flash image m before right long some bytes kind l size o) size) (λ r. absurd (omega arith)) (λ v. absurd (open-invalid (waiting m kind) refl v)))
+      rw q (holds-safe 0 (between o (begun m kind l before)) refl (opening-holds image m before right long some bytes kind l _ (first-flash image m before right long some bytes kind l size o) size) (λ r. absurd (omega arith)) (λ v. absurd (open-invalid (atGreeting m kind) refl v)))
   amid-safe o n x (stands e k z b s h q) t =
       rw q (holds-safe k _ refl (served-holds image m before right long some bytes kind (e .loader) (rw s (serving-serves image m before right long some bytes kind l)) o (e .flash) k h b) (run-late k b) (λ v. absurd (open-invalid (stateAt m kind k) (phase-open m k) v)))
   amid-safe o n x (ends e u k h v q) t = absurd (true-false (sym (ap (λ (y : Moment). ended (y .session .phase)) q) ∙ t))
@@ -146,8 +146,8 @@ module _ (image m before : List ℕ) (right : length image ≡ flashSize) (long 
   hushed o n x (starts z q) t r =
       ap (λ (y : Moment). exchangeOf image m o y .session .phase) q
       ∙ ap (λ (y : Moment). y .session .phase) (taken-first image m right long some kind o l before)
-      ∙ ap (λ (v : Event). tookOf m (waiting m kind) v .phase) (silence-is _ (sym (ap (reply o) q) ∙ r))
-      ∙ silence-ends m (waiting m kind)
+      ∙ ap (λ (v : Event). tookOf m (atGreeting m kind) v .phase) (silence-is _ (sym (ap (reply o) q) ∙ r))
+      ∙ silence-ends m (atGreeting m kind)
   hushed o n x (stands e k z b s h q) t r =
       ap (λ (y : Moment). exchangeOf image m o y .session .phase) q
       ∙ ap (λ (y : Moment). y .session .phase) (taken image m right long some kind o e k b)
@@ -212,12 +212,12 @@ module _ (image m before : List ℕ) (right : length image ≡ flashSize) (long 
 
       -- the packet that is out is let through
       passing : (e : Effect) × Lets image m serving (packetOut image m kind (phaseAt m k)) f k e
-      passing = lets image m right long bytes kind serving serves (record { unprotected = free .unprotected; readable = free .readable }) f k grows (turn m long k b)
+      passing = lets image m right long bytes kind serving serves (record { unprotected = free .unprotected; readable = free .readable }) f k grows (out-after m long k b)
 
       served-is : served image m right long some kind Loss.Whole here k b ≡ passing .0
-      served-is = ap (λ (x : Answer Effect). leaves serving f x) (passing .1 .let-is)
+      served-is = ap (λ (x : Answer Effect). effectAfter serving f x) (passing .1 .let-is)
 
-      hears : heard (reply Loss.Whole (standing image m right long some kind here k)) ≡ Event.Ack
+      hears : eventIn (reply Loss.Whole (standing image m right long some kind here k)) ≡ Event.Ack
       hears = let-acked serving _ f (passing .0) refl (passing .1 .let-is)
 
     exchanged : (k : ℕ) (x : Moment) (c : Alive k x) → exchangeOf image m (losses (suc k)) x ≡ exchangeOf image m Loss.Whole (standing image m right long some kind (record { loader = serving; flash = c .flash }) k)
@@ -235,15 +235,15 @@ module _ (image m before : List ℕ) (right : length image ≡ flashSize) (long 
           moment-is = follows 0 opening
               ∙ ap (λ (o : Loss). exchangeOf image m o (after 0)) (whole 0)
               ∙ ap (exchangeOf image m Loss.Whole) begins
-              ∙ on-greeting image m right long some kind Loss.Whole l before (ap (λ (x : Answer Effect). heard (answerOf (resetOf l) x)) greets ∙ greeting-heard)
-              ∙ ap (λ (x : Answer Effect). standing image m right long some kind (leaves (resetOf l) before x) 0) greets;
+              ∙ on-greeting image m right long some kind Loss.Whole l before (ap (λ (x : Answer Effect). eventIn (answerBytes (resetOf l) x)) greets ∙ greeting-heard)
+              ∙ ap (λ (x : Answer Effect). standing image m right long some kind (effectAfter (resetOf l) before x) 0) greets;
         }
       where
         opening : ended (after 0 .session .phase) ≡ false
         opening = ap (λ (x : Moment). ended (x .session .phase)) begins
 
-        greets : takes (resetOf l) (0x08 ∷ []) before ≡ given (record { loader = serving; flash = before })
-        greets = sent-opening pages (resetOf l) before 24 size (omega arith) refl
+        greets : loaderTakes (resetOf l) (0x08 ∷ []) before ≡ given (record { loader = serving; flash = before })
+        greets = sent-opening pages (resetOf l) before answerMost size (omega arith) refl
     alive (suc k) b =
         let c = alive k (omega arith) in
         let d : k < total m = omega arith in

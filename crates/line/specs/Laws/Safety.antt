@@ -8,7 +8,7 @@ use borrow.Author.Tests.{ltb-true, ltb-false, leb-true, leb-false, ne-eqb}
 use lib.Dec.{eqb, leb, ltb}
 use lib.ListN.{length, getD, take, drop, length-map}
 use lib.Seq.{getD-take, getD-drop}
-use Rattle.basis.specs.Board.{pages, flashSize, mapSize}
+use Rattle.basis.specs.Board.{pages, flashSize, mapSize, answerMost, pageSize}
 use Rattle.basis.specs.Laws.Choice.{decide, true-false, both-false}
 use Rattle.basis.specs.Laws.Lists.{bytes-take, bytes-drop}
 use Rattle.basis.specs.Laws.Refusals.{apart}
@@ -17,9 +17,9 @@ use Rattle.basis.specs.Refusals.{Answer, refused, given, first}
 use Rattle.basis.specs.Units.{pageOf, startOf}
 use Rattle.image.specs.Flash.{eraseOf, storeOf}
 use Rattle.image.specs.Laws.Flash.{erase-below, erase-above, store-below, store-above}
-use Rattle.line.specs.Line.{takes, servedOf}
+use Rattle.line.specs.Line.{loaderTakes, delivered}
 use Rattle.line.specs.declared.exchange.Loss.{Loss}
-use Rattle.loader.specs.Commands.{Effect, after, keeping, eraseRows, writeRows, verifyRows, writing, running}
+use Rattle.loader.specs.Commands.{Effect, effectAfter, keeping, eraseRows, writeRows, verifyRows, writing, running}
 use Rattle.loader.specs.Laws.Commands.{erasing-pages, verify-let}
 use Rattle.loader.specs.Laws.Host.{sent-erase, sent-write, sent-verify, sent-run}
 use Rattle.loader.specs.Laws.Verify.{same-stands}
@@ -59,13 +59,13 @@ Untouched m before f = (a : ℕ) → touched m (pageOf a) ≡ false → getD f a
 
 module _ (m before : List ℕ) where
   -- a run of pages erased
-  pub erase-untouched : (f : List ℕ) (q : ℕ) → Untouched m before f → Untouched m before (eraseOf f (startOf (pageOf (startOf q))) (runLen m q * 512))
+  pub erase-untouched : (f : List ℕ) (q : ℕ) → Untouched m before f → Untouched m before (eraseOf f (startOf (pageOf (startOf q))) (runLen m q * pageSize))
   erase-untouched f q h a t =
       decide (ltb a (startOf q))
-      (λ d. erase-below f (startOf (pageOf (startOf q))) (runLen m q * 512) a (omega (arith, ltb-true a (startOf q) d)) ∙ h a t)
-      (λ d. decide (leb (startOf q + runLen m q * 512) a)
-      (λ b. erase-above f (startOf (pageOf (startOf q))) (runLen m q * 512) a (omega (arith, leb-true (startOf q + runLen m q * 512) a b)) ∙ h a t)
-      (λ b. absurd (true-false (sym (piece-passes (touched m) pages q (pageOf a) (omega (arith, ltb-false a (startOf q) d)) (omega (arith, leb-false (startOf q + runLen m q * 512) a b))) ∙ t))))
+      (λ d. erase-below f (startOf (pageOf (startOf q))) (runLen m q * pageSize) a (omega (arith, ltb-true a (startOf q) d)) ∙ h a t)
+      (λ d. decide (leb (startOf q + runLen m q * pageSize) a)
+      (λ b. erase-above f (startOf (pageOf (startOf q))) (runLen m q * pageSize) a (omega (arith, leb-true (startOf q + runLen m q * pageSize) a b)) ∙ h a t)
+      (λ b. absurd (true-false (sym (piece-passes (touched m) pages q (pageOf a) (omega (arith, ltb-false a (startOf q) d)) (omega (arith, leb-false (startOf q + runLen m q * pageSize) a b))) ∙ t))))
 
   -- a piece stored
   pub store-untouched : (f d : List ℕ) (s : ℕ) → length d ≡ pieceLen m s → Untouched m before f → Untouched m before (storeOf f s d)
@@ -77,7 +77,7 @@ module _ (m before : List ℕ) where
       (λ c. absurd (true-false (sym (piece-touched m pieceMost s a (ltb-false a s b) (omega (arith, leb-false (s + length d) a c))) ∙ t))))
 
 -- by what befalls the exchange: what holds as it was and after the loader has taken the packet
-pub served-by : (P : Effect → Type 0) (o : Loss) (l : Loader) (s f : List ℕ) → P (record { loader = l; flash = f }) → P (after l f (takes l s f)) → P (servedOf o l s f)
+pub served-by : (P : Effect → Type 0) (o : Loss) (l : Loader) (s f : List ℕ) → P (record { loader = l; flash = f }) → P (effectAfter l f (loaderTakes l s f)) → P (delivered o l s f)
 served-by P Loss.Whole l s f p q = q
 served-by P Loss.Lost l s f p q = p
 served-by P Loss.Unanswered l s f p q = q
@@ -86,33 +86,33 @@ served-by P Loss.Unanswered l s f p q = q
 
 module _ (image m : List ℕ) (right : length image ≡ flashSize) (long : length m ≡ mapSize) (l : Loader) (serves : Serves l) (f : List ℕ) (size : length f ≡ flashSize) where
   pub takes-erase : (q : ℕ) → runStarts m q ≡ true
-      → takes l (erasePacket m q) f ≡ first (eraseRows pages l (startOf q) (runLen m q)) (given (record { loader = l; flash = eraseOf f (startOf (pageOf (startOf q))) (runLen m q * 512) }))
+      → loaderTakes l (erasePacket m q) f ≡ first (eraseRows pages l (startOf q) (runLen m q)) (given (record { loader = l; flash = eraseOf f (startOf (pageOf (startOf q))) (runLen m q * pageSize) }))
   takes-erase q h =
       let b = run-below m long q h in
       let n = piece-some (touched m) pages (omega arith) q h in
-      sent-erase pages l f 24 size (omega arith) (serves .condition-is) (startOf q) (omega arith) (runLen m q)
+      sent-erase pages l f answerMost size (omega arith) (serves .condition-is) (startOf q) (omega arith) (runLen m q)
       ∙ erasing-pages pages l (startOf q) (runLen m q) f (serves .sequence-is) (both-false (eqb (runLen m q) 0) _ (ne-eqb (runLen m q) 0 (λ e. omega arith)))
 
   module _ (s : ℕ) (h : pieceStarts m s ≡ true) where
-    pub takes-write : takes l (writePacket image m s) f ≡ first (writeRows pages l s (length (pieceBytes image m s))) (given (record { loader = l; flash = storeOf f s (pieceBytes image m s) }))
+    pub takes-write : loaderTakes l (writePacket image m s) f ≡ first (writeRows pages l s (length (pieceBytes image m s))) (given (record { loader = l; flash = storeOf f s (pieceBytes image m s) }))
     unfolding writing
     takes-write =
         let b = piece-below m long s h in
         let c = piece-carried m long image s right h in
-        sent-write pages l f 24 size (omega arith) (serves .condition-is) s (omega arith) (pieceBytes image m s) (omega (arith, c .0)) (omega (arith, c .0))
+        sent-write pages l f answerMost size (omega arith) (serves .condition-is) s (omega arith) (pieceBytes image m s) (omega (arith, c .0)) (omega (arith, c .0))
 
-    pub takes-verify : takes l (verifyPacket image m s) f ≡ keeping f (first (verifyRows pages l s (map turnedOf (pieceBytes image m s)) f) (given l))
+    pub takes-verify : loaderTakes l (verifyPacket image m s) f ≡ keeping f (first (verifyRows pages l s (map turnedOf (pieceBytes image m s)) f) (given l))
     takes-verify =
         let b = piece-below m long s h in
         let c = piece-carried m long image s right h in
-        sent-verify pages l f 24 size (omega arith) (serves .condition-is) s (omega arith) (pieceBytes image m s) (omega (arith, c .0)) (omega (arith, c .0))
+        sent-verify pages l f answerMost size (omega arith) (serves .condition-is) s (omega arith) (pieceBytes image m s) (omega (arith, c .0)) (omega (arith, c .0))
 
-  pub takes-run : (kind : RunKind) → takes l (runPacket kind) f ≡ keeping f (running l (runAddress kind))
-  takes-run RunKind.Reset = sent-run pages l f 24 size (omega arith) (serves .condition-is) 1 (omega arith)
-  takes-run RunKind.Jump = sent-run pages l f 24 size (omega arith) (serves .condition-is) 0 (omega arith)
+  pub takes-run : (kind : RunKind) → loaderTakes l (runPacket kind) f ≡ keeping f (running l (runAddress kind))
+  takes-run RunKind.Reset = sent-run pages l f answerMost size (omega arith) (serves .condition-is) 1 (omega arith)
+  takes-run RunKind.Jump = sent-run pages l f answerMost size (omega arith) (serves .condition-is) 0 (omega arith)
 
   -- an accepted V says that flash has its piece as the file has it
-  pub verified : Bytes image → (s : ℕ) → pieceStarts m s ≡ true → (e : Effect) → takes l (verifyPacket image m s) f ≡ given e → (a : ℕ) → s ≤ a → a < s + pieceLen m s → getD f a 0 ≡ getD image a 0
+  pub verified : Bytes image → (s : ℕ) → pieceStarts m s ≡ true → (e : Effect) → loaderTakes l (verifyPacket image m s) f ≡ given e → (a : ℕ) → s ≤ a → a < s + pieceLen m s → getD f a 0 ≡ getD image a 0
   verified bytes s h e q a = part-at f image s (pieceLen m s) a same
     where
       told : (x : Answer Loader) → keeping f x ≡ given e → (y : Loader) × (x ≡ given y)

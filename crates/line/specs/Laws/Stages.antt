@@ -7,7 +7,7 @@ use native.Mathlib.Omega.{arith}
 use borrow.Author.Tests.{ltb-true, ltb-false}
 use lib.Dec.{ltb}
 use lib.ListN.{length, getD}
-use Rattle.basis.specs.Board.{pages, flashSize, mapSize}
+use Rattle.basis.specs.Board.{pages, flashSize, mapSize, answerMost, pageSize}
 use Rattle.basis.specs.Choice.{pick}
 use Rattle.basis.specs.Laws.Choice.{decide, true-false}
 use Rattle.basis.specs.Lists.{Bytes}
@@ -16,13 +16,13 @@ use Rattle.basis.specs.Units.{pageOf, startOf}
 use Rattle.image.specs.Laws.Flash.{length-erase, length-store}
 use Rattle.line.specs.Laws.Exchange.{silence-is, acked, standing, over, on-ack, on-last, on-else, on-greeting, on-silence}
 use Rattle.line.specs.Laws.Safety.{Serves, Untouched, erase-untouched, store-untouched, served-by, takes-erase, takes-write, takes-verify, takes-run, verified}
-use Rattle.line.specs.Line.{Moment, begun, takes, servedOf, reply, heard, exchangeOf, momentAt}
+use Rattle.line.specs.Line.{Moment, begun, loaderTakes, delivered, reply, eventIn, exchangeOf, momentAt}
 use Rattle.line.specs.declared.exchange.Loss.{Loss}
-use Rattle.loader.specs.Commands.{Effect, after, verifyRows, running}
+use Rattle.loader.specs.Commands.{Effect, effectAfter, verifyRows, running}
 use Rattle.loader.specs.Laws.Commands.{either-way, judged-does}
 use Rattle.loader.specs.Laws.Host.{sent-opening, kept}
 use Rattle.loader.specs.State.{resetOf, withCondition}
-use Rattle.loader.specs.Take.{answerOf}
+use Rattle.loader.specs.Take.{answerBytes}
 use Rattle.loader.specs.declared.state.Condition.the-variants.{Serving}
 use Rattle.loader.specs.declared.state.Loader.{Loader}
 use Rattle.packet.specs.Turn.{turnedOf}
@@ -32,8 +32,8 @@ use Rattle.session.specs.Laws.Marks.{marked-late, marked-more, all-marked}
 use Rattle.session.specs.Laws.Series.{failing, isAck, ack-or}
 use Rattle.session.specs.Laws.Starts.{piece-carried}
 use Rattle.session.specs.Laws.States.{phase-open}
-use Rattle.session.specs.Laws.Turns.{Turn, erases, writes, verifies, runs, turn}
-use Rattle.session.specs.Phases.{ended, packetOut, verifying, phaseAt, placeOf}
+use Rattle.session.specs.Laws.Out.{Out, erases, writes, verifies, runs, out-after}
+use Rattle.session.specs.Phases.{ended, packetOut, verifyAt, phaseAt, placeOf}
 use Rattle.session.specs.Plan.{total, pieceBytes}
 use Rattle.session.specs.Session.{marked}
 use Rattle.session.specs.declared.event.Event.{Event}
@@ -49,7 +49,7 @@ module _ (image m before : List ℕ) where
     pub stands : (a : ℕ) → marked m k a ≡ true → getD f a 0 ≡ getD image a 0
 
 -- the place that a V is at
-place : (a b : ℕ) → verifying a ≡ verifying b → a ≡ b
+place : (a b : ℕ) → verifyAt a ≡ verifyAt b → a ≡ b
 unfolding placeOf
 place a b e = ap placeOf e
 
@@ -64,11 +64,11 @@ module _ (image m before : List ℕ) (right : length image ≡ flashSize) (long 
 
     -- ---- the loader's step keeps what flash holds
     module _ (k : ℕ) (h : Holds image m before k f) where
-      arrived : Turn m k → Holds image m before k (after l f (takes l (out k) f) .flash)
+      arrived : Out m k → Holds image m before k (effectAfter l f (loaderTakes l (out k) f) .flash)
       arrived (erases q e r b) =
           rw (e, takes-erase image m right long l serves f (h .size) q (r .begins))
           (either-way (λ (x : Effect). Holds image m before k (x .flash)) l f _ _ h
-          (early (omega arith) (length-erase f (startOf (pageOf (startOf q))) (runLen m q * 512) ∙ h .size) (erase-untouched m before f q (h .untouched))))
+          (early (omega arith) (length-erase f (startOf (pageOf (startOf q))) (runLen m q * pageSize) ∙ h .size) (erase-untouched m before f q (h .untouched))))
       arrived (writes a j e r t b) =
           rw (e, takes-write image m right long l serves f (h .size) a (r .begins))
           (either-way (λ (x : Effect). Holds image m before k (x .flash)) l f _ _ h
@@ -78,30 +78,30 @@ module _ (image m before : List ℕ) (right : length image ≡ flashSize) (long 
       arrived (runs e t) =
           rw (e, takes-run image m right long l serves f (h .size) kind, kept l f (running l _)) h
 
-      pub served-holds : k < total m → Holds image m before k (servedOf o l (out k) f .flash)
-      served-holds b = served-by (λ (x : Effect). Holds image m before k (x .flash)) o l (out k) f h (arrived (turn m long k b))
+      pub served-holds : k < total m → Holds image m before k (delivered o l (out k) f .flash)
+      served-holds b = served-by (λ (x : Effect). Holds image m before k (x .flash)) o l (out k) f h (arrived (out-after m long k b))
 
       -- until R it keeps the loader too
-      served-loader : k < runCount m + 2 * pieceCount m → Turn m k → servedOf o l (out k) f .loader ≡ l
+      served-loader : k < runCount m + 2 * pieceCount m → Out m k → delivered o l (out k) f .loader ≡ l
       served-loader b t = served-by (λ (x : Effect). x .loader ≡ l) o l (out k) f refl (go t)
         where
-          go : Turn m k → after l f (takes l (out k) f) .loader ≡ l
+          go : Out m k → effectAfter l f (loaderTakes l (out k) f) .loader ≡ l
           go (erases q e r b) = rw (e, takes-erase image m right long l serves f (h .size) q (r .begins)) (either-way (λ (x : Effect). x .loader ≡ l) l f _ _ refl refl)
           go (writes a j e r t b) = rw (e, takes-write image m right long l serves f (h .size) a (r .begins)) (either-way (λ (x : Effect). x .loader ≡ l) l f _ _ refl refl)
           go (verifies a j e r t b) = rw (e, takes-verify image m right long l serves f (h .size) a (r .begins)) (sym (judged-does l f _ refl .loader-is))
           go (runs e t) = absurd (omega arith)
 
       -- an ACK marks the bytes that an accepted V has shown to stand
-      acked-holds : k < total m → (e : Effect) → takes l (out k) f ≡ given e → Holds image m before (k + 1) (servedOf o l (out k) f .flash)
-      acked-holds b e q = go (turn m long k b)
+      acked-holds : k < total m → (e : Effect) → loaderTakes l (out k) f ≡ given e → Holds image m before (k + 1) (delivered o l (out k) f .flash)
+      acked-holds b e q = go (out-after m long k b)
         where
           g : List ℕ
-          g = servedOf o l (out k) f .flash
+          g = delivered o l (out k) f .flash
 
           hg : Holds image m before k g
           hg = served-holds b
 
-          go : Turn m k → Holds image m before (k + 1) g
+          go : Out m k → Holds image m before (k + 1) g
           go (erases p t r c) = early (omega arith) (hg .size) (hg .untouched)
           go (writes s j t r u c) = early (omega arith) (hg .size) (hg .untouched)
           go (verifies s j t r u c) =
@@ -111,7 +111,7 @@ module _ (image m before : List ℕ) (right : length image ≡ flashSize) (long 
                 stands = λ a n. marked-more m long k a n (hg .stands a)
                     (λ z v. let y : s ≡ z = place s z (sym t ∙ v .phase) in
                     ap (λ (x : List ℕ). getD x a 0) same
-                    ∙ verified image m right long l serves f (h .size) bytes s (r .begins) e (ap (λ (ph : Phase). takes l (packetOut image m kind ph) f) (sym t) ∙ q) a (rw y (v .from)) (rw y (v .below)));
+                    ∙ verified image m right long l serves f (h .size) bytes s (r .begins) e (ap (λ (ph : Phase). loaderTakes l (packetOut image m kind ph) f) (sym t) ∙ q) a (rw y (v .from)) (rw y (v .below)));
               }
             where
               same : g ≡ f
@@ -147,30 +147,30 @@ module _ (image m before : List ℕ) (right : length image ≡ flashSize) (long 
 
     module _ (size : length before ≡ flashSize) where
       abbrev first-served : Loss → Effect
-      first-served o = servedOf o (resetOf l) (0x08 ∷ []) before
+      first-served o = delivered o (resetOf l) (0x08 ∷ []) before
 
       -- the opening byte makes the loader serve, and its answer is the greeting
-      greeted : takes (resetOf l) (0x08 ∷ []) before ≡ given (record { loader = serving; flash = before })
-      greeted = sent-opening pages (resetOf l) before 24 size (omega arith) refl
+      greeted : loaderTakes (resetOf l) (0x08 ∷ []) before ≡ given (record { loader = serving; flash = before })
+      greeted = sent-opening pages (resetOf l) before answerMost size (omega arith) refl
 
       pub first-flash : (o : Loss) → first-served o .flash ≡ before
-      first-flash o = served-by (λ (x : Effect). x .flash ≡ before) o (resetOf l) (0x08 ∷ []) before refl (ap (λ (x : Answer Effect). after (resetOf l) before x .flash) greeted)
+      first-flash o = served-by (λ (x : Effect). x .flash ≡ before) o (resetOf l) (0x08 ∷ []) before refl (ap (λ (x : Answer Effect). effectAfter (resetOf l) before x .flash) greeted)
 
-      silent-stage : (o : Loss) (n : ℕ) → heard (reply o (begun m kind l before)) ≡ Event.Silence → Stage n (exchangeOf image m o (begun m kind l before))
+      silent-stage : (o : Loss) (n : ℕ) → eventIn (reply o (begun m kind l before)) ≡ Event.Silence → Stage n (exchangeOf image m o (begun m kind l before))
       silent-stage o n h =
           let s = on-silence image m right long some kind o l before h in
           ends (first-served o) (s .0) 0 (opening-holds _ (first-flash o) size) (λ e. absurd (true-false (sym (s .1) ∙ ap (λ (u : Outcome). failing u 0) e))) (s .2)
 
       first-stage : (o : Loss) → Stage 1 (exchangeOf image m o (begun m kind l before))
       first-stage Loss.Whole =
-          stands (first-served Loss.Whole) 0 refl (omega arith) (ap (λ (x : Answer Effect). after (resetOf l) before x .loader) greeted) (opening-holds _ (first-flash Loss.Whole) size)
-          (on-greeting image m right long some kind Loss.Whole l before (ap (λ (x : Answer Effect). heard (answerOf (resetOf l) x)) greeted ∙ greeting-heard))
+          stands (first-served Loss.Whole) 0 refl (omega arith) (ap (λ (x : Answer Effect). effectAfter (resetOf l) before x .loader) greeted) (opening-holds _ (first-flash Loss.Whole) size)
+          (on-greeting image m right long some kind Loss.Whole l before (ap (λ (x : Answer Effect). eventIn (answerBytes (resetOf l) x)) greeted ∙ greeting-heard))
       first-stage Loss.Lost = silent-stage Loss.Lost 1 (silence-is [] refl)
       first-stage Loss.Unanswered = silent-stage Loss.Unanswered 1 (silence-is [] refl)
 
       -- ACK goes on or ends valid, all else ends
       next-stage : (o : Loss) (e : Effect) (k : ℕ) → k < total m → e .loader ≡ serving → Holds image m before k (e .flash) → Stage (suc (k + 1)) (exchangeOf image m o (standing image m right long some kind e k))
-      next-stage o e k b s h = ack-or (heard (reply o here)) on-it off-it
+      next-stage o e k b s h = ack-or (eventIn (reply o here)) on-it off-it
         where
           here : Moment
           here = standing image m right long some kind e k
@@ -178,20 +178,20 @@ module _ (image m before : List ℕ) (right : length image ≡ flashSize) (long 
           serves : Serves (e .loader)
           serves = rw s serving-serves
 
-          off-it : isAck (heard (reply o here)) ≡ false → Stage (suc (k + 1)) (exchangeOf image m o here)
+          off-it : isAck (eventIn (reply o here)) ≡ false → Stage (suc (k + 1)) (exchangeOf image m o here)
           off-it t =
               let r = on-else image m right long some kind o e k b t in
               ends _ (r .0) k (served-holds (e .loader) serves o (e .flash) k h b) (λ q. absurd (true-false (sym (r .1) ∙ ap (λ (u : Outcome). failing u k) q))) (r .2)
 
-          on-it : heard (reply o here) ≡ Event.Ack → Stage (suc (k + 1)) (exchangeOf image m o here)
+          on-it : eventIn (reply o here) ≡ Event.Ack → Stage (suc (k + 1)) (exchangeOf image m o here)
           on-it t =
-              let c : (o ≡ Loss.Whole) × (x : Effect) × (takes (e .loader) (out (e .loader) serves o (e .flash) k) (e .flash) ≡ given x) = acked o (e .loader) _ (e .flash) (serves .condition-is) t in
+              let c : (o ≡ Loss.Whole) × (x : Effect) × (loaderTakes (e .loader) (out (e .loader) serves o (e .flash) k) (e .flash) ≡ given x) = acked o (e .loader) _ (e .flash) (serves .condition-is) t in
               let g = acked-holds (e .loader) serves o (e .flash) k h b (c .1) (c .2) in
               decide (ltb (k + 1) (total m))
               (λ d. let n = ltb-true (k + 1) (total m) d in
-              stands _ (k + 1) (omega arith) n (served-loader (e .loader) serves o (e .flash) k h (omega arith) (turn m long k b) ∙ s) g (on-ack image m right long some kind o e k b n t))
+              stands _ (k + 1) (omega arith) n (served-loader (e .loader) serves o (e .flash) k h (omega arith) (out-after m long k b) ∙ s) g (on-ack image m right long some kind o e k b n t))
               (λ d. let n : k + 1 ≡ total m = omega (arith, ltb-false (k + 1) (total m) d) in
-              ends _ Outcome.Valid (total m) (subst (λ (j : ℕ). Holds image m before j (servedOf o (e .loader) (out (e .loader) serves o (e .flash) k) (e .flash) .flash)) n g) (λ q. omega arith) (on-last image m right long some kind o e k b n t))
+              ends _ Outcome.Valid (total m) (subst (λ (j : ℕ). Holds image m before j (delivered o (e .loader) (out (e .loader) serves o (e .flash) k) (e .flash) .flash)) n g) (λ q. omega arith) (on-last image m right long some kind o e k b n t))
 
       -- after any number of exchanges
       pub stage : (losses : ℕ → Loss) (n : ℕ) → Stage n (momentAt image m losses (begun m kind l before) n)

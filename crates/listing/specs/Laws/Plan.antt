@@ -22,14 +22,14 @@ use Rattle.session.specs.Laws.States.{phase-later, greeting-state, ack-next, ac
 use Rattle.session.specs.Laws.Steps.{start-size, start-empty, start-given}
 use Rattle.session.specs.Phases.{atStart, phaseAt, afterOf}
 use Rattle.session.specs.Plan.{plan, total}
-use Rattle.session.specs.Session.{Sent, waiting, stateAt, rightSizes, started, measured, tookOf}
+use Rattle.session.specs.Session.{Sent, atGreeting, stateAt, rightSizes, started, measured, tookOf}
 use Rattle.session.specs.declared.event.Event.{Event}
 use Rattle.session.specs.declared.phase.Phase.{Phase}
 use Rattle.session.specs.declared.phase.RunKind.{RunKind}
 use Rattle.session.specs.declared.session.Next.{Next}
 use Rattle.session.specs.declared.session.Session.{Session}
 use Rattle.listing.specs.Lines.{headLine, stepLine, totalLine}
-use Rattle.listing.specs.Plan.{stepLines, planText, packetAt, phaseBehind, listingAt, Listed, begunOf, longestLine, Page, page, behind, pageOf, pagesOf}
+use Rattle.listing.specs.Plan.{stepLines, planText, packetAt, phaseBehind, listingAt, Listed, listingBy, longestLine, Sheet, sheet, behind, sheetOf, sheets}
 use Rattle.listing.specs.declared.plan.Listing.{Listing}
 
 -- ---- along the plan
@@ -101,7 +101,7 @@ pub record Starts (image m : List ℕ) (room : ℕ) (x : Next) : Type 0 where
   pub mapSize : length m ≡ mapRoom
   pub some : 0 < namedCount m
   pub counted : x .session .total ≡ total m
-  pub begun : begunOf m (started image m room RunKind.Reset) ≡ given (listingAt m 0)
+  pub begun : listingBy m (started image m room RunKind.Reset) ≡ given (listingAt m 0)
 
 pub starts : (image m : List ℕ) (room : ℕ) (x : Next) → given x ≡ measured (started image m room RunKind.Reset) → Starts image m room x
 starts image m room x e =
@@ -111,49 +111,49 @@ starts image m room x e =
     (λ q. absurd (apart (sym (e ∙ ap measured (start-empty image m room RunKind.Reset t (eqb-true _ _ q))))))
     (λ q. let n = eqb-false (namedCount m) 0 q in
     let g = start-given image m room RunKind.Reset t n in
-    let y : x .session ≡ waiting m RunKind.Reset = ap (λ (v : Next). v .session) (given-one (e ∙ ap measured g)) in
-    record { imageSize = z .0; mapSize = z .1; some = omega arith; counted = ap (λ (v : Session). v .total) y; begun = ap (begunOf m) g }))
+    let y : x .session ≡ atGreeting m RunKind.Reset = ap (λ (v : Next). v .session) (given-one (e ∙ ap measured g)) in
+    record { imageSize = z .0; mapSize = z .1; some = omega arith; counted = ap (λ (v : Session). v .total) y; begun = ap (listingBy m) g }))
     (λ t. absurd (apart (sym (e ∙ ap measured (start-size image m room RunKind.Reset t)))))
 
-pub start-refused : (image m : List ℕ) (room k : ℕ) → refused k ≡ measured (started image m room RunKind.Reset) → refused k ≡ begunOf m (started image m room RunKind.Reset)
+pub start-refused : (image m : List ℕ) (room k : ℕ) → refused k ≡ measured (started image m room RunKind.Reset) → refused k ≡ listingBy m (started image m room RunKind.Reset)
 start-refused image m room k e = go (started image m room RunKind.Reset) e
   where
-    go : (a : Answer Sent) → refused k ≡ measured a → refused k ≡ begunOf m a
+    go : (a : Answer Sent) → refused k ≡ measured a → refused k ≡ listingBy m a
     go (refused n) e = ap refused (refused-one e)
     go (given x) e = absurd (apart (e))
 
 -- ---- pages
 
 module _ (room n : ℕ) where
-  pub page-end : pageOf room n [] ≡ page [] n
-  unfolding pageOf
-  page-end = refl
+  pub sheet-end : sheetOf room n [] ≡ sheet [] n
+  unfolding sheetOf
+  sheet-end = refl
 
-  pub page-full : (ps : List (List ℕ)) → room < longestLine → pageOf room n ps ≡ page [] n
-  unfolding pageOf
-  page-full [] h = refl
-  page-full (p ∷ ps) h = rw (lt-ltb room longestLine h)
+  pub sheet-full : (ps : List (List ℕ)) → room < longestLine → sheetOf room n ps ≡ sheet [] n
+  unfolding sheetOf
+  sheet-full [] h = refl
+  sheet-full (p ∷ ps) h = rw (lt-ltb room longestLine h)
 
-  pub page-line : (p : List ℕ) (ps : List (List ℕ)) → longestLine ≤ room → pageOf room n (p ∷ ps) ≡ behind (stepLine (n + 1) p) (pageOf (room - length (stepLine (n + 1) p)) (n + 1) ps)
-  unfolding pageOf
-  page-line p ps h = rw (le-ltb room longestLine h)
+  pub sheet-line : (p : List ℕ) (ps : List (List ℕ)) → longestLine ≤ room → sheetOf room n (p ∷ ps) ≡ behind (stepLine (n + 1) p) (sheetOf (room - length (stepLine (n + 1) p)) (n + 1) ps)
+  unfolding sheetOf
+  sheet-line p ps h = rw (le-ltb room longestLine h)
 
 -- a page lists packets, at least one where there is room, and no more than are left
-pub page-from : (room n : ℕ) (ps : List (List ℕ)) → n ≤ pageOf room n ps .listed
-unfolding pageOf
+pub page-from : (room n : ℕ) (ps : List (List ℕ)) → n ≤ sheetOf room n ps .listed
+unfolding sheetOf
 page-from room n [] = omega arith
 page-from room n (p ∷ ps) =
     decide (ltb room longestLine)
     (λ t. rw t (omega arith))
     (λ t. rw t (omega (arith, page-from (room - length (stepLine (n + 1) p)) (n + 1) ps)))
 
-pub page-moves : (room n : ℕ) (ps : List (List ℕ)) → longestLine ≤ room → 0 < length ps → n < pageOf room n ps .listed
+pub page-moves : (room n : ℕ) (ps : List (List ℕ)) → longestLine ≤ room → 0 < length ps → n < sheetOf room n ps .listed
 page-moves room n [] h l = absurd (omega arith)
 page-moves room n (p ∷ ps) h l =
-    rw (page-line room n p ps h) (omega (arith, page-from (room - length (stepLine (n + 1) p)) (n + 1) ps))
+    rw (sheet-line room n p ps h) (omega (arith, page-from (room - length (stepLine (n + 1) p)) (n + 1) ps))
 
-pub page-within : (room n : ℕ) (ps : List (List ℕ)) → pageOf room n ps .listed ≤ n + length ps
-unfolding pageOf
+pub page-within : (room n : ℕ) (ps : List (List ℕ)) → sheetOf room n ps .listed ≤ n + length ps
+unfolding sheetOf
 page-within room n [] = omega arith
 page-within room n (p ∷ ps) =
     decide (ltb room longestLine)
@@ -161,62 +161,62 @@ page-within room n (p ∷ ps) =
     (λ t. rw t (omega (arith, page-within (room - length (stepLine (n + 1) p)) (n + 1) ps)))
 
 -- pages one after another are the plan's lines: each is followed by the lines of the packets behind it
-pub page-text : (room n : ℕ) (ps : List (List ℕ)) → stepLines n ps ≡ pageOf room n ps .text ++ stepLines (pageOf room n ps .listed) (drop (pageOf room n ps .listed - n) ps)
-unfolding pageOf stepLines
-page-text room n [] = sym (ap (stepLines n) (drop-nil (n - n)))
-page-text room n (p ∷ ps) =
+pub sheet-text : (room n : ℕ) (ps : List (List ℕ)) → stepLines n ps ≡ sheetOf room n ps .text ++ stepLines (sheetOf room n ps .listed) (drop (sheetOf room n ps .listed - n) ps)
+unfolding sheetOf stepLines
+sheet-text room n [] = sym (ap (stepLines n) (drop-nil (n - n)))
+sheet-text room n (p ∷ ps) =
     let z : n - n ≡ 0 = omega arith in
     decide (ltb room longestLine)
     (λ t. rw (t, z))
-    (λ t. let g : Page = pageOf (room - length (stepLine (n + 1) p)) (n + 1) ps in
+    (λ t. let g : Sheet = sheetOf (room - length (stepLine (n + 1) p)) (n + 1) ps in
     let k : g .listed - n ≡ suc (g .listed - (n + 1)) = omega (arith, page-from (room - length (stepLine (n + 1) p)) (n + 1) ps) in
-    rw (t, k, append-assoc) (ap (λ (s : List ℕ). stepLine (n + 1) p ++ s) (page-text (room - length (stepLine (n + 1) p)) (n + 1) ps)))
+    rw (t, k, append-assoc) (ap (λ (s : List ℕ). stepLine (n + 1) p ++ s) (sheet-text (room - length (stepLine (n + 1) p)) (n + 1) ps)))
 
-pages-text : (k room n : ℕ) (ps : List (List ℕ)) → longestLine ≤ room → length ps ≤ k → pagesOf k room n ps ≡ stepLines n ps
-unfolding pagesOf stepLines
+pages-text : (k room n : ℕ) (ps : List (List ℕ)) → longestLine ≤ room → length ps ≤ k → sheets k room n ps ≡ stepLines n ps
+unfolding sheets stepLines
 pages-text zero room n [] h l = refl
 pages-text zero room n (p ∷ ps) h l = absurd (omega arith)
 pages-text (suc k) room n ps h l =
-    let g : Page = pageOf room n ps in
+    let g : Sheet = sheetOf room n ps in
     let f : length (drop (g .listed - n) ps) ≤ k = fewer ps l in
-    ap (λ (s : List ℕ). g .text ++ s) (pages-text k room (g .listed) (drop (g .listed - n) ps) h f) ∙ sym (page-text room n ps)
+    ap (λ (s : List ℕ). g .text ++ s) (pages-text k room (g .listed) (drop (g .listed - n) ps) h f) ∙ sym (sheet-text room n ps)
   where
-    fewer : (ps : List (List ℕ)) → length ps ≤ suc k → length (drop (pageOf room n ps .listed - n) ps) ≤ k
+    fewer : (ps : List (List ℕ)) → length ps ≤ suc k → length (drop (sheetOf room n ps .listed - n) ps) ≤ k
     fewer [] l = rw drop-nil (omega arith)
     fewer (p ∷ ps) l =
         let m = page-moves room n (p ∷ ps) h (omega arith) in
-        omega (arith, length-drop (pageOf room n (p ∷ ps) .listed - n) (p ∷ ps))
+        omega (arith, length-drop (sheetOf room n (p ∷ ps) .listed - n) (p ∷ ps))
 
 -- head line, pages and total line are the plan's text
-pub plan-pages : (image m : List ℕ) (room : ℕ) → longestLine ≤ room → headLine ++ (pagesOf (total m) room 0 (plan image m RunKind.Reset) ++ totalLine (total m)) ≡ planText image m
+pub plan-sheets : (image m : List ℕ) (room : ℕ) → longestLine ≤ room → headLine ++ (sheets (total m) room 0 (plan image m RunKind.Reset) ++ totalLine (total m)) ≡ planText image m
 unfolding planText
-plan-pages image m room h =
+plan-sheets image m room h =
     ap (λ (s : List ℕ). headLine ++ (s ++ totalLine (total m))) (pages-text (total m) room 0 (plan image m RunKind.Reset) h (omega (arith, plan-length image m RunKind.Reset)))
 
 -- ---- a listing goes on
 
-module _ (image m : List ℕ) (l : Listing) (h : Listed image m l) (room : ℕ) (x : Listing) (e : x ≡ listingAt m (pageOf room (l .listed) (drop (l .listed) (plan image m RunKind.Reset)) .listed)) where
+module _ (image m : List ℕ) (l : Listing) (h : Listed image m l) (room : ℕ) (x : Listing) (e : x ≡ listingAt m (sheetOf room (l .listed) (drop (l .listed) (plan image m RunKind.Reset)) .listed)) where
   abbrev rest : List (List ℕ)
   rest = drop (l .listed) (plan image m RunKind.Reset)
 
   rest-length : l .listed + length rest ≡ total m
   rest-length = omega (arith, length-drop (l .listed) (plan image m RunKind.Reset), plan-length image m RunKind.Reset, h .within)
 
-  pub page-listed : Listed image m x
-  page-listed =
-      let n : x .listed ≡ pageOf room (l .listed) rest .listed = ap (λ (y : Listing). y .listed) e in
+  pub sheet-listed : Listed image m x
+  sheet-listed =
+      let n : x .listed ≡ sheetOf room (l .listed) rest .listed = ap (λ (y : Listing). y .listed) e in
       record { imageSize = h .imageSize; mapSize = h .mapSize; some = h .some; stands = e ∙ ap (listingAt m) (sym n); within = omega (arith, page-within room (l .listed) rest, rest-length) }
 
   pub page-falls : longestLine ≤ room → l .listed < l .total → x .total - x .listed < l .total - l .listed
   page-falls r s =
-      let n : x .listed ≡ pageOf room (l .listed) rest .listed = ap (λ (y : Listing). y .listed) e in
+      let n : x .listed ≡ sheetOf room (l .listed) rest .listed = ap (λ (y : Listing). y .listed) e in
       omega (arith, n, ap (λ (y : Listing). y .total) e, listed-total image m l h, page-moves room (l .listed) rest r (omega (arith, rest-length, listed-total image m l h)), page-within room (l .listed) rest, rest-length)
 
 -- what a start that is not refused gives
-pub begun-listed : (image m : List ℕ) (room : ℕ) (l : Listing) → given l ≡ begunOf m (started image m room RunKind.Reset) → Listed image m l
+pub begun-listed : (image m : List ℕ) (room : ℕ) (l : Listing) → given l ≡ listingBy m (started image m room RunKind.Reset) → Listed image m l
 begun-listed image m room l e = go (started image m room RunKind.Reset) refl e
   where
-    go : (a : Answer Sent) → started image m room RunKind.Reset ≡ a → given l ≡ begunOf m a → Listed image m l
+    go : (a : Answer Sent) → started image m room RunKind.Reset ≡ a → given l ≡ listingBy m a → Listed image m l
     go (refused k) q f = absurd (apart (sym f))
     go (given y) q f =
         let s = starts image m room (record { session = y .session; len = length (y .packet) }) (sym (ap measured q)) in

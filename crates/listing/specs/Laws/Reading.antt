@@ -18,7 +18,7 @@ use Rattle.image.specs.Hex.{closeOf as closing}
 use Rattle.image.specs.declared.hex.Hex.{Hex}
 use Rattle.listing.specs.Text.{Result, result, trimmedOf, linesFrom, onward, readFrom, readIn}
 use Rattle.listing.specs.Text.{shutBy as verdictBy}
-use Rattle.listing.specs.Feed.{Fed, fed, started, stopped, going, nextLine, took, withKept, keepOneOf, byteOf, feedOf, lastOf, shutBy, shutOf, shutFed, closeOf, verdictOf, fedResult}
+use Rattle.listing.specs.Feed.{Fed, fed, started, stopped, going, nextLine, took, withKept, keepOneOf, byteOf, feedOf, lastOf, shutBy, shutOf, shutFed, closeOf, endedOf, fedResult}
 use Rattle.listing.specs.Laws.Feed.{byte-ends, byte-kept, keep-more, keep-none}
 use Rattle.listing.specs.declared.text.Text.{Text}
 
@@ -106,7 +106,7 @@ held-none t line e = rw e (omega arith, sym (take-nil (length line)))
 
 -- ---- whole texts
 
-verdict-shut : (t : Text) (a : Answer Hex) → verdictOf (shutBy t a) ≡ verdictBy a
+verdict-shut : (t : Text) (a : Answer Hex) → endedOf (shutBy t a) ≡ verdictBy a
 verdict-shut t (refused k) = refl
 verdict-shut t (given h) = refl
 

@@ -8,12 +8,12 @@ use lib.ListN.{getD, replicate}
 use Rattle.basis.specs.Board.{pages}
 use Rattle.basis.specs.Laws.Computed.{all}
 use Rattle.basis.specs.Refusals.{Answer, refused, given, first}
-use Rattle.basis.specs.Sums.{total, sumOf}
+use Rattle.basis.specs.Sums.{plainSum, sumOf}
 use Rattle.image.specs.Flash.{stored}
 use Rattle.loader.specs.Commands.{Effect, eraseRows, erasing, writeRows, writing, verifyRows, obeyOf}
 use Rattle.loader.specs.Protection.{anyOf}
 use Rattle.loader.specs.State.{factoryOf, withCondition}
-use Rattle.loader.specs.Verify.{sameOf}
+use Rattle.loader.specs.Verify.{equalsOf}
 use Rattle.loader.specs.declared.state.Condition.the-variants.{Serving}
 use Rattle.loader.specs.declared.state.Loader.{Loader}
 use Rattle.packet.specs.Packet.{packet, rows, tabledOf, Parts, readOf}
@@ -63,7 +63,7 @@ cases =
     -- E at 0x01FF count 1 erases page 0, and no more
     ∷ eqb (getD firstErased 0 0) 0xFF
     ∷ eqb (getD firstErased 511 0) 0xFF
-    ∷ eqb (total firstErased) (512 * 0xFF)
+    ∷ eqb (plainSum firstErased) (512 * 0xFF)
     -- E at 0xF600 count 1 is accepted, count 2 is 7; count 0 at address 1 is 7
     ∷ eqb (number (erased 0xF600 1 [])) 0
     ∷ eqb (number (erased 0xF600 2 [])) 7
@@ -79,5 +79,5 @@ cases =
     ∷ []
 
 pub paper-cases : all cases ≡ true
-unfolding first packet sumOf total stored eraseRows erasing writeRows writing verifyRows obeyOf anyOf sameOf rows tabledOf readOf
+unfolding first packet sumOf plainSum stored eraseRows erasing writeRows writing verifyRows obeyOf anyOf equalsOf rows tabledOf readOf
 paper-cases = refl

@@ -12,18 +12,19 @@ use Rattle.basis.specs.Laws.Refusals.{skip, stop, done, passed}
 use Rattle.basis.specs.Refusals.{Answer, refused, given, Rule, _when_, first}
 use Rattle.basis.specs.Units.{pageOf, startOf}
 use Rattle.image.specs.Flash.{eraseOf}
-use Rattle.loader.specs.Commands.{Effect, after, Turns, Does, protectedPages, protectedBytes, massErase, eraseRows, erasing, writeRows, writing, verifyRows, protecting, running, keeping, obeyOf}
+use Rattle.loader.specs.Commands.{Effect, effectAfter, Changes, Does, protectedPages, protectedBytes, massErase, eraseRows, erasing, writeRows, writing, verifyRows, protecting, running, keeping, obeyOf}
 use Rattle.loader.specs.State.{withCondition, clearedOf}
-use Rattle.loader.specs.Verify.{sameOf}
+use Rattle.loader.specs.Verify.{equalsOf}
 use Rattle.loader.specs.declared.state.Condition.the-variants.{Left}
 use Rattle.loader.specs.declared.state.Loader.{Loader}
+use Rattle.basis.specs.Board.{pageSize}
 
 -- what a function that obeys shows, by its two ways out
-pub stays : {x : Answer Loader} {n : ℕ} (l : Loader) → x ≡ refused n → Turns x l (refused n) l
+pub stays : {x : Answer Loader} {n : ℕ} (l : Loader) → x ≡ refused n → Changes x l (refused n) l
 stays l e = rw e (record { verdict-is = refl; loader-is = refl })
 
-pub turns : {x : Answer Loader} {m next : Loader} (l : Loader) → x ≡ given m → next ≡ m → Turns x l (given tt) next
-turns l e f = rw e (record { verdict-is = refl; loader-is = f })
+pub changes : {x : Answer Loader} {m next : Loader} (l : Loader) → x ≡ given m → next ≡ m → Changes x l (given tt) next
+changes l e f = rw e (record { verdict-is = refl; loader-is = f })
 
 pub leaves-all : {x : Answer Effect} {n : ℕ} (l : Loader) (f : List ℕ) → x ≡ refused n → Does x l f (refused n) l f
 leaves-all l f e = rw e (record { verdict-is = refl; loader-is = refl; flash-is = refl })
@@ -32,12 +33,12 @@ pub does : {x : Answer Effect} {e : Effect} {v : Answer (Unit {0})} {next : Load
 does l f e v p q = rw e (record { verdict-is = v; loader-is = p; flash-is = q })
 
 -- what holds of loader and flash as they were and as the command leaves them holds after it, whatever its table says
-pub either-way : (P : Effect → Type 0) (l : Loader) (f : List ℕ) (e : Effect) (t : List Rule) → P (record { loader = l; flash = f }) → P e → P (after l f (first t (given e)))
+pub either-way : (P : Effect → Type 0) (l : Loader) (f : List ℕ) (e : Effect) (t : List Rule) → P (record { loader = l; flash = f }) → P e → P (effectAfter l f (first t (given e)))
 unfolding first
 either-way P l f e [] p q = q
 either-way P l f e (r ∷ t) p q = go (r .holds) (either-way P l f e t p q)
   where
-    go : (b : Bool) → P (after l f (first t (given e))) → P (after l f (pick b (refused (r .number)) (first t (given e))))
+    go : (b : Bool) → P (effectAfter l f (first t (given e))) → P (effectAfter l f (pick b (refused (r .number)) (first t (given e))))
     go true h = p
     go false h = h
 
@@ -87,7 +88,7 @@ module _ (k : ℕ) (l : Loader) (a n : ℕ) (f : List ℕ) where
     unfolding erasing
     erasing-mass h = skip 9 _ _ _ p ∙ done _ ∙ simp h
 
-    pub erasing-pages : massErase a n ≡ false → erasing k l a n f ≡ first (eraseRows k l a n) (given (record { loader = l; flash = eraseOf f (startOf (pageOf a)) (n * 512) }))
+    pub erasing-pages : massErase a n ≡ false → erasing k l a n f ≡ first (eraseRows k l a n) (given (record { loader = l; flash = eraseOf f (startOf (pageOf a)) (n * pageSize) }))
     unfolding erasing
     erasing-pages h = skip 9 _ _ _ p ∙ done _ ∙ simp h
 
@@ -122,9 +123,9 @@ write-let k l a x r e =
 
 module _ (l : Loader) (f : List ℕ) where
   -- what turns the loader alone
-  pub turned-does : (x : Answer Loader) {v : Answer (Unit {0})} {next : Loader} → Turns x l v next → Does (keeping f x) l f v next f
-  turned-does (refused n) t = record { verdict-is = t .verdict-is; loader-is = t .loader-is; flash-is = refl }
-  turned-does (given m) t = record { verdict-is = t .verdict-is; loader-is = t .loader-is; flash-is = refl }
+  pub changed-does : (x : Answer Loader) {v : Answer (Unit {0})} {next : Loader} → Changes x l v next → Does (keeping f x) l f v next f
+  changed-does (refused n) t = record { verdict-is = t .verdict-is; loader-is = t .loader-is; flash-is = refl }
+  changed-does (given m) t = record { verdict-is = t .verdict-is; loader-is = t .loader-is; flash-is = refl }
 
   -- what turns nothing: the table decides
   pub judged-does : (t : List Rule) {v : Answer (Unit {0})} → v ≡ first t (given tt) → Does (keeping f (first t (given l))) l f v l f
@@ -162,11 +163,11 @@ module _ (k : ℕ) (l : Loader) (a : ℕ) (d f : List ℕ) where
 -- ---- V: let through exactly when no sequence is open, the range lies in flash, reading is free and the bytes are equal
 
 module _ {A : Type 0} (k : ℕ) (l : Loader) (a : ℕ) (d f : List ℕ) (r : Answer A) where
-  pub verify-passes : l .sequence .opened ≡ false → a + length d ≤ startOf k → l .protection .read ≡ false → sameOf f a d ≡ true → first (verifyRows k l a d f) r ≡ r
+  pub verify-passes : l .sequence .opened ≡ false → a + length d ≤ startOf k → l .protection .read ≡ false → equalsOf f a d ≡ true → first (verifyRows k l a d f) r ≡ r
   unfolding verifyRows
   verify-passes p q s t = skip 9 _ _ r p ∙ skip 7 _ _ r (le-ltb _ _ q) ∙ skip 8 _ _ r s ∙ skip 10 _ _ r (ap not t) ∙ done r
 
-  pub verify-let : {y : A} → first (verifyRows k l a d f) r ≡ given y → (a + length d ≤ startOf k) × (sameOf f a d ≡ true)
+  pub verify-let : {y : A} → first (verifyRows k l a d f) r ≡ given y → (a + length d ≤ startOf k) × (equalsOf f a d ≡ true)
   unfolding verifyRows
   verify-let e =
       let p = passed 9 _ _ _ e in

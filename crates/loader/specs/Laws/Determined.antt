@@ -11,21 +11,21 @@ use Rattle.loader.specs.Paper.{paperRefusal, paperVerdict}
 use Rattle.loader.specs.Take.{Takes}
 use Rattle.loader.specs.declared.state.Loader.{Loader}
 use Rattle.loader.specs.declared.verdict.Refusal.{Refusal}
-use Rattle.loader.specs.declared.verdict.Refusal.the-variants.{Size, Closed, Unread, Sequence, Address, Protected, Differs}
+use Rattle.loader.specs.declared.verdict.Refusal.the-variants.{Size, Unheard, Unread, Sequence, Address, Protected, Differs}
 use Rattle.loader.specs.declared.verdict.Verdict.{Verdict}
 use Rattle.loader.specs.declared.verdict.Verdict.the-variants.{Accepted, Refused}
-use Rattle.packet.specs.Laws.Determined.{refusalBy}
+use Rattle.packet.specs.Laws.Determined.{refusalBy as unreadBy}
 use Rattle.packet.specs.declared.table.Refusal.the-variants as unread
 
 -- the refusal of a number
-refusalOf : ℕ → Refusal
-refusalOf n =
-    pick (eqb n 20) Size (pick (eqb n 11) Closed (pick (eqb n 9) Sequence (pick (eqb n 7) Address (pick (eqb n 8) Protected (pick (eqb n 10) Differs (Unread (refusalBy n)))))))
+refusalBy : ℕ → Refusal
+refusalBy n =
+    pick (eqb n 20) Size (pick (eqb n 11) Unheard (pick (eqb n 9) Sequence (pick (eqb n 7) Address (pick (eqb n 8) Protected (pick (eqb n 10) Differs (Unread (unreadBy n)))))))
 
-back : (x : Refusal) → refusalOf (paperRefusal x) ≡ x
-unfolding refusalOf refusalBy
+back : (x : Refusal) → refusalBy (paperRefusal x) ≡ x
+unfolding refusalBy unreadBy
 back Size = refl
-back Closed = refl
+back Unheard = refl
 back (Unread unread.Start) = refl
 back (Unread unread.Length) = refl
 back (Unread unread.Count) = refl
@@ -41,7 +41,7 @@ verdict-one : (v w : Verdict) → paperVerdict v ≡ paperVerdict w → v ≡ w
 verdict-one Accepted Accepted e = refl
 verdict-one Accepted (Refused y) e = absurd (apart (sym e))
 verdict-one (Refused x) Accepted e = absurd (apart e)
-verdict-one (Refused x) (Refused y) e = ap Refused (sym (back x) ∙ ap refusalOf (refused-one e) ∙ back y)
+verdict-one (Refused x) (Refused y) e = ap Refused (sym (back x) ∙ ap refusalBy (refused-one e) ∙ back y)
 
 pub take-determined : {x : Answer Effect} {l : Loader} {f old : List ℕ} (v w : Verdict) (m n : Loader) (i j : ℕ) (g h a b : List ℕ)
     → Takes x l f old (paperVerdict v) m i g a → Takes x l f old (paperVerdict w) n j h b → (v ≡ w) × (m ≡ n) × (i ≡ j) × (g ≡ h) × (a ≡ b)

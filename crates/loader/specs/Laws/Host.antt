@@ -9,18 +9,19 @@ use lib.ListN.{length, getD, take, drop}
 use Rattle.basis.specs.Choice.{pick, both, either}
 use Rattle.basis.specs.Refusals.{Answer, refused, given, first}
 use Rattle.basis.specs.Units.{startOf}
-use Rattle.loader.specs.Commands.{after, keeping, erasing, writing, verifyRows, protecting, running, obeyOf}
+use Rattle.loader.specs.Commands.{effectAfter, keeping, erasing, writing, verifyRows, protecting, running, obeyOf}
 use Rattle.loader.specs.Laws.Commands.{obey-erase, obey-write, obey-verify, obey-run}
 use Rattle.loader.specs.Laws.Take.{heard-waiting, heard-serving, served-packet, take-heard}
 use Rattle.loader.specs.State.{withCondition}
-use Rattle.loader.specs.Take.{waiting, left, opens, obeyed, servedOf, heardOf, takeOf}
+use Rattle.loader.specs.Take.{waiting, left, opens, obeyed, serveOf, hearOf, takeOf}
 use Rattle.loader.specs.declared.state.Condition.the-variants.{Waiting, Serving}
 use Rattle.loader.specs.declared.state.Loader.{Loader}
 use Rattle.packet.specs.Laws.Packet.{packet-data, carried-plainly, read-erase, read-write, read-verify, read-run}
-use Rattle.packet.specs.Packet.{carriedOf, packet, Parts, said, readOf}
+use Rattle.packet.specs.Packet.{carriedOf, packet, Parts, said, readOf, dataMost}
 use Rattle.packet.specs.Turn.{turnedOf}
+use Rattle.basis.specs.Board.{answerMost}
 
-module _ (k : ℕ) (l : Loader) (f : List ℕ) (room : ℕ) (size : length f ≡ startOf k) (fits : 24 ≤ room) where
+module _ (k : ℕ) (l : Loader) (f : List ℕ) (room : ℕ) (size : length f ≡ startOf k) (fits : answerMost ≤ room) where
   -- the opening byte
   pub sent-opening : l .condition ≡ Waiting → takeOf k l (0x08 ∷ []) f room ≡ given (record { loader = withCondition l Serving; flash = f })
   sent-opening c = take-heard k l (0x08 ∷ []) f room size fits ∙ heard-waiting k l (0x08 ∷ []) f c refl
@@ -37,35 +38,35 @@ module _ (k : ℕ) (l : Loader) (f : List ℕ) (room : ℕ) (size : length f ≡
       pub sent-erase : (n : ℕ) → takeOf k l (packet 0x45 a (n ∷ [])) f room ≡ erasing k l a n f
       sent-erase n = sent 0x45 a (n ∷ []) (read-erase a h n) ∙ obey-erase k l a (n ∷ []) f
 
-      pub sent-write : (d : List ℕ) → 0 < length d → length d ≤ 250 → takeOf k l (packet 0x57 a d) f room ≡ writing k l a d f
+      pub sent-write : (d : List ℕ) → 0 < length d → length d ≤ dataMost → takeOf k l (packet 0x57 a d) f room ≡ writing k l a d f
       sent-write d p q = sent 0x57 a d (read-write a h d p q) ∙ obey-write k l a (map (carriedOf 0x57) d) f ∙ ap (λ (s : List ℕ). writing k l a s f) (carried-plainly 0x57 d refl)
 
-      pub sent-verify : (d : List ℕ) → 0 < length d → length d ≤ 250 → takeOf k l (packet 0x56 a d) f room ≡ keeping f (first (verifyRows k l a (map turnedOf d) f) (given l))
+      pub sent-verify : (d : List ℕ) → 0 < length d → length d ≤ dataMost → takeOf k l (packet 0x56 a d) f room ≡ keeping f (first (verifyRows k l a (map turnedOf d) f) (given l))
       sent-verify d p q = sent 0x56 a d (read-verify a h d p q) ∙ obey-verify k l a (map (carriedOf 0x56) d) f
 
       pub sent-run : takeOf k l (packet 0x52 a []) f room ≡ keeping f (running l a)
       sent-run = sent 0x52 a [] (read-run a h) ∙ obey-run k l a [] f
 
 -- V, P and R never change flash
-pub kept : (l : Loader) (f : List ℕ) (x : Answer Loader) → after l f (keeping f x) .flash ≡ f
+pub kept : (l : Loader) (f : List ℕ) (x : Answer Loader) → effectAfter l f (keeping f x) .flash ≡ f
 kept l f (refused n) = refl
 kept l f (given m) = refl
 
-pub flash-kept : (k : ℕ) (l : Loader) (c a : ℕ) (d f : List ℕ) → (c ≡ 0x45 → ⊥) → (c ≡ 0x57 → ⊥) → after l f (obeyOf k l c a d f) .flash ≡ f
+pub flash-kept : (k : ℕ) (l : Loader) (c a : ℕ) (d f : List ℕ) → (c ≡ 0x45 → ⊥) → (c ≡ 0x57 → ⊥) → effectAfter l f (obeyOf k l c a d f) .flash ≡ f
 unfolding obeyOf
 flash-kept k l c a d f e w = rw (ne-eqb c 0x45 e, ne-eqb c 0x57 w) (go (eqb c 0x56) (eqb c 0x50))
   where
-    go : (v p : Bool) → after l f (pick v (keeping f (first (verifyRows k l a d f) (given l))) (pick p (keeping f (protecting k l a (getD d 0 0))) (keeping f (running l a)))) .flash ≡ f
+    go : (v p : Bool) → effectAfter l f (pick v (keeping f (first (verifyRows k l a d f) (given l))) (pick p (keeping f (protecting k l a (getD d 0 0))) (keeping f (running l a)))) .flash ≡ f
     go true p = kept l f (first (verifyRows k l a d f) (given l))
     go false true = kept l f (protecting k l a (getD d 0 0))
     go false false = kept l f (running l a)
 
 -- so only a packet of E or W changes it
-pub flash-by : (k : ℕ) (l : Loader) (s f : List ℕ) (room : ℕ) → ((p : Parts) → readOf s ≡ given p → (p .command ≡ 0x45 → ⊥) × (p .command ≡ 0x57 → ⊥)) → after l f (takeOf k l s f room) .flash ≡ f
-unfolding takeOf heardOf servedOf first
-flash-by k l s f room h = go (either (not (eqb (length f) (startOf k))) (ltb room 24)) (either (left (l .condition)) (both (waiting (l .condition)) (not (opens s)))) (waiting (l .condition)) (readOf s) refl
+pub flash-by : (k : ℕ) (l : Loader) (s f : List ℕ) (room : ℕ) → ((p : Parts) → readOf s ≡ given p → (p .command ≡ 0x45 → ⊥) × (p .command ≡ 0x57 → ⊥)) → effectAfter l f (takeOf k l s f room) .flash ≡ f
+unfolding takeOf hearOf serveOf first
+flash-by k l s f room h = go (either (not (eqb (length f) (startOf k))) (ltb room answerMost)) (either (left (l .condition)) (both (waiting (l .condition)) (not (opens s)))) (waiting (l .condition)) (readOf s) refl
   where
-    go : (a b w : Bool) (r : Answer Parts) → readOf s ≡ r → after l f (pick a (refused 20) (pick b (refused 11) (pick w (given (record { loader = withCondition l Serving; flash = f })) (obeyed k l s f r)))) .flash ≡ f
+    go : (a b w : Bool) (r : Answer Parts) → readOf s ≡ r → effectAfter l f (pick a (refused 20) (pick b (refused 11) (pick w (given (record { loader = withCondition l Serving; flash = f })) (obeyed k l s f r)))) .flash ≡ f
     go true b w r e = refl
     go false true w r e = refl
     go false false true r e = refl

@@ -15,13 +15,14 @@ use Rattle.basis.specs.Laws.Choice.{decide, true-false, either-first, either-fa
 use Rattle.basis.specs.Laws.Refusals.{skip, stop, done}
 use Rattle.basis.specs.Refusals.{Answer, refused, given, Rule, first}
 use Rattle.basis.specs.Units.{groupOf, pageGroupOf}
-use Rattle.loader.specs.Commands.{Effect, protectedPages, protectedBytes, massErase, eraseRows, erasing, writeRows, writing, verifyRows, opening, addedOf, adding, closing, protecting, running, keeping, obeyOf, loaderAfter, after}
+use Rattle.loader.specs.Commands.{Effect, protectedPages, protectedBytes, massErase, eraseRows, erasing, writeRows, writing, verifyRows, opening, addedOf, adding, closing, protecting, running, keeping, obeyOf, loaderAfter, effectAfter}
 use Rattle.loader.specs.Laws.Commands.{either-way, erasing-open, erasing-pages}
 use Rattle.loader.specs.Protection.{none, joinOf, anyOf}
 use Rattle.loader.specs.State.{withCondition, withAdded, joinedOf}
 use Rattle.loader.specs.declared.protection.Protection.{Protection}
 use Rattle.loader.specs.declared.state.Condition.the-variants.{Left}
 use Rattle.loader.specs.declared.state.Loader.{Loader}
+use Rattle.basis.specs.Board.{groupSize}
 
 -- none of n groups from g on is protected
 pub any-none : (s g n : ℕ) → anyOf s g n ≡ false → (j : ℕ) → j < n → bit s (g + j) ≡ false
@@ -50,10 +51,10 @@ module _ (p : Protection) where
 
   pub free-bytes : (a e : ℕ) → a < e → ((b : ℕ) → a ≤ b → b < e → bit (p .groups) (groupOf b) ≡ false) → protectedBytes p a e ≡ false
   free-bytes a e h free =
-      none-any (p .groups) (groupOf a) (groupOf (e + 0x7FF) - groupOf a)
-      (λ n l. decide (leb a (0x800 * (groupOf a + n)))
-      (λ t. subst (λ (x : ℕ). bit (p .groups) x ≡ false) (omega (arith, leb-true a (0x800 * (groupOf a + n)) t)) (free (0x800 * (groupOf a + n)) (leb-true a (0x800 * (groupOf a + n)) t) (omega arith)))
-      (λ t. subst (λ (x : ℕ). bit (p .groups) x ≡ false) (omega (arith, leb-false a (0x800 * (groupOf a + n)) t)) (free a (omega arith) h)))
+      none-any (p .groups) (groupOf a) (groupOf (e + (groupSize - 1)) - groupOf a)
+      (λ n l. decide (leb a (groupSize * (groupOf a + n)))
+      (λ t. subst (λ (x : ℕ). bit (p .groups) x ≡ false) (omega (arith, leb-true a (groupSize * (groupOf a + n)) t)) (free (groupSize * (groupOf a + n)) (leb-true a (groupSize * (groupOf a + n)) t) (omega arith)))
+      (λ t. subst (λ (x : ℕ). bit (p .groups) x ≡ false) (omega (arith, leb-false a (groupSize * (groupOf a + n)) t)) (free a (omega arith) h)))
 
 -- what a join protects
 pub join-groups : (p q : Protection) (g : ℕ) → bit (joinOf p q .groups) g ≡ either (bit (p .groups) g) (bit (q .groups) g)
@@ -71,7 +72,7 @@ held see l m (r ∷ t) e = go (r .holds) (held see l m t e)
     go true h = refl
     go false h = h
 
-kept : (l : Loader) (f : List ℕ) (x : Answer Loader) → after l f (keeping f x) .loader ≡ loaderAfter l x
+kept : (l : Loader) (f : List ℕ) (x : Answer Loader) → effectAfter l f (keeping f x) .loader ≡ loaderAfter l x
 kept l f (refused n) = refl
 kept l f (given m) = refl
 
@@ -79,7 +80,7 @@ abbrev force : Loader → Protection
 force l = l .protection
 
 module _ (k : ℕ) (l : Loader) (a : ℕ) where
-  erase-keeps : (n : ℕ) (f : List ℕ) → massErase a n ≡ false → force (after l f (erasing k l a n f) .loader) ≡ force l
+  erase-keeps : (n : ℕ) (f : List ℕ) → massErase a n ≡ false → force (effectAfter l f (erasing k l a n f) .loader) ≡ force l
   erase-keeps n f e =
       decide (l .sequence .opened)
       (λ p. rw (erasing-open k l a n f p))
@@ -96,7 +97,7 @@ module _ (k : ℕ) (l : Loader) (a : ℕ) where
 
   -- it changes by a mass erase and by a P of type 0x01, and by nothing else
   pub force-kept : (c : ℕ) (d f : List ℕ) → (c ≡ 0x45 → massErase a (getD d 0 0) ≡ false) → (c ≡ 0x50 → either (eqb (getD d 0 0) 0x00) (eqb (getD d 0 0) 0x0F) ≡ true)
-      → force (after l f (obeyOf k l c a d f) .loader) ≡ force l
+      → force (effectAfter l f (obeyOf k l c a d f) .loader) ≡ force l
   unfolding obeyOf writing running
   force-kept c d f e p =
       decide (eqb c 0x45) (λ t. rw t (erase-keeps (getD d 0 0) f (e (eqb-true c 0x45 t))))

@@ -12,36 +12,37 @@ use Rattle.basis.specs.Refusals.{refused, given}
 use Rattle.basis.specs.Units.{startOf}
 use Rattle.loader.specs.Commands.{obeyOf}
 use Rattle.loader.specs.State.{withCondition}
-use Rattle.loader.specs.Take.{opens, servedOf, heardOf, takeOf}
+use Rattle.loader.specs.Take.{opens, serveOf, hearOf, takeOf}
 use Rattle.loader.specs.declared.state.Condition.the-variants.{Waiting, Serving, Left}
 use Rattle.loader.specs.declared.state.Loader.{Loader}
 use Rattle.packet.specs.Packet.{Parts, readOf}
+use Rattle.basis.specs.Board.{answerMost}
 
 module _ (k : ℕ) (l : Loader) (s f : List ℕ) where
   -- ---- by condition
-  pub heard-waiting : l .condition ≡ Waiting → opens s ≡ true → heardOf k l s f ≡ given (record { loader = withCondition l Serving; flash = f })
-  unfolding heardOf
+  pub heard-waiting : l .condition ≡ Waiting → opens s ≡ true → hearOf k l s f ≡ given (record { loader = withCondition l Serving; flash = f })
+  unfolding hearOf
   heard-waiting c o = rw c (skip 11 _ _ _ (ap not o) ∙ done _)
 
-  pub heard-closed : l .condition ≡ Waiting → opens s ≡ false → heardOf k l s f ≡ refused 11
-  unfolding heardOf
+  pub heard-closed : l .condition ≡ Waiting → opens s ≡ false → hearOf k l s f ≡ refused 11
+  unfolding hearOf
   heard-closed c o = rw c (stop 11 _ _ _ (ap not o))
 
-  pub heard-serving : l .condition ≡ Serving → heardOf k l s f ≡ servedOf k l s f
-  unfolding heardOf
+  pub heard-serving : l .condition ≡ Serving → hearOf k l s f ≡ serveOf k l s f
+  unfolding hearOf
   heard-serving c = rw c (skip 11 _ _ _ refl ∙ done _)
 
-  pub heard-left : l .condition ≡ Left → heardOf k l s f ≡ refused 11
-  unfolding heardOf
+  pub heard-left : l .condition ≡ Left → hearOf k l s f ≡ refused 11
+  unfolding hearOf
   heard-left c = rw c (stop 11 _ _ _ refl)
 
   -- ---- by what is read
-  pub served-unread : {n : ℕ} → readOf s ≡ refused n → servedOf k l s f ≡ refused n
-  unfolding servedOf
+  pub served-unread : {n : ℕ} → readOf s ≡ refused n → serveOf k l s f ≡ refused n
+  unfolding serveOf
   served-unread e = rw e
 
-  pub served-packet : (p : Parts) → readOf s ≡ given p → servedOf k l s f ≡ obeyOf k l (p .command) (p .address) (take (p .size) (drop (p .place) s)) f
-  unfolding servedOf
+  pub served-packet : (p : Parts) → readOf s ≡ given p → serveOf k l s f ≡ obeyOf k l (p .command) (p .address) (take (p .size) (drop (p .place) s)) f
+  unfolding serveOf
   served-packet p e = rw e
 
   -- ---- by size
@@ -50,10 +51,10 @@ module _ (k : ℕ) (l : Loader) (s f : List ℕ) where
     unfolding takeOf
     take-size h = stop 20 _ _ _ (either-first (not (eqb (length f) (startOf k))) _ (ap not (ne-eqb _ _ h)))
 
-    pub take-small : room < 24 → takeOf k l s f room ≡ refused 20
+    pub take-small : room < answerMost → takeOf k l s f room ≡ refused 20
     unfolding takeOf
-    take-small h = stop 20 _ _ _ (either-second (not (eqb (length f) (startOf k))) _ (lt-ltb room 24 h))
+    take-small h = stop 20 _ _ _ (either-second (not (eqb (length f) (startOf k))) _ (lt-ltb room answerMost h))
 
-    pub take-heard : length f ≡ startOf k → 24 ≤ room → takeOf k l s f room ≡ heardOf k l s f
+    pub take-heard : length f ≡ startOf k → answerMost ≤ room → takeOf k l s f room ≡ hearOf k l s f
     unfolding takeOf
-    take-heard e h = skip 20 _ _ _ (either-false (not (eqb (length f) (startOf k))) _ (ap not (eq-eqb _ _ e)) (le-ltb room 24 h)) ∙ done _
+    take-heard e h = skip 20 _ _ _ (either-false (not (eqb (length f) (startOf k))) _ (ap not (eq-eqb _ _ e)) (le-ltb room answerMost h)) ∙ done _

@@ -15,7 +15,7 @@ use Rattle.basis.specs.Laws.Sums.{sum-closed}
 use Rattle.basis.specs.Refusals.{refused, given, first}
 use Rattle.basis.specs.Sums.{sumOf}
 use Rattle.packet.specs.Laws.Table.{table-passes, table-holds, kind-counts}
-use Rattle.packet.specs.Packet.{carriedOf, summed, packet, buildOf, count, command, kind, joined, Parts, parts, said, startsRight, rows, tabledOf, readOf}
+use Rattle.packet.specs.Packet.{carriedOf, summed, packet, buildOf, count, command, kind, joined, Parts, parts, said, startsRight, rows, tabledOf, readOf, packetMost, dataMost}
 use Rattle.packet.specs.Table.{listed, dataCount, inShape, table}
 
 pub packet-length : (c a : ℕ) (d : List ℕ) → length (packet c a d) ≡ length d + 9
@@ -30,11 +30,11 @@ packet-command c a d = refl
 -- ---- building
 
 module _ (room c a : ℕ) (d : List ℕ) where
-  pub build-small : room < 259 → buildOf room c a d ≡ refused 20
+  pub build-small : room < packetMost → buildOf room c a d ≡ refused 20
   unfolding buildOf
   build-small h = stop _ _ _ _ (lt-ltb _ _ h)
 
-  pub build-table : 259 ≤ room → buildOf room c a d ≡ first (table c (length d + 5) (getD d 0 0)) (given (packet c a d))
+  pub build-table : packetMost ≤ room → buildOf room c a d ≡ first (table c (length d + 5) (getD d 0 0)) (given (packet c a d))
   unfolding buildOf
   build-table h = skip _ _ _ _ (le-ltb _ _ h)
 
@@ -68,7 +68,7 @@ packet-parts c a d h =
     let m : length d + 5 - 5 ≡ length d = omega arith in
     λ i. record { command = c; address = e i; place = 8; size = m i }
 
-data-fits : (d : List ℕ) → 0 < length d → length d ≤ 250 → dataCount (length d + 5) ≡ true
+data-fits : (d : List ℕ) → 0 < length d → length d ≤ dataMost → dataCount (length d + 5) ≡ true
 data-fits d l m = both-second (leb 6 (length d + 5)) (leb (length d + 5) 255) (le-leb 6 (length d + 5) (omega arith)) ∙ le-leb (length d + 5) 255 (omega arith)
 
 -- what stands in the table reads back
@@ -91,10 +91,10 @@ module _ (a : ℕ) (h : a < 2 ^ 32) where
   pub read-erase : (n : ℕ) → readOf (packet 0x45 a (n ∷ [])) ≡ given (said 0x45 a (n ∷ []))
   read-erase n = read-packet 0x45 a (n ∷ []) h refl refl
 
-  pub read-write : (d : List ℕ) → 0 < length d → length d ≤ 250 → readOf (packet 0x57 a d) ≡ given (said 0x57 a d)
+  pub read-write : (d : List ℕ) → 0 < length d → length d ≤ dataMost → readOf (packet 0x57 a d) ≡ given (said 0x57 a d)
   read-write d l m = read-packet 0x57 a d h refl (data-fits d l m)
 
-  pub read-verify : (d : List ℕ) → 0 < length d → length d ≤ 250 → readOf (packet 0x56 a d) ≡ given (said 0x56 a d)
+  pub read-verify : (d : List ℕ) → 0 < length d → length d ≤ dataMost → readOf (packet 0x56 a d) ≡ given (said 0x56 a d)
   read-verify d l m = read-packet 0x56 a d h refl (data-fits d l m)
 
   pub read-run : readOf (packet 0x52 a []) ≡ given (said 0x52 a [])

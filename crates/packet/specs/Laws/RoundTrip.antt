@@ -19,7 +19,7 @@ use Rattle.basis.specs.Sums.{sumOf, checksumOf}
 use Rattle.packet.specs.Laws.Packet.{packet-data, build-table, read-packet, Accepted, accepted}
 use Rattle.packet.specs.Laws.Table.{table-passes, table-holds, kind-counts}
 use Rattle.packet.specs.Laws.Turn.{restored-turned, turned-restored, undone}
-use Rattle.packet.specs.Packet.{addressBytes, carriedOf, plain, summed, packet, buildOf, count, command, kind, joined, address, Parts, parts, said, dataOf, readOf}
+use Rattle.packet.specs.Packet.{addressBytes, carriedOf, plain, summed, packet, buildOf, count, command, kind, joined, address, Parts, parts, said, plainData, readOf, packetMost}
 use Rattle.packet.specs.Table.{inShape}
 use Rattle.packet.specs.Turn.{turnedOf, restoredOf}
 
@@ -39,10 +39,10 @@ carried-plain c b h = go (eqb c 0x56)
     go false = refl
 
 -- what the builder accepts, the reader reads back to the same command, address and data
-pub read-built : (room c a : ℕ) (d s : List ℕ) → Bytes d → a < 2 ^ 32 → buildOf room c a d ≡ given s → (readOf s ≡ given (said c a d)) × (dataOf (said c a d) s ≡ d)
+pub read-built : (room c a : ℕ) (d s : List ℕ) → Bytes d → a < 2 ^ 32 → buildOf room c a d ≡ given s → (readOf s ≡ given (said c a d)) × (plainData (said c a d) s ≡ d)
 unfolding buildOf
 read-built room c a d s b h e =
-    let p = passed 20 (ltb room 259) _ _ e in
+    let p = passed 20 (ltb room packetMost) _ _ e in
     let t = table-holds c (length d + 5) (getD d 0 0) (given (packet c a d)) (p .1) in
     let q : packet c a d ≡ s = cc (t .2) in
     rw (← q) (read-packet c a d h (t .0) (t .1), rw packet-data (undone (plain c) (carriedOf c) (plain-carried c) d b))
@@ -79,11 +79,11 @@ module _ (s : List ℕ) (p : Parts) (b : Bytes s) (r : Accepted s p) where
   unfolding body
   body-length = length-take-le (count s - 5) (drop 8 s) (simp length-drop (omega arith))
 
-  body-plain : map (carriedOf (command s)) (dataOf (parts s) s) ≡ body
+  body-plain : map (carriedOf (command s)) (plainData (parts s) s) ≡ body
   unfolding body
   body-plain = undone (carriedOf (command s)) (plain (command s)) (carried-plain (command s)) body (bytes-take (count s - 5) (drop 8 s) (bytes-drop 8 s b))
 
-  data-length : length (dataOf (parts s) s) + 5 ≡ count s
+  data-length : length (plainData (parts s) s) + 5 ≡ count s
   unfolding body
   data-length = simp length-map (omega (arith, body-length))
 
@@ -101,7 +101,7 @@ module _ (s : List ℕ) (p : Parts) (b : Bytes s) (r : Accepted s p) where
   middle : List ℕ
   middle = count s ∷ command s ∷ getD s 4 0 ∷ getD s 5 0 ∷ getD s 6 0 ∷ getD s 7 0 ∷ body
 
-  middle-summed : summed (command s) (address s) (dataOf (parts s) s) ≡ middle
+  middle-summed : summed (command s) (address s) (plainData (parts s) s) ≡ middle
   unfolding middle
   middle-summed =
       let f = bytes-back (getD s 4 0) (getD s 5 0) (getD s 6 0) (getD s 7 0) (b 4) (b 5) (b 6) (b 7) in
@@ -120,7 +120,7 @@ module _ (s : List ℕ) (p : Parts) (b : Bytes s) (r : Accepted s p) where
   unfolding last
   last-checksum = checksum-only middle last (bytes-drop 8 s b (count s - 5)) (sym (ap (λ (l : List ℕ). sumOf (drop 2 l)) in-order) ∙ r .zero)
 
-  pub whole : packet (command s) (address s) (dataOf (parts s) s) ≡ s
+  pub whole : packet (command s) (address s) (plainData (parts s) s) ≡ s
   unfolding packet
   whole =
       ap (λ (l : List ℕ). 0x07 ∷ 0x0E ∷ l ++ (checksumOf l ∷ [])) middle-summed
@@ -133,11 +133,11 @@ one-plain c n [] ec en = rw (ec, en)
 one-plain c n (x ∷ l) ec en = rw (ec, en)
 
 -- what the reader accepts is, byte for byte, what the builder writes for what it names
-pub built-read : (room : ℕ) (s : List ℕ) (p : Parts) → Bytes s → 259 ≤ room → readOf s ≡ given p → buildOf room (p .command) (p .address) (dataOf p s) ≡ given s
+pub built-read : (room : ℕ) (s : List ℕ) (p : Parts) → Bytes s → packetMost ≤ room → readOf s ≡ given p → buildOf room (p .command) (p .address) (plainData p s) ≡ given s
 built-read room s p b h e =
     let r = accepted s p e in
     let c = command s in
-    let d = dataOf (parts s) s in
+    let d = plainData (parts s) s in
     let t : inShape c (length d + 5) (getD d 0 0) ≡ true =
     rw (data-length s p b r)
     (kind-counts c (count s) (kind s) (getD d 0 0) (λ ec en. sym (getD-drop 8 s 0 0) ∙ one-plain c (count s) (drop 8 s) ec en) (r .shape)) in

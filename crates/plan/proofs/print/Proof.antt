@@ -4,7 +4,7 @@ use mathlib.Core.Path.{refl, sym, ap, _∙_, _≡_}
 use native.Mathlib.Omega.{arith}
 use borrow.Author.Needs.{needs}
 use lib.ListN.{length}
-use Rattle.listing.specs.Laws.Plan.{begun-listed, page-listed, page-falls}
+use Rattle.listing.specs.Laws.Plan.{begun-listed, sheet-listed, page-falls}
 use Rattle.listing.specs.Plan.{paperBegun, Listed}
 use Rattle.plan.proofs.print.Statement.{statement}
 use Rattle.plan.proofs.print.Tie as tie
@@ -42,8 +42,8 @@ returns-2 c = search needs
 loop-holds : tie.Need-loop-holds Inv-loop μ-loop
 loop-holds c = (refl, begun-listed _ _ _ _ (sym (ap paperBegun (c .before .before .before .before .before .before .before .before .first .given .1)) ∙ c .before .before .before .before .before .before .before .before .before .before .start .ensures))
 
-page-requires : tie.Need-page-requires Inv-loop μ-loop
-page-requires c κs = search needs
+sheet-requires : tie.Need-sheet-requires Inv-loop μ-loop
+sheet-requires c κs = search needs
 
 put-requires-2 : tie.Need-put-requires-2 Inv-loop μ-loop
 put-requires-2 c κs = search needs
@@ -55,10 +55,10 @@ returns-3 : tie.Need-returns-3 Inv-loop μ-loop
 returns-3 c = search needs
 
 loop-less : tie.Need-loop-less Inv-loop μ-loop
-loop-less c = page-falls _ _ _ (c .before .before .before .before .before .before .before .before .before .before .loop .inv .1) _ _ (c .before .before .before .before .before .before .page .ensures .0) (omega (arith, c .before .before .before .before .before .before .before .before .before .before .loop .inv .0, c .before .before .before .before .before .before .before .before .before .before .before .before .before .before .before .before .head-line .kept .0, c .before .before .before .before .before .before .before .before .before .before .before .before .before .before .before .before .before .before .before .before .before .before .before .before .before .pre)) (c .before .before .before .before .before .before .before .before .if2 .taken)
+loop-less c = page-falls _ _ _ (c .before .before .before .before .before .before .before .before .before .before .loop .inv .1) _ _ (c .before .before .before .before .before .before .sheet .ensures .0) (omega (arith, c .before .before .before .before .before .before .before .before .before .before .loop .inv .0, c .before .before .before .before .before .before .before .before .before .before .before .before .before .before .before .before .head-line .kept .0, c .before .before .before .before .before .before .before .before .before .before .before .before .before .before .before .before .before .before .before .before .before .before .before .before .before .pre)) (c .before .before .before .before .before .before .before .before .if2 .taken)
 
 loop-again : tie.Need-loop-again Inv-loop μ-loop
-loop-again c = (omega (arith, c .before .before .before .before .before .before .before .before .before .before .loop .inv .0, c .before .before .before .before .before .before .page .kept .1 .1 .1 .0), page-listed _ _ _ (c .before .before .before .before .before .before .before .before .before .before .loop .inv .1) _ _ (c .before .before .before .before .before .before .page .ensures .0))
+loop-again c = (omega (arith, c .before .before .before .before .before .before .before .before .before .before .loop .inv .0, c .before .before .before .before .before .before .sheet .kept .1 .1 .1 .0), sheet-listed _ _ _ (c .before .before .before .before .before .before .before .before .before .before .loop .inv .1) _ _ (c .before .before .before .before .before .before .sheet .ensures .0))
 
 total-line-requires : tie.Need-total-line-requires Inv-loop μ-loop
 total-line-requires c κs = search needs
@@ -87,7 +87,7 @@ print-spec =
     same-length
     returns-2
     loop-holds
-    page-requires
+    sheet-requires
     put-requires-2
     same-length-2
     returns-3

@@ -15,22 +15,23 @@ use Rattle.runs.specs.Runs.{count, len, next}
 use Rattle.runs.specs.Laws.Map.{named-past}
 use Rattle.runs.specs.Laws.Runs.{count-skip, count-mono, rank-below, next-ge, next-pass, next-skip}
 use Rattle.runs.specs.Laws.Pieces.{piece-passes}
+use Rattle.basis.specs.Board.{pageSize}
 
 module _ (m : List ℕ) where
   -- a touched page holds a named byte
   pub touched-some : (q : ℕ) → touched m q ≡ true → (a : ℕ) × (named m a ≡ true) × (startOf q ≤ a) × (a < startOf (q + 1))
   unfolding touched
   touched-some q h =
-      let l = ltb-true (next (named m) (startOf q) 512) (startOf (q + 1)) h in
-      (next (named m) (startOf q) 512, next-pass (named m) 512 (startOf q) (omega arith), next-ge (named m) 512 (startOf q), l)
+      let l = ltb-true (next (named m) (startOf q) pageSize) (startOf (q + 1)) h in
+      (next (named m) (startOf q) pageSize, next-pass (named m) pageSize (startOf q) (omega arith), next-ge (named m) pageSize (startOf q), l)
 
   -- and a page that holds one is touched
   some-touched : (q a : ℕ) → named m a ≡ true → startOf q ≤ a → a < startOf (q + 1) → touched m q ≡ true
   unfolding touched
   some-touched q a t g l =
-      decide (ltb (next (named m) (startOf q) 512) (startOf (q + 1)))
+      decide (ltb (next (named m) (startOf q) pageSize) (startOf (q + 1)))
       (λ d. d)
-      (λ d. absurd (true-false (sym t ∙ next-skip (named m) 512 (startOf q) a g (omega (arith, ltb-false (next (named m) (startOf q) 512) (startOf (q + 1)) d)))))
+      (λ d. absurd (true-false (sym t ∙ next-skip (named m) pageSize (startOf q) a g (omega (arith, ltb-false (next (named m) (startOf q) pageSize) (startOf (q + 1)) d)))))
 
   pub named-touched : (a : ℕ) → named m a ≡ true → touched m (pageOf a) ≡ true
   named-touched a t = some-touched (pageOf a) a t (omega arith) (omega arith)
@@ -57,6 +58,6 @@ module _ (m : List ℕ) where
 
       none : touched m q ≡ false → touched m q ≡ ltb (count (named m) (startOf q)) (count (named m) (startOf (q + 1)))
       none t =
-          let e : startOf (q + 1) ≡ startOf q + 512 = omega arith in
-          let k = count-skip (named m) (startOf q) 512 (λ i g l. decide (named m i) (λ n. absurd (true-false (sym (some-touched q i n g (omega arith)) ∙ t))) (λ n. n)) in
+          let e : startOf (q + 1) ≡ startOf q + pageSize = omega arith in
+          let k = count-skip (named m) (startOf q) pageSize (λ i g l. decide (named m i) (λ n. absurd (true-false (sym (some-touched q i n g (omega arith)) ∙ t))) (λ n. n)) in
           t ∙ sym (le-ltb (count (named m) (startOf q)) (count (named m) (startOf (q + 1))) (rw e (omega arith)))

@@ -26,7 +26,7 @@ use Rattle.session.specs.declared.phase.RunKind.{RunKind}
 use Rattle.session.specs.declared.session.Session.{Session}
 use Rattle.service_log.specs.Laws.FalseRecords.{valid, greeted, ungreeted}
 use Rattle.service_log.specs.Laws.Log.{write-given, read-given}
-use Rattle.service_log.specs.Log.{known, isFalseOf, outcomeIn, twoBytes, fitTwo, recordBytes, writeOf, recordIn, pairAt, readOf}
+use Rattle.service_log.specs.Log.{known, isFalseOf, outcomeIn, twoBytes, fitTwo, recordBytes, writeOf, recordAt, pairAt, readOf}
 use Rattle.service_log.specs.declared.read.Record.{Record}
 
 -- ---- what is written reads back
@@ -76,7 +76,7 @@ read-valid s r e o =
     let p₃ = passed _ _ _ _ (p₂ .1) in
     let p₄ = passed _ _ _ _ (p₃ .1) in
     let p₅ = passed _ _ _ _ (p₄ .1) in
-    let g : recordIn s ≡ r = given-one (sym (done _) ∙ p₅ .1) in
+    let g : recordAt s ≡ r = given-one (sym (done _) ∙ p₅ .1) in
     let z : getD s 3 0 ≡ 0 = ap (λ (x : Record). x .outcome) g ∙ o in
     sym (ap (λ (x : Record). x .acknowledged) g) ∙ valid-whole (pairAt s 4) (pairAt s 6) (pairAt s 8) (rw z at (p₅ .0)) ∙ ap (λ (x : Record). x .total) g
 

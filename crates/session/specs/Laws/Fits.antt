@@ -10,26 +10,27 @@ use Rattle.basis.specs.Board.{flashSize, mapSize}
 use Rattle.basis.specs.Laws.Choice.{both-true}
 use Rattle.runs.specs.Pieces.{namedCount}
 use Rattle.session.specs.Laws.Phases.{after-start}
-use Rattle.session.specs.Phases.{atStart, standsOf}
+use Rattle.session.specs.Phases.{atStart, standsIn}
 use Rattle.session.specs.Plan.{total}
 use Rattle.session.specs.Session.{rightSizes, judgeOf, heardOf, tookOf, fitsOf}
 use Rattle.session.specs.declared.event.Event.{Event}
 use Rattle.session.specs.declared.session.Session.{Session}
-use Rattle.session.specs.declared.session.Verdict.{Verdict}
+use Rattle.session.specs.declared.session.Meaning.{Meaning}
+use Rattle.packet.specs.Packet.{packetMost}
 
 -- what right sizes are
-pub sizes-right : (i m p : ℕ) → rightSizes i m p ≡ true → (i ≡ flashSize) × (m ≡ mapSize) × (259 ≤ p)
+pub sizes-right : (i m p : ℕ) → rightSizes i m p ≡ true → (i ≡ flashSize) × (m ≡ mapSize) × (packetMost ≤ p)
 sizes-right i m p e =
     let a = both-true (eqb i flashSize) _ e in
-    let b = both-true (eqb m mapSize) (leb 259 p) (a .1) in
-    (eqb-true i flashSize (a .0), eqb-true m mapSize (b .0), leb-true 259 p (b .1))
+    let b = both-true (eqb m mapSize) (leb packetMost p) (a .1) in
+    (eqb-true i flashSize (a .0), eqb-true m mapSize (b .0), leb-true packetMost p (b .1))
 
 -- the file has a named byte, the session's counts are the file's, and its phase stands in the file
 pub record Fitting (m : List ℕ) (s : Session) : Type 0 where
   pub some : 0 < namedCount m
   pub named-is : s .named ≡ namedCount m
   pub total-is : s .total ≡ total m
-  pub stands : standsOf m (s .phase) (s .acknowledged) ≡ true
+  pub stands : standsIn m (s .phase) (s .acknowledged) ≡ true
 
 pub fitting : (m : List ℕ) (s : Session) → fitsOf m s ≡ true → Fitting m s
 unfolding fitsOf
@@ -52,7 +53,7 @@ took-start m long s e h = go (judgeOf (s .phase) e)
     f : Fitting m s
     f = fitting m s h
 
-    go : (v : Verdict) → atStart m (heardOf m s v .phase) ≡ true
-    go Verdict.Greeted = after-start m long (f .some) (s .phase) (s .acknowledged) (f .stands)
-    go Verdict.Acknowledged = after-start m long (f .some) (s .phase) (s .acknowledged) (f .stands)
-    go (Verdict.Over o) = refl
+    go : (v : Meaning) → atStart m (heardOf m s v .phase) ≡ true
+    go Meaning.Greeted = after-start m long (f .some) (s .phase) (s .acknowledged) (f .stands)
+    go Meaning.Acknowledged = after-start m long (f .some) (s .phase) (s .acknowledged) (f .stands)
+    go (Meaning.Over o) = refl

@@ -21,7 +21,7 @@ use Rattle.session.specs.Laws.Fits.{fitting}
 use Rattle.session.specs.Laws.Phases.{ranked-is, ranked-by, stands-below, stands-at, at-stands}
 use Rattle.session.specs.Laws.Plan.{plan-at}
 use Rattle.session.specs.Laws.States.{stands-run}
-use Rattle.session.specs.Phases.{packetOut, verifying, phaseAt, standsOf}
+use Rattle.session.specs.Phases.{packetOut, verifyAt, phaseAt, standsIn}
 use Rattle.session.specs.Plan.{verifyPacket, plan, total}
 use Rattle.session.specs.Session.{fitsOf, marked, provedOf}
 use Rattle.session.specs.declared.phase.Phase.{Phase}
@@ -31,16 +31,16 @@ use Rattle.session.specs.declared.session.Session.{Session}
 -- the packet after j acknowledgements is the V of the piece at s, which holds the byte at a
 pub record Held (m : List ℕ) (j s a : ℕ) : Type 0 where
   pub planned : j < total m
-  pub phase : phaseAt m j ≡ verifying s
+  pub phase : phaseAt m j ≡ verifyAt s
   pub from : s ≤ a
   pub below : a < s + pieceLen m s
 
 module _ (m : List ℕ) where
   -- the ACK to it marks the byte
   pub held-marked : (j k s a : ℕ) → Held m j s a → j < k → marked m k a ≡ true
-  unfolding marked standsOf
+  unfolding marked standsIn
   held-marked j k s a h l =
-      let t = ranked-is (pieceStarts m) (runCount m + pieceCount m) s j (sym (ap (λ (ph : Phase). standsOf m ph j) (h .phase)) ∙ at-stands m j (h .planned)) in
+      let t = ranked-is (pieceStarts m) (runCount m + pieceCount m) s j (sym (ap (λ (ph : Phase). standsIn m ph j) (h .phase)) ∙ at-stands m j (h .planned)) in
       let r : runCount m + pieceCount m + count (pieceStarts m) (a + 1) ≤ k = omega (arith, rank-in (named m) pieceMost s a (t .0) (h .from) (h .below)) in
       both-second _ _ (piece-passes (named m) pieceMost s a (h .from) (h .below)) ∙ le-leb _ _ r
 
@@ -59,15 +59,15 @@ module _ (m : List ℕ) where
 module _ (m : List ℕ) (long : length m ≡ mapSize) where
   -- every named byte is in the piece of one V of the plan, behind every E and W
   pub named-held : (a : ℕ) → named m a ≡ true → (j : ℕ) × (s : ℕ) × (Held m j s a) × (j + 1 ≡ runCount m + pieceCount m + count (pieceStarts m) (a + 1))
-  unfolding standsOf
+  unfolding standsIn
   named-held a t =
       let i = in-piece (named m) pieceMost (omega arith) a t in
       let s : ℕ = home (named m) pieceMost a in
       let j : ℕ = runCount m + pieceCount m + count (pieceStarts m) s in
-      let h : standsOf m (verifying s) j ≡ true = ranked-by (pieceStarts m) (runCount m + pieceCount m) s j (i .0) refl in (
+      let h : standsIn m (verifyAt s) j ≡ true = ranked-by (pieceStarts m) (runCount m + pieceCount m) s j (i .0) refl in (
         j,
         s,
-        record { planned = stands-below m long (verifying s) j h; phase = sym (stands-at m long (verifying s) j refl h); from = i .1; below = i .2 },
+        record { planned = stands-below m long (verifyAt s) j h; phase = sym (stands-at m long (verifyAt s) j refl h); from = i .1; below = i .2 },
         omega (arith, rank-in (named m) pieceMost s a (i .0) (i .1) (i .2)),
       )
 
@@ -93,7 +93,7 @@ module _ (m : List ℕ) (long : length m ≡ mapSize) where
   pub run-marked : (s : Session) (a : ℕ) → fitsOf m s ≡ true → s .phase ≡ Phase.Run → marked m (s .acknowledged) a ≡ named m a
   run-marked s a h e =
       all-marked (s .acknowledged) a
-      (omega (arith, stands-run m (s .acknowledged) (sym (ap (λ (ph : Phase). standsOf m ph (s .acknowledged)) e) ∙ fitting m s h .stands)))
+      (omega (arith, stands-run m (s .acknowledged) (sym (ap (λ (ph : Phase). standsIn m ph (s .acknowledged)) e) ∙ fitting m s h .stands)))
 
   -- in the plan's own terms
   pub named-verified : (image : List ℕ) (kind : RunKind) (a : ℕ) (d : List ℕ) → named m a ≡ true

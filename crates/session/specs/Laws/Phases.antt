@@ -17,7 +17,7 @@ use Rattle.runs.specs.Pages.{touched}
 use Rattle.runs.specs.Pieces.{pieceMost, pieceStarts, runStarts, runCount, pieceCount, namedCount}
 use Rattle.runs.specs.Runs.{count, starts, next, select, follow}
 use Rattle.session.specs.Laws.Starts.{run-below, piece-below, first-piece-below, first-run-below}
-use Rattle.session.specs.Phases.{erasing, writing, verifying, phaseAt, lowestPiece, nextRun, nextPiece, afterOf, atStart, ranked, standsOf}
+use Rattle.session.specs.Phases.{eraseAt, writeAt, verifyAt, phaseAt, lowestPiece, nextRun, nextPiece, afterOf, atStart, ranked, standsIn}
 use Rattle.session.specs.Plan.{total}
 use Rattle.session.specs.declared.phase.Phase.{Phase}
 
@@ -61,8 +61,8 @@ module _ (m : List ℕ) (long : length m ≡ mapSize) where
       omega (arith, rank-below (pieceStarts m) flashSize a (piece-below m long a (t .0)) (t .0))
 
   -- fewer packets are acknowledged than there are
-  pub stands-below : (ph : Phase) (k : ℕ) → standsOf m ph k ≡ true → k < total m
-  unfolding standsOf
+  pub stands-below : (ph : Phase) (k : ℕ) → standsIn m ph k ≡ true → k < total m
+  unfolding standsIn
   stands-below Phase.Greeting k h = omega (arith, eqb-true k 0 h)
   stands-below (Phase.Erase p) k h = omega (arith, run-rank (p .0) k h)
   stands-below (Phase.Write a) k h = omega (arith, piece-rank (runCount m) (a .0) k h)
@@ -71,8 +71,8 @@ module _ (m : List ℕ) (long : length m ≡ mapSize) where
   stands-below (Phase.Ended o) k h = absurd (true-false (sym h))
 
   -- the cursor stands at a start
-  pub stands-start : (ph : Phase) (k : ℕ) → standsOf m ph k ≡ true → atStart m ph ≡ true
-  unfolding standsOf
+  pub stands-start : (ph : Phase) (k : ℕ) → standsIn m ph k ≡ true → atStart m ph ≡ true
+  unfolding standsIn
   stands-start Phase.Greeting k h = refl
   stands-start (Phase.Erase p) k h = ranked-is (runStarts m) 0 (p .0) k h .0
   stands-start (Phase.Write a) k h = ranked-is (pieceStarts m) (runCount m) (a .0) k h .0
@@ -91,20 +91,20 @@ greeted (Phase.Ended o) = true
 
 module _ (m : List ℕ) (long : length m ≡ mapSize) where
   -- a phase that stands after k acknowledgements is the one after k
-  pub stands-at : (ph : Phase) (k : ℕ) → greeted ph ≡ true → standsOf m ph k ≡ true → ph ≡ phaseAt m k
-  unfolding phaseAt standsOf
+  pub stands-at : (ph : Phase) (k : ℕ) → greeted ph ≡ true → standsIn m ph k ≡ true → ph ≡ phaseAt m k
+  unfolding phaseAt standsIn
   stands-at Phase.Greeting k g h = absurd (true-false (sym g))
   stands-at (Phase.Erase p) k g h =
       let t = ranked-is (runStarts m) 0 (p .0) k h in
       let c : count (runStarts m) (p .0) ≡ k = omega arith in
       rw (lt-ltb _ _ (run-rank m long (p .0) k h))
-      (ap erasing (sym (select-at (runStarts m) pages (p .0) (run-below m long (p .0) (t .0)) (t .0)) ∙ ap (λ (x : ℕ). select (runStarts m) x pages) c))
+      (ap eraseAt (sym (select-at (runStarts m) pages (p .0) (run-below m long (p .0) (t .0)) (t .0)) ∙ ap (λ (x : ℕ). select (runStarts m) x pages) c))
   stands-at (Phase.Write a) k g h =
       let t = ranked-is (pieceStarts m) (runCount m) (a .0) k h in
       let c : count (pieceStarts m) (a .0) ≡ k - runCount m = omega arith in
       let d : runCount m ≤ k = omega arith in
       rw (le-ltb _ _ d, lt-ltb _ _ (piece-rank m long (runCount m) (a .0) k h))
-      (ap writing (sym (select-at (pieceStarts m) flashSize (a .0) (piece-below m long (a .0) (t .0)) (t .0)) ∙ ap (λ (x : ℕ). select (pieceStarts m) x flashSize) c))
+      (ap writeAt (sym (select-at (pieceStarts m) flashSize (a .0) (piece-below m long (a .0) (t .0)) (t .0)) ∙ ap (λ (x : ℕ). select (pieceStarts m) x flashSize) c))
   stands-at (Phase.Verify a) k g h =
       let t = ranked-is (pieceStarts m) (runCount m + pieceCount m) (a .0) k h in
       let c : count (pieceStarts m) (a .0) ≡ k - (runCount m + pieceCount m) = omega arith in
@@ -112,7 +112,7 @@ module _ (m : List ℕ) (long : length m ≡ mapSize) where
       let d : runCount m ≤ k = omega arith in
       let f : runCount m + pieceCount m ≤ k = omega arith in
       rw (le-ltb _ _ d, le-ltb _ _ f, lt-ltb _ _ b)
-      (ap verifying (sym (select-at (pieceStarts m) flashSize (a .0) (piece-below m long (a .0) (t .0)) (t .0)) ∙ ap (λ (x : ℕ). select (pieceStarts m) x flashSize) c))
+      (ap verifyAt (sym (select-at (pieceStarts m) flashSize (a .0) (piece-below m long (a .0) (t .0)) (t .0)) ∙ ap (λ (x : ℕ). select (pieceStarts m) x flashSize) c))
   stands-at Phase.Run k g h =
       let e : runCount m + 2 * pieceCount m ≡ k = eqb-true _ _ h in
       let d : runCount m ≤ k = omega arith in
@@ -122,8 +122,8 @@ module _ (m : List ℕ) (long : length m ≡ mapSize) where
   stands-at (Phase.Ended o) k g h = absurd (true-false (sym h))
 
 -- and the phase after k stands after k
-pub at-stands : (m : List ℕ) (k : ℕ) → k < total m → standsOf m (phaseAt m k) k ≡ true
-unfolding phaseAt standsOf
+pub at-stands : (m : List ℕ) (k : ℕ) → k < total m → standsIn m (phaseAt m k) k ≡ true
+unfolding phaseAt standsIn
 at-stands m k l =
     decide (ltb k (runCount m))
     (λ d. let s = select-kth (runStarts m) pages k (ltb-true _ _ d) in rw d (ranked-by (runStarts m) 0 _ k (s .passes) (omega (arith, s .rank))))
@@ -143,12 +143,12 @@ module _ (m : List ℕ) (long : length m ≡ mapSize) (some : 0 < namedCount m) 
   first-piece-ranked : (base : ℕ) → ranked (pieceStarts m) base (lowestPiece m) base ≡ true
   first-piece-ranked base = first-ranked (named m) pieceMost flashSize (omega arith) (bytes-past m long) base (first-piece-below m long some)
 
-  pub greeting-stands : standsOf m (afterOf m Phase.Greeting) 0 ≡ true
-  unfolding afterOf standsOf
+  pub greeting-stands : standsIn m (afterOf m Phase.Greeting) 0 ≡ true
+  unfolding afterOf standsIn
   greeting-stands = first-ranked (touched m) pages pages (omega arith) (pages-past m long) 0 (first-run-below m long some)
 
-  pub erase-stands : (q k : ℕ) → standsOf m (erasing q) k ≡ true → standsOf m (afterOf m (erasing q)) (k + 1) ≡ true
-  unfolding afterOf standsOf
+  pub erase-stands : (q k : ℕ) → standsIn m (eraseAt q) k ≡ true → standsIn m (afterOf m (eraseAt q)) (k + 1) ≡ true
+  unfolding afterOf standsIn
   erase-stands q k h =
       decide (ltb (nextRun m q) pages)
       (λ d. rw d (follow-ranked (touched m) pages pages (omega arith) (pages-past m long) 0 q k h (ltb-true _ _ d)))
@@ -156,8 +156,8 @@ module _ (m : List ℕ) (long : length m ≡ mapSize) (some : 0 < namedCount m) 
       (omega (arith, follow-last (touched m) pages pages (omega arith) (pages-past m long) 0 q k h (ltb-false _ _ d)))
       (first-piece-ranked (runCount m))))
 
-  pub write-stands : (a k : ℕ) → standsOf m (writing a) k ≡ true → standsOf m (afterOf m (writing a)) (k + 1) ≡ true
-  unfolding afterOf standsOf
+  pub write-stands : (a k : ℕ) → standsIn m (writeAt a) k ≡ true → standsIn m (afterOf m (writeAt a)) (k + 1) ≡ true
+  unfolding afterOf standsIn
   write-stands a k h =
       decide (ltb (nextPiece m a) flashSize)
       (λ d. rw d (follow-ranked (named m) pieceMost flashSize (omega arith) (bytes-past m long) (runCount m) a k h (ltb-true _ _ d)))
@@ -165,8 +165,8 @@ module _ (m : List ℕ) (long : length m ≡ mapSize) (some : 0 < namedCount m) 
       (follow-last (named m) pieceMost flashSize (omega arith) (bytes-past m long) (runCount m) a k h (ltb-false _ _ d))
       (first-piece-ranked (runCount m + pieceCount m))))
 
-  pub verify-stands : (a k : ℕ) → standsOf m (verifying a) k ≡ true → standsOf m (afterOf m (verifying a)) (k + 1) ≡ true
-  unfolding afterOf standsOf
+  pub verify-stands : (a k : ℕ) → standsIn m (verifyAt a) k ≡ true → standsIn m (afterOf m (verifyAt a)) (k + 1) ≡ true
+  unfolding afterOf standsIn
   verify-stands a k h =
       decide (ltb (nextPiece m a) flashSize)
       (λ d. rw d (follow-ranked (named m) pieceMost flashSize (omega arith) (bytes-past m long) (runCount m + pieceCount m) a k h (ltb-true _ _ d)))
@@ -174,7 +174,7 @@ module _ (m : List ℕ) (long : length m ≡ mapSize) (some : 0 < namedCount m) 
       (omega (arith, follow-last (named m) pieceMost flashSize (omega arith) (bytes-past m long) (runCount m + pieceCount m) a k h (ltb-false _ _ d)))))
 
   -- a cursor that moves on stands at a start
-  pub after-start : (ph : Phase) (k : ℕ) → standsOf m ph k ≡ true → atStart m (afterOf m ph) ≡ true
+  pub after-start : (ph : Phase) (k : ℕ) → standsIn m ph k ≡ true → atStart m (afterOf m ph) ≡ true
   unfolding afterOf
   after-start Phase.Greeting k h = stands-start m long _ 0 greeting-stands
   after-start (Phase.Erase p) k h = stands-start m long _ (k + 1) (erase-stands (p .0) k h)

@@ -15,7 +15,7 @@ use Rattle.runs.specs.Pieces.{runCount, pieceCount, namedCount}
 use Rattle.session.specs.Laws.States.{phase-open, phase-later, greeting-state, ack-next, ack-last}
 use Rattle.session.specs.Phases.{ended, phaseAt}
 use Rattle.session.specs.Plan.{total}
-use Rattle.session.specs.Session.{sessionIn, waiting, stateAt, valid, judgeOf, heardOf, tookOf, series}
+use Rattle.session.specs.Session.{sessionIn, atGreeting, stateAt, valid, judgeOf, heardOf, tookOf, series}
 use Rattle.session.specs.declared.event.Event.{Event}
 use Rattle.session.specs.declared.phase.Outcome.{Outcome}
 use Rattle.session.specs.declared.phase.Phase.{Phase}
@@ -51,7 +51,7 @@ failing Outcome.Other k = true
 
 -- what a start and events lead to: it waits for the greeting, has k acknowledged, has failed with k acknowledged, or is valid
 pub data Came (m : List ℕ) (kind : RunKind) (s : Session) : Type 0 where
-  waits : s ≡ waiting m kind → Came m kind s
+  waits : s ≡ atGreeting m kind → Came m kind s
   stands : (k : ℕ) → k < total m → s ≡ stateAt m kind k → Came m kind s
   fails : (o : Outcome) (k : ℕ) → k < total m → failing o k ≡ true → s ≡ sessionIn m kind (Phase.Ended o) k → Came m kind s
   ends : s ≡ valid m kind → Came m kind s
@@ -152,7 +152,7 @@ module _ (m : List ℕ) (long : length m ≡ mapSize) (some : 0 < namedCount m) 
       (λ a. let f = not-ack k e a l in fails (f .0) k l (f .1) (f .2))
 
   -- all but the greeting ends the session that waits for it
-  pub not-greeting : (e : Event) → isGreeting e ≡ false → (o : Outcome) × (failing o 0 ≡ true) × (tookOf m (waiting m kind) e ≡ sessionIn m kind (Phase.Ended o) 0)
+  pub not-greeting : (e : Event) → isGreeting e ≡ false → (o : Outcome) × (failing o 0 ≡ true) × (tookOf m (atGreeting m kind) e ≡ sessionIn m kind (Phase.Ended o) 0)
   unfolding tookOf
   not-greeting Event.Greeting h = absurd (true-false h)
   not-greeting Event.Ack h = (Outcome.NoGreeting, refl, refl)
@@ -160,10 +160,10 @@ module _ (m : List ℕ) (long : length m ≡ mapSize) (some : 0 < namedCount m) 
   not-greeting Event.Other h = (Outcome.NoGreeting, refl, refl)
   not-greeting Event.Silence h = (Outcome.Silence, refl, refl)
 
-  first-came : (e : Event) → Came m kind (tookOf m (waiting m kind) e)
+  first-came : (e : Event) → Came m kind (tookOf m (atGreeting m kind) e)
   first-came e =
       greeting-or e
-      (λ a. subst (λ (x : Event). Came m kind (tookOf m (waiting m kind) x)) (sym a) (stands 0 (omega arith) (greeting-state m long some kind)))
+      (λ a. subst (λ (x : Event). Came m kind (tookOf m (atGreeting m kind) x)) (sym a) (stands 0 (omega arith) (greeting-state m long some kind)))
       (λ a. let f = not-greeting e a in fails (f .0) 0 (omega arith) (f .1) (f .2))
 
   event-came : (s : Session) (e : Event) → Came m kind s → Came m kind (pick (ended (s .phase)) s (tookOf m s e))
@@ -179,8 +179,8 @@ module _ (m : List ℕ) (long : length m ≡ mapSize) (some : 0 < namedCount m) 
   series-came [] s c = c
   series-came (e ∷ es) s c = series-came es (pick (ended (s .phase)) s (tookOf m s e)) (event-came s e c)
 
-  pub came : (es : List Event) → Came m kind (series m (waiting m kind) es)
-  came es = series-came es (waiting m kind) (waits refl)
+  pub came : (es : List Event) → Came m kind (series m (atGreeting m kind) es)
+  came es = series-came es (atGreeting m kind) (waits refl)
 
   -- an event taken
   taken : (s : Session) (e : Event) (es : List Event) {t : Session} → ended (s .phase) ≡ false → tookOf m s e ≡ t → series m s (e ∷ es) ≡ series m t es
@@ -199,8 +199,8 @@ module _ (m : List ℕ) (long : length m ≡ mapSize) (some : 0 < namedCount m) 
       let f = not-ack k e a l in
       (f .0, f .1, taken (stateAt m kind k) e es (phase-open m k) (f .2) ∙ series-ended m (sessionIn m kind (Phase.Ended (f .0)) k) es refl)
 
-  series-first : (es : List Event) → series m (waiting m kind) (Event.Greeting ∷ es) ≡ series m (stateAt m kind 0) es
-  series-first es = taken (waiting m kind) Event.Greeting es refl (greeting-state m long some kind)
+  series-first : (es : List Event) → series m (atGreeting m kind) (Event.Greeting ∷ es) ≡ series m (stateAt m kind 0) es
+  series-first es = taken (atGreeting m kind) Event.Greeting es refl (greeting-state m long some kind)
 
   -- ---- the greeting and k acknowledgements lead to the state after k
 
@@ -212,7 +212,7 @@ module _ (m : List ℕ) (long : length m ≡ mapSize) (some : 0 < namedCount m) 
   acks-on (suc n) k l =
       series-ack k (replicate n Event.Ack) (omega arith) ∙ acks-on n (k + 1) (omega arith) ∙ ap (stateAt m kind) (omega arith)
 
-  pub acks-state : (k : ℕ) → k < total m → series m (waiting m kind) (Event.Greeting ∷ replicate k Event.Ack) ≡ stateAt m kind k
+  pub acks-state : (k : ℕ) → k < total m → series m (atGreeting m kind) (Event.Greeting ∷ replicate k Event.Ack) ≡ stateAt m kind k
   acks-state k l = series-first (replicate k Event.Ack) ∙ acks-on k 0 (omega arith) ∙ ap (stateAt m kind) (zero-add k)
 
   acks-end : (n k : ℕ) → k + suc n ≡ total m → series m (stateAt m kind k) (replicate (suc n) Event.Ack) ≡ valid m kind
@@ -220,7 +220,7 @@ module _ (m : List ℕ) (long : length m ≡ mapSize) (some : 0 < namedCount m) 
   acks-end (suc n) k l = series-ack k (replicate (suc n) Event.Ack) (omega arith) ∙ acks-end n (k + 1) (omega arith)
 
   -- as many as the total end it valid
-  pub acks-valid : (n : ℕ) → suc n ≡ total m → series m (waiting m kind) (Event.Greeting ∷ replicate (suc n) Event.Ack) ≡ valid m kind
+  pub acks-valid : (n : ℕ) → suc n ≡ total m → series m (atGreeting m kind) (Event.Greeting ∷ replicate (suc n) Event.Ack) ≡ valid m kind
   acks-valid n e = series-first (replicate (suc n) Event.Ack) ∙ acks-end n 0 (omega arith)
 
   -- ---- a verdict within e + 2w + 2 events
@@ -239,12 +239,12 @@ module _ (m : List ℕ) (long : length m ≡ mapSize) (some : 0 < namedCount m) 
       (λ a. rw a (ap (λ (s : Session). ended (s .phase)) (series-ack k es (omega arith)) ∙ within n (k + 1) es (omega arith) (omega arith)))
       (λ a. over (series-fails k e es a (omega arith) .2))
 
-  first-fails : (e : Event) (es : List Event) → isGreeting e ≡ false → (o : Outcome) × (failing o 0 ≡ true) × (series m (waiting m kind) (e ∷ es) ≡ sessionIn m kind (Phase.Ended o) 0)
+  first-fails : (e : Event) (es : List Event) → isGreeting e ≡ false → (o : Outcome) × (failing o 0 ≡ true) × (series m (atGreeting m kind) (e ∷ es) ≡ sessionIn m kind (Phase.Ended o) 0)
   first-fails e es a =
       let f = not-greeting e a in
-      (f .0, f .1, taken (waiting m kind) e es refl (f .2) ∙ series-ended m (sessionIn m kind (Phase.Ended (f .0)) 0) es refl)
+      (f .0, f .1, taken (atGreeting m kind) e es refl (f .2) ∙ series-ended m (sessionIn m kind (Phase.Ended (f .0)) 0) es refl)
 
-  pub verdict : (es : List Event) → total m + 1 ≤ length es → ended (series m (waiting m kind) es .phase) ≡ true
+  pub verdict : (es : List Event) → total m + 1 ≤ length es → ended (series m (atGreeting m kind) es .phase) ≡ true
   verdict [] b = absurd (omega arith)
   verdict (e ∷ es) b =
       greeting-or e
@@ -278,8 +278,8 @@ module _ (m : List ℕ) (long : length m ≡ mapSize) (some : 0 < namedCount m) 
       (r .0, rw a (ap (λ (x : List Event). Event.Ack ∷ x) (r .1))))
       (λ a. let f = series-fails k e es a (omega arith) in absurd (true-false (sym v ∙ not-valid (f .1) (f .2))))
 
-  pub valid-only : (es : List Event) → series m (waiting m kind) es .phase ≡ Phase.Ended Outcome.Valid → (rest : List Event) × (es ≡ Event.Greeting ∷ replicate (total m) Event.Ack ++ rest)
-  valid-only [] v = absurd (true-false (sym (ap isValid v) ∙ ap (λ (x : Session). isValid (x .phase)) (series-nil m (waiting m kind))))
+  pub valid-only : (es : List Event) → series m (atGreeting m kind) es .phase ≡ Phase.Ended Outcome.Valid → (rest : List Event) × (es ≡ Event.Greeting ∷ replicate (total m) Event.Ack ++ rest)
+  valid-only [] v = absurd (true-false (sym (ap isValid v) ∙ ap (λ (x : Session). isValid (x .phase)) (series-nil m (atGreeting m kind))))
   valid-only (e ∷ es) v =
       greeting-or e
       (λ a. let r = valid-on (runsAndPieces m) 0 es (omega arith) (sym (ap (λ (s : Session). isValid (s .phase)) (series-first es)) ∙ ap isValid (rw a at v)) in

@@ -21,6 +21,7 @@ use Rattle.runs.specs.Pieces.{pieceMost, pieceStarts, pieceLen, runStarts, runC
 use Rattle.runs.specs.Runs.{count}
 use Rattle.session.specs.Phases.{lowestRun, lowestPiece}
 use Rattle.session.specs.Plan.{carriesPiece, pieceBytes}
+use Rattle.basis.specs.Units.{pageOf}
 
 -- e and w are small
 pub runs-most : (m : List ℕ) → runCount m ≤ pages
@@ -51,11 +52,11 @@ module _ (m : List ℕ) (long : length m ≡ mapSize) where
       let l = first-piece-below some in
       decide (ltb (lowestRun m) pages) (λ d. ltb-true _ _ d)
       (λ d. absurd (true-false (sym (named-touched m (lowestPiece m) (next-pass (named m) flashSize 0 (omega arith)))
-      ∙ next-skip (touched m) pages 0 (lowestPiece m / 512) (omega arith) (omega (arith, ltb-false (lowestRun m) pages d)))))
+      ∙ next-skip (touched m) pages 0 (pageOf (lowestPiece m)) (omega arith) (omega (arith, ltb-false (lowestRun m) pages d)))))
 
   -- a piece has 1 to 250 bytes, all in the image
   pub piece-carried : (image : List ℕ) (a : ℕ) → length image ≡ flashSize → pieceStarts m a ≡ true
-      → (length (pieceBytes image m a) ≡ pieceLen m a) × (0 < pieceLen m a) × (pieceLen m a ≤ 250)
+      → (length (pieceBytes image m a) ≡ pieceLen m a) × (0 < pieceLen m a) × (pieceLen m a ≤ pieceMost)
   piece-carried image a e h =
       let l = file-piece m long a h in
       let k : pieceLen m a ≤ length (drop a image) = simp length-drop (omega arith) in

@@ -8,7 +8,7 @@ use native.Mathlib.Omega.{arith}
 use borrow.Author.Tests.{eqb-true, le-ltb}
 use lib.Dec.{ltb}
 use lib.ListN.{length, getD}
-use Rattle.basis.specs.Board.{mapSize}
+use Rattle.basis.specs.Board.{mapSize, flashSize, pages}
 use Rattle.basis.specs.Choice.{pick}
 use Rattle.basis.specs.Laws.Choice.{decide, true-false}
 use Rattle.basis.specs.Refusals.{given}
@@ -17,9 +17,9 @@ use Rattle.session.specs.Laws.Fits.{Fitting, fitting, fits-by}
 use Rattle.session.specs.Laws.Phases.{greeted, stands-below, stands-at, at-stands, greeting-stands, erase-stands, write-stands, verify-stands}
 use Rattle.session.specs.Laws.Plan.{plan-at}
 use Rattle.session.specs.Laws.Steps.{step-taken}
-use Rattle.session.specs.Phases.{ended, packetOut, erasing, writing, verifying, phaseAt, nextRun, nextPiece, afterOf, standsOf}
+use Rattle.session.specs.Phases.{ended, packetOut, eraseAt, writeAt, verifyAt, phaseAt, nextRun, nextPiece, afterOf, standsIn}
 use Rattle.session.specs.Plan.{plan, total}
-use Rattle.session.specs.Session.{sessionIn, waiting, stateAt, valid, Sent, rightSizes, judgedLater, judgeOf, tookOf, sent, fitsOf, stepOf}
+use Rattle.session.specs.Session.{sessionIn, atGreeting, stateAt, valid, Sent, rightSizes, judgeLaterOf, judgeOf, tookOf, sent, fitsOf, stepOf}
 use Rattle.session.specs.declared.event.Event.{Event}
 use Rattle.session.specs.declared.phase.Outcome.{Outcome}
 use Rattle.session.specs.declared.phase.Phase.{Phase}
@@ -29,26 +29,26 @@ use Rattle.session.specs.declared.session.Session.{Session}
 -- ---- which counts go with the phases that have no cursor
 
 module _ (m : List ℕ) (k : ℕ) where
-  stands-greeting : standsOf m Phase.Greeting k ≡ true → k ≡ 0
-  unfolding standsOf
+  stands-greeting : standsIn m Phase.Greeting k ≡ true → k ≡ 0
+  unfolding standsIn
   stands-greeting h = eqb-true k 0 h
 
-  pub stands-run : standsOf m Phase.Run k ≡ true → runCount m + 2 * pieceCount m ≡ k
-  unfolding standsOf
+  pub stands-run : standsIn m Phase.Run k ≡ true → runCount m + 2 * pieceCount m ≡ k
+  unfolding standsIn
   stands-run h = eqb-true _ _ h
 
-  stands-ended : (o : Outcome) → standsOf m (Phase.Ended o) k ≡ true → ⊥
-  unfolding standsOf
+  stands-ended : (o : Outcome) → standsIn m (Phase.Ended o) k ≡ true → ⊥
+  unfolding standsIn
   stands-ended o h = true-false (sym h)
 
 -- ---- the phase after k acknowledgements
 
 -- what holds of each kind of phase that has a packet out holds of the one after k
-phase-cases : (P : Phase → Type 0) → ((q : ℕ) → P (erasing q)) → ((a : ℕ) → P (writing a)) → ((a : ℕ) → P (verifying a)) → P Phase.Run → (m : List ℕ) (k : ℕ) → P (phaseAt m k)
+phase-cases : (P : Phase → Type 0) → ((q : ℕ) → P (eraseAt q)) → ((a : ℕ) → P (writeAt a)) → ((a : ℕ) → P (verifyAt a)) → P Phase.Run → (m : List ℕ) (k : ℕ) → P (phaseAt m k)
 unfolding phaseAt
 phase-cases P e w v r m k = go (ltb k (runCount m)) (ltb k (runCount m + pieceCount m)) (ltb k (runCount m + 2 * pieceCount m)) _ _ _
   where
-    go : (a b c : Bool) (x y z : ℕ) → P (pick a (erasing x) (pick b (writing y) (pick c (verifying z) Phase.Run)))
+    go : (a b c : Bool) (x y z : ℕ) → P (pick a (eraseAt x) (pick b (writeAt y) (pick c (verifyAt z) Phase.Run)))
     go true b c x y z = e x
     go false true c x y z = w y
     go false false true x y z = v z
@@ -61,8 +61,8 @@ module _ (m : List ℕ) (k : ℕ) where
   pub phase-open : ended (phaseAt m k) ≡ false
   phase-open = phase-cases (λ (ph : Phase). ended ph ≡ false) (λ q. refl) (λ a. refl) (λ a. refl) refl m k
 
-  pub phase-later : (e : Event) → judgeOf (phaseAt m k) e ≡ judgedLater e
-  phase-later e = phase-cases (λ (ph : Phase). judgeOf ph e ≡ judgedLater e) (λ q. refl) (λ a. refl) (λ a. refl) refl m k
+  pub phase-later : (e : Event) → judgeOf (phaseAt m k) e ≡ judgeLaterOf e
+  phase-later e = phase-cases (λ (ph : Phase). judgeOf ph e ≡ judgeLaterOf e) (λ q. refl) (λ a. refl) (λ a. refl) refl m k
 
   -- R is out exactly after all else is acknowledged
   pub run-after : runCount m + 2 * pieceCount m ≤ k → phaseAt m k ≡ Phase.Run
@@ -77,14 +77,14 @@ module _ (m : List ℕ) (k : ℕ) where
 after-greeted : (m : List ℕ) (ph : Phase) → greeted (afterOf m ph) ≡ true
 unfolding afterOf
 after-greeted m Phase.Greeting = refl
-after-greeted m (Phase.Erase p) = decide (ltb (nextRun m (p .0)) 124) (λ d. rw d) (λ d. rw d)
-after-greeted m (Phase.Write a) = decide (ltb (nextPiece m (a .0)) 63488) (λ d. rw d) (λ d. rw d)
-after-greeted m (Phase.Verify a) = decide (ltb (nextPiece m (a .0)) 63488) (λ d. rw d) (λ d. rw d)
+after-greeted m (Phase.Erase p) = decide (ltb (nextRun m (p .0)) pages) (λ d. rw d) (λ d. rw d)
+after-greeted m (Phase.Write a) = decide (ltb (nextPiece m (a .0)) flashSize) (λ d. rw d) (λ d. rw d)
+after-greeted m (Phase.Verify a) = decide (ltb (nextPiece m (a .0)) flashSize) (λ d. rw d) (λ d. rw d)
 after-greeted m Phase.Run = refl
 after-greeted m (Phase.Ended o) = refl
 
 module _ (m : List ℕ) (long : length m ≡ mapSize) (some : 0 < namedCount m) where
-  phase-next : (ph : Phase) (k : ℕ) → k + 1 < total m → greeted ph ≡ true → standsOf m ph k ≡ true → afterOf m ph ≡ phaseAt m (k + 1)
+  phase-next : (ph : Phase) (k : ℕ) → k + 1 < total m → greeted ph ≡ true → standsIn m ph k ≡ true → afterOf m ph ≡ phaseAt m (k + 1)
   phase-next Phase.Greeting k l g h = absurd (true-false (sym g))
   phase-next (Phase.Erase p) k l g h = stands-at m long _ (k + 1) (after-greeted m (Phase.Erase p)) (erase-stands m long some (p .0) k h)
   phase-next (Phase.Write a) k l g h = stands-at m long _ (k + 1) (after-greeted m (Phase.Write a)) (write-stands m long some (a .0) k h)
@@ -94,7 +94,7 @@ module _ (m : List ℕ) (long : length m ≡ mapSize) (some : 0 < namedCount m) 
 
   module _ (kind : RunKind) where
     -- the greeting: the first packet is out
-    pub greeting-state : tookOf m (waiting m kind) Event.Greeting ≡ stateAt m kind 0
+    pub greeting-state : tookOf m (atGreeting m kind) Event.Greeting ≡ stateAt m kind 0
     unfolding tookOf
     greeting-state = ap (λ (ph : Phase). sessionIn m kind ph 0) (stands-at m long _ 0 (after-greeted m Phase.Greeting) (greeting-stands m long some))
 
@@ -114,16 +114,16 @@ module _ (m : List ℕ) (long : length m ≡ mapSize) (some : 0 < namedCount m) 
 
     -- ---- 46 is exact: these states fit the file
 
-    pub waiting-fits : fitsOf m (waiting m kind) ≡ true
-    unfolding standsOf
-    waiting-fits = fits-by m (waiting m kind) (record { some = some; named-is = refl; total-is = refl; stands = refl })
+    pub waiting-fits : fitsOf m (atGreeting m kind) ≡ true
+    unfolding standsIn
+    waiting-fits = fits-by m (atGreeting m kind) (record { some = some; named-is = refl; total-is = refl; stands = refl })
 
     pub state-fits : (k : ℕ) → k < total m → fitsOf m (stateAt m kind k) ≡ true
     state-fits k l = fits-by m (stateAt m kind k) (record { some = some; named-is = refl; total-is = refl; stands = at-stands m k l })
 
 -- and no other: a record that fits a file waits for its greeting, or is the state after the acknowledgements that it counts
 abbrev pub Reached : List ℕ → Session → Type 0
-Reached m s = (s ≡ waiting m (s .kind)) ⊎ ((s .acknowledged < total m) × (s ≡ stateAt m (s .kind) (s .acknowledged)))
+Reached m s = (s ≡ atGreeting m (s .kind)) ⊎ ((s .acknowledged < total m) × (s ≡ stateAt m (s .kind) (s .acknowledged)))
 
 pub fits-reached : (m : List ℕ) → length m ≡ mapSize → (s : Session) → fitsOf m s ≡ true → (0 < namedCount m) × Reached m s
 fits-reached m long s h = (f .some, go (s .phase) refl)
@@ -138,7 +138,7 @@ fits-reached m long s h = (f .some, go (s .phase) refl)
     on g = inr (stands-below m long (s .phase) (s .acknowledged) (f .stands), counts (phaseAt m (s .acknowledged)) (s .acknowledged) (stands-at m long (s .phase) (s .acknowledged) g (f .stands)) refl)
 
     go : (ph : Phase) → s .phase ≡ ph → Reached m s
-    go Phase.Greeting e = inl (counts Phase.Greeting 0 e (stands-greeting m (s .acknowledged) (sym (ap (λ (x : Phase). standsOf m x (s .acknowledged)) e) ∙ f .stands)))
+    go Phase.Greeting e = inl (counts Phase.Greeting 0 e (stands-greeting m (s .acknowledged) (sym (ap (λ (x : Phase). standsIn m x (s .acknowledged)) e) ∙ f .stands)))
     go (Phase.Erase p) e = on (ap greeted e)
     go (Phase.Write a) e = on (ap greeted e)
     go (Phase.Verify a) e = on (ap greeted e)
@@ -153,9 +153,9 @@ module _ (image m : List ℕ) (room : ℕ) (kind : RunKind) (right : rightSizes 
   step-state k e l = step-taken image m room (stateAt m kind k) e right (phase-open m k) (state-fits m long some kind k l)
 
   -- the greeting brings the first packet of the plan, each ACK the next, and the last none
-  pub step-greeting : stepOf image m room (waiting m kind) Event.Greeting ≡ given (record { session = stateAt m kind 0; packet = getD (plan image m kind) 0 [] })
+  pub step-greeting : stepOf image m room (atGreeting m kind) Event.Greeting ≡ given (record { session = stateAt m kind 0; packet = getD (plan image m kind) 0 [] })
   step-greeting =
-      step-taken image m room (waiting m kind) Event.Greeting right refl (waiting-fits m long some kind)
+      step-taken image m room (atGreeting m kind) Event.Greeting right refl (waiting-fits m long some kind)
       ∙ ap given (sending 0 (omega arith) (greeting-state m long some kind))
     where
       sending : (k : ℕ) → k < total m → {s : Session} → s ≡ stateAt m kind k → _≡_ {A = Sent} (record { session = s; packet = packetOut image m kind (s .phase) }) (record { session = stateAt m kind k; packet = getD (plan image m kind) k [] })

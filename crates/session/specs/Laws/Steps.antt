@@ -9,7 +9,7 @@ use Rattle.basis.specs.Laws.Refusals.{skip, stop, done}
 use Rattle.basis.specs.Refusals.{refused, given}
 use Rattle.runs.specs.Pieces.{namedCount}
 use Rattle.session.specs.Phases.{ended}
-use Rattle.session.specs.Session.{waiting, rightSizes, started, sent, fitsOf, stepOf}
+use Rattle.session.specs.Session.{atGreeting, rightSizes, started, sent, fitsOf, stepOf}
 use Rattle.session.specs.declared.event.Event.{Event}
 use Rattle.session.specs.declared.phase.RunKind.{RunKind}
 use Rattle.session.specs.declared.session.Session.{Session}
@@ -24,7 +24,7 @@ module _ (image m : List ℕ) (room : ℕ) (kind : RunKind) where
     unfolding started
     start-empty e = skip 20 _ _ _ (ap not h) ∙ stop 32 _ _ _ (eq-eqb _ _ e)
 
-    pub start-given : (namedCount m ≡ 0 → ⊥) → started image m room kind ≡ given (record { session = waiting m kind; packet = 0x08 ∷ [] })
+    pub start-given : (namedCount m ≡ 0 → ⊥) → started image m room kind ≡ given (record { session = atGreeting m kind; packet = 0x08 ∷ [] })
     unfolding started
     start-given n = skip 20 _ _ _ (ap not h) ∙ skip 32 _ _ _ (ne-eqb _ _ n) ∙ done _
 

@@ -1,7 +1,7 @@
 -- `gremolunde_hex_record` meets its contract: it is the reader that the state stands for, its answer as C gets it.
 use mathlib.Core.Path.{ap, sym, _∙_}
 use borrow.Author.Needs.{needs}
-use Rattle.image.specs.Hex.{Outcome}
+use Rattle.image.specs.Hex.{Settled}
 use Rattle.gremolunde.specs.Answers.{hexAnswer}
 use Rattle.gremolunde.proofs.files.gremolunde_hex_record.Statement.{statement}
 use Rattle.gremolunde.proofs.files.gremolunde_hex_record.Tie as tie
@@ -24,7 +24,7 @@ same-length-2 c = search needs
 returns : tie.Need-returns
 returns c = let o = c .before .before .before .before .before .«record» .ensures in
     rw (sym (c .before .before .before .before .before .before .before .before .hex-meant .ensures))
-    (c .answered .ensures ∙ ap (λ (x : Outcome). hexAnswer (c .before .before .before .before .before .before .before .before .before .before .before .before .args .reader) (x .answer)) o, ap (λ (x : Outcome). x .image) o, ap (λ (x : Outcome). x .map) o)
+    (c .answered .ensures ∙ ap (λ (x : Settled). hexAnswer (c .before .before .before .before .before .before .before .before .before .before .before .before .args .reader) (x .answer)) o, ap (λ (x : Settled). x .image) o, ap (λ (x : Settled). x .map) o)
 
 pub gremolunde-hex-record-spec : {M : Type 1} → statement M
 gremolunde-hex-record-spec =

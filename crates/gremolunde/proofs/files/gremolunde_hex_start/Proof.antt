@@ -1,7 +1,7 @@
 -- `gremolunde_hex_start` meets its contract: it is the start of a reader, its answer as C gets it.
 use mathlib.Core.Path.{ap, _∙_}
 use borrow.Author.Needs.{needs}
-use Rattle.image.specs.Hex.{Outcome}
+use Rattle.image.specs.Hex.{Settled}
 use Rattle.gremolunde.specs.Answers.{noReader, hexAnswer}
 use Rattle.gremolunde.proofs.files.gremolunde_hex_start.Statement.{statement}
 use Rattle.gremolunde.proofs.files.gremolunde_hex_start.Tie as tie
@@ -20,7 +20,7 @@ same-length-2 c = search needs
 
 returns : tie.Need-returns
 returns c = let o = c .before .before .before .before .before .start .ensures in
-    (c .answered .ensures ∙ ap (λ (x : Outcome). hexAnswer noReader (x .answer)) o, ap (λ (x : Outcome). x .image) o, ap (λ (x : Outcome). x .map) o)
+    (c .answered .ensures ∙ ap (λ (x : Settled). hexAnswer noReader (x .answer)) o, ap (λ (x : Settled). x .image) o, ap (λ (x : Settled). x .map) o)
 
 pub gremolunde-hex-start-spec : {M : Type 1} → statement M
 gremolunde-hex-start-spec =

@@ -7,8 +7,8 @@ use lib.ListN.{length}
 use Rattle.basis.specs.Board.{pages}
 use Rattle.basis.specs.Lists.{overlay}
 use Rattle.basis.specs.Refusals.{Answer, bare}
-use Rattle.loader.specs.Commands.{after}
-use Rattle.loader.specs.Take.{takeOf, answerOf, Takes}
+use Rattle.loader.specs.Commands.{effectAfter}
+use Rattle.loader.specs.Take.{takeOf, answerBytes, Takes}
 use Rattle.loader.specs.declared.state.Loader.{Loader}
 use Rattle.gremolunde.specs.Answers.{takenAnswer}
 use Rattle.gremolunde.specs.declared.loading.Taken.{Taken}
@@ -19,7 +19,7 @@ use Rattle.gremolunde.proofs.loading.gremolunde_loader_take.Tie as tie
 -- what the loader l shows of an input, where l is what the state stands for
 told-of : (s : LoaderState) (l m : Loader) → l ≡ m → (input flash old : List ℕ) {v : Answer (Unit {0})} {next : Loader} {k : ℕ} {f a : List ℕ} (r : Taken)
     → r ≡ takenAnswer s v next k → Takes (takeOf pages l input flash (length old)) l flash old v next k f a
-    → let x = takeOf pages m input flash (length old) in (r ≡ takenAnswer s (bare x) (after m flash x .loader) (length (answerOf m x))) × (f ≡ after m flash x .flash) × (a ≡ overlay (answerOf m x) old)
+    → let x = takeOf pages m input flash (length old) in (r ≡ takenAnswer s (bare x) (effectAfter m flash x .loader) (length (answerBytes m x))) × (f ≡ effectAfter m flash x .flash) × (a ≡ overlay (answerBytes m x) old)
 told-of s l m e input flash old r p t =
     rw (sym e)
     (p ∙ (λ i. takenAnswer s (t .does-is .verdict-is i) (t .does-is .loader-is i) (t .answered-is i)), t .does-is .flash-is, t .answer-is)

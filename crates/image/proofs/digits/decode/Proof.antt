@@ -7,14 +7,14 @@ use mathlib.Core.List.{_++_}
 use native.Mathlib.Omega.{arith}
 use borrow.Author.Needs.{needs}
 use lib.ListN.{length, take, drop, length-set}
-use Rattle.image.specs.Digits.{allDigits, bytesOf}
+use Rattle.image.specs.Digits.{allDigits, decoded}
 use Rattle.image.proofs.Characters.{digits-end, bytes-end, high-wrong, low-wrong, digits-more, bytes-more}
 use Rattle.image.proofs.digits.decode.Statement.{statement}
 use Rattle.image.proofs.digits.decode.Tie as tie
 
 abbrev Inv-loop : tie.InvT-loop
 Inv-loop line bytes₀ n i₀ bytes i =
-    (i ≤ n) × (length bytes ≡ length bytes₀) × (allDigits (drop (2 * i + 1) line) ≡ allDigits (drop 1 line)) × (take i bytes ++ bytesOf (drop (2 * i + 1) line) ≡ bytesOf (drop 1 line))
+    (i ≤ n) × (length bytes ≡ length bytes₀) × (allDigits (drop (2 * i + 1) line) ≡ allDigits (drop 1 line)) × (take i bytes ++ decoded (drop (2 * i + 1) line) ≡ decoded (drop 1 line))
 
 abbrev μ-loop : tie.MeasureT-loop
 μ-loop line bytes₀ n i₀ bytes i = n - i

@@ -12,6 +12,7 @@ use Rattle.image.proofs.Printing.{write-above, write-end, write-run}
 use borrow.Author.Needs.{needs}
 use Rattle.image.proofs.writer.write.Statement.{statement}
 use Rattle.image.proofs.writer.write.Tie as tie
+use Rattle.basis.specs.Board.{flashSize}
 
 returns : tie.Need-returns
 unfolding first writeIn
@@ -27,7 +28,7 @@ returns-3 c = (simp (eq-eqb _ _ (c .before .before .if1 .left), eq-eqb _ _ (c .b
 
 returns-4 : tie.Need-returns-4
 returns-4 c = let a = c .before .before .before .before .before .before .before .before .args in
-    let e = write-above 63488 (a .image .now) (a .map .now) (a .from .0) (length (a .buffer .now)) (c .before .before .before .before .if1 .left) (c .before .before .before .if2 .left) (c .before .before .if3 .left) (c .if4 .taken) in (rw e, rw e)
+    let e = write-above flashSize (a .image .now) (a .map .now) (a .from .0) (length (a .buffer .now)) (c .before .before .before .before .if1 .left) (c .before .before .before .if2 .left) (c .before .before .if3 .left) (c .if4 .taken) in (rw e, rw e)
 
 next-named-requires : tie.Need-next-named-requires
 next-named-requires c κs = search needs
@@ -46,13 +47,13 @@ same-length c = search needs
 
 returns-5 : tie.Need-returns-5
 returns-5 c = let a = c .before .before .before .before .before .before .before .before .before .before .before .before .before .before .before .before .args in
-    let e = write-end 63488 (a .image .now) (a .map .now) (a .from .0) (length (a .buffer .now)) (c .before .before .before .before .before .before .before .before .before .before .before .before .if1 .left) (c .before .before .before .before .before .before .before .before .before .before .before .if2 .left) (c .before .before .before .before .before .before .before .before .before .before .if3 .left) (c .before .before .before .before .before .before .before .before .if4 .left) _ (c .before .before .before .before .before .before .before .next-named .ensures) (c .before .before .before .before .before .if5 .taken) in (rw (e, c .before .before .print .ensures .0), rw e (c .before .before .print .ensures .1))
+    let e = write-end flashSize (a .image .now) (a .map .now) (a .from .0) (length (a .buffer .now)) (c .before .before .before .before .before .before .before .before .before .before .before .before .if1 .left) (c .before .before .before .before .before .before .before .before .before .before .before .if2 .left) (c .before .before .before .before .before .before .before .before .before .before .if3 .left) (c .before .before .before .before .before .before .before .before .if4 .left) _ (c .before .before .before .before .before .before .before .next-named .ensures) (c .before .before .before .before .before .if5 .taken) in (rw (e, c .before .before .print .ensures .0), rw e (c .before .before .print .ensures .1))
 
-sub-run-len : tie.Need-sub-run-len
-sub-run-len c = search needs
+sub-row-len : tie.Need-sub-row-len
+sub-row-len c = search needs
 
-run-len-requires : tie.Need-run-len-requires
-run-len-requires c κs = search needs
+row-len-requires : tie.Need-row-len-requires
+row-len-requires c κs = search needs
 
 cast-first : tie.Need-cast-first
 cast-first c = search needs
@@ -73,13 +74,13 @@ part-print-start : tie.Need-part-print-start
 part-print-start c = search needs
 
 part-print-end : tie.Need-part-print-end
-part-print-end c = omega (arith, c .run-len .ensures, len-le (named (c .before .before .before .before .before .before .before .before .before .before .before .before .args .map .now)) (c .before .before .before .next-named .result .0) (16 - c .before .before .before .next-named .result .0 % 16), c .before .if5 .left, c .before .before .before .before .before .before .before .before .if1 .left)
+part-print-end c = omega (arith, c .row-len .ensures, len-le (named (c .before .before .before .before .before .before .before .before .before .before .before .before .args .map .now)) (c .before .before .before .next-named .result .0) (16 - c .before .before .before .next-named .result .0 % 16), c .before .if5 .left, c .before .before .before .before .before .before .before .before .if1 .left)
 
 print-requires-2 : tie.Need-print-requires-2
-print-requires-2 c κs = (simp (length-take, length-drop) (omega (arith, c .before .before .run-len .ensures, len-le (named (c .before .before .before .before .before .before .before .before .before .before .before .before .before .before .args .map .now)) (c .before .before .before .before .before .next-named .result .0) (16 - c .before .before .before .before .before .next-named .result .0 % 16))), c .before .before .before .before .before .before .before .before .if3 .left)
+print-requires-2 c κs = (simp (length-take, length-drop) (omega (arith, c .before .before .row-len .ensures, len-le (named (c .before .before .before .before .before .before .before .before .before .before .before .before .before .before .args .map .now)) (c .before .before .before .before .before .next-named .result .0) (16 - c .before .before .before .before .before .next-named .result .0 % 16))), c .before .before .before .before .before .before .before .before .if3 .left)
 
 add-t22 : tie.Need-add-t22
-add-t22 c = omega (arith, c .before .before .before .before .before .run-len .ensures, len-le (named (c .before .before .before .before .before .before .before .before .before .before .before .before .before .before .before .before .before .args .map .now)) (c .before .before .before .before .before .before .before .before .next-named .result .0) (16 - c .before .before .before .before .before .before .before .before .next-named .result .0 % 16), c .before .before .before .before .before .before .if5 .left)
+add-t22 c = omega (arith, c .before .before .before .before .before .row-len .ensures, len-le (named (c .before .before .before .before .before .before .before .before .before .before .before .before .before .before .before .before .before .args .map .now)) (c .before .before .before .before .before .before .before .before .next-named .result .0) (16 - c .before .before .before .before .before .before .before .before .next-named .result .0 % 16), c .before .before .before .before .before .before .if5 .left)
 
 same-length-2 : tie.Need-same-length-2
 same-length-2 c = search needs
@@ -87,8 +88,8 @@ same-length-2 c = search needs
 returns-6 : tie.Need-returns-6
 returns-6 c = let a = c .before .before .before .before .before .before .before .before .before .before .before .before .before .before .before .before .before .args in
     let k = c .before .before .before .before .before .before .before .before .next-named .result .0 in
-    let m : k + c .before .before .before .before .before .run-len .result - k ≡ c .before .before .before .before .before .run-len .result = omega arith in
-    let e = write-run 63488 (a .image .now) (a .map .now) (a .from .0) (length (a .buffer .now)) (c .before .before .before .before .before .before .before .before .before .before .before .before .before .if1 .left) (c .before .before .before .before .before .before .before .before .before .before .before .before .if2 .left) (c .before .before .before .before .before .before .before .before .before .before .before .if3 .left) (c .before .before .before .before .before .before .before .before .before .if4 .left) k (c .before .before .before .before .before .before .before .before .next-named .ensures) _ _ (c .before .before .before .before .before .before .if5 .left) (c .before .before .before .before .before .run-len .ensures) m in (rw (e, c .before .before .print2 .ensures .0), rw e (c .before .before .print2 .ensures .1))
+    let m : k + c .before .before .before .before .before .row-len .result - k ≡ c .before .before .before .before .before .row-len .result = omega arith in
+    let e = write-run flashSize (a .image .now) (a .map .now) (a .from .0) (length (a .buffer .now)) (c .before .before .before .before .before .before .before .before .before .before .before .before .before .if1 .left) (c .before .before .before .before .before .before .before .before .before .before .before .before .if2 .left) (c .before .before .before .before .before .before .before .before .before .before .before .if3 .left) (c .before .before .before .before .before .before .before .before .before .if4 .left) k (c .before .before .before .before .before .before .before .before .next-named .ensures) _ _ (c .before .before .before .before .before .before .if5 .left) (c .before .before .before .before .before .row-len .ensures) m in (rw (e, c .before .before .print2 .ensures .0), rw e (c .before .before .print2 .ensures .1))
 
 pub write-spec : {M : Type 1} → statement M
 write-spec =
@@ -104,8 +105,8 @@ write-spec =
     add-t19
     same-length
     returns-5
-    sub-run-len
-    run-len-requires
+    sub-row-len
+    row-len-requires
     cast-first
     cast-end
     add-end

@@ -4,7 +4,7 @@ use native.Mathlib.Omega.{arith}
 use borrow.Author.Needs.{needs}
 use lib.Seq.{length-take-le}
 use Rattle.line.proofs.Delivering.{arrived-fits, goes, keeps}
-use Rattle.line.specs.Line.{momentOf}
+use Rattle.line.specs.Line.{momentIn}
 use Rattle.session.specs.Paper.{paperStepped}
 use Rattle.line.proofs.exchange.exchange.Statement.{statement}
 use Rattle.line.proofs.exchange.exchange.Tie as tie
@@ -13,7 +13,7 @@ slice-reshare-prefix-deliver : tie.Need-slice-reshare-prefix-deliver
 slice-reshare-prefix-deliver c = search needs
 
 slice-aggregate-deliver : tie.Need-slice-aggregate-deliver
-slice-aggregate-deliver c = sym (length-take-le (c .before .before .before .before .before .before .before .before .args .ends .len) (c .before .before .before .before .before .before .before .before .args .packet .now) (omega (arith, c .before .before .before .before .before .before .before .before .pre .3, c .before .before .before .before .before .before .before .before .pre .5)))
+slice-aggregate-deliver c = sym (length-take-le (c .before .before .before .before .before .before .before .before .args .link .len) (c .before .before .before .before .before .before .before .before .args .packet .now) (omega (arith, c .before .before .before .before .before .before .before .before .pre .3, c .before .before .before .before .before .before .before .before .pre .5)))
 
 deliver-requires : tie.Need-deliver-requires
 deliver-requires c κs = search needs
@@ -43,7 +43,7 @@ same-length-3 : tie.Need-same-length-3
 same-length-3 c = search needs
 
 returns : tie.Need-returns
-returns c = let s = c .before .before .before .before .before .before .before .before .before .before .before .before .before .before .before .before .before .before .before .before .before .before .before .before .before .args in goes (s .image .now) (s .map .now) (s .loss) (momentOf (s .ends) (s .flash .now) (s .packet .now)) (s .packet .now) _ (s .answer .now) _ _ _ _ _ (c .before .before .before .before .before .before .before .before .before .before .before .before .before .before .before .before .before .before .before .before .before .before .before .before .before .pre .3) (c .before .before .before .before .before .before .before .before .before .before .before .before .before .before .deliver .ensures) (c .before .before .before .before .before .before .step .ensures .1) _ (ap paperStepped (sym (c .before .before .next .given .1)) ∙ c .before .before .before .before .before .before .step .ensures .0)
+returns c = let s = c .before .before .before .before .before .before .before .before .before .before .before .before .before .before .before .before .before .before .before .before .before .before .before .before .before .args in goes (s .image .now) (s .map .now) (s .loss) (momentIn (s .link) (s .flash .now) (s .packet .now)) (s .packet .now) _ (s .answer .now) _ _ _ _ _ (c .before .before .before .before .before .before .before .before .before .before .before .before .before .before .before .before .before .before .before .before .before .before .before .before .before .pre .3) (c .before .before .before .before .before .before .before .before .before .before .before .before .before .before .deliver .ensures) (c .before .before .before .before .before .before .step .ensures .1) _ (ap paperStepped (sym (c .before .before .next .given .1)) ∙ c .before .before .before .before .before .before .step .ensures .0)
 
 same-length-4 : tie.Need-same-length-4
 same-length-4 c = search needs
@@ -55,7 +55,7 @@ same-length-6 : tie.Need-same-length-6
 same-length-6 c = search needs
 
 returns-2 : tie.Need-returns-2
-returns-2 c = let s = c .before .before .before .before .before .before .before .before .before .before .before .before .before .before .before .before .before .before .before .before .before .before .before .args in keeps (s .image .now) (s .map .now) (s .loss) (momentOf (s .ends) (s .flash .now) (s .packet .now)) (s .packet .now) _ (s .answer .now) _ _ _ _ _ (c .before .before .before .before .before .before .before .before .before .before .before .before .before .before .before .before .before .before .before .before .before .before .before .pre .3) (c .before .before .before .before .before .before .before .before .before .before .before .before .deliver .ensures) (c .before .before .before .before .step .ensures .1) _ (ap paperStepped (sym (c .enum-told .given .1)) ∙ c .before .before .before .before .step .ensures .0) (sym (length-take-le (s .ends .len) (s .packet .now) (omega (arith, c .before .before .before .before .before .before .before .before .before .before .before .before .before .before .before .before .before .before .before .before .before .before .before .pre .3, c .before .before .before .before .before .before .before .before .before .before .before .before .before .before .before .before .before .before .before .before .before .before .before .pre .5))))
+returns-2 c = let s = c .before .before .before .before .before .before .before .before .before .before .before .before .before .before .before .before .before .before .before .before .before .before .before .args in keeps (s .image .now) (s .map .now) (s .loss) (momentIn (s .link) (s .flash .now) (s .packet .now)) (s .packet .now) _ (s .answer .now) _ _ _ _ _ (c .before .before .before .before .before .before .before .before .before .before .before .before .before .before .before .before .before .before .before .before .before .before .before .pre .3) (c .before .before .before .before .before .before .before .before .before .before .before .before .deliver .ensures) (c .before .before .before .before .step .ensures .1) _ (ap paperStepped (sym (c .enum-told .given .1)) ∙ c .before .before .before .before .step .ensures .0) (sym (length-take-le (s .link .len) (s .packet .now) (omega (arith, c .before .before .before .before .before .before .before .before .before .before .before .before .before .before .before .before .before .before .before .before .before .before .before .pre .3, c .before .before .before .before .before .before .before .before .before .before .before .before .before .before .before .before .before .before .before .before .before .before .before .pre .5))))
 
 pub exchange-spec : {M : Type 1} → statement M
 exchange-spec =

@@ -5,20 +5,21 @@ use native.Mathlib.Omega.{arith}
 use borrow.Author.Needs.{needs}
 use borrow.Author.Tests.{not-true, not-false}
 use lib.ListN.{length}
-use Rattle.basis.specs.Board.{flashSize}
+use Rattle.basis.specs.Board.{flashSize, answerMost}
 use Rattle.basis.specs.Lists.{Bytes}
 use Rattle.line.proofs.Driving.{len-fits, exchanged, not-past, done, again}
-use Rattle.line.specs.Line.{Moment, lossAt, momentAt, momentOf}
+use Rattle.line.specs.Line.{Moment, lossAt, momentAt, momentIn}
 use Rattle.session.specs.Laws.Totals.{total-fits}
 use Rattle.session.specs.Plan.{total}
 use Rattle.line.proofs.rehearse.drive.Statement.{statement}
 use Rattle.line.proofs.rehearse.drive.Tie as tie
+use Rattle.packet.specs.Packet.{packetMost}
 
 abbrev Inv-loop : tie.InvT-loop
-Inv-loop losses image map flash₀ packet₀ answer₀ ends₀ i₀ flash packet answer ends i = (length flash ≡ flashSize) × (length packet ≡ 259) × (length answer ≡ 24) × (ends .len ≤ 259) × (i ≤ total map + 1) × (momentOf ends flash packet ≡ momentAt image map (lossAt losses) (momentOf ends₀ flash₀ packet₀) i)
+Inv-loop losses image map flash₀ packet₀ answer₀ link₀ i₀ flash packet answer link i = (length flash ≡ flashSize) × (length packet ≡ packetMost) × (length answer ≡ answerMost) × (link .len ≤ packetMost) × (i ≤ total map + 1) × (momentIn link flash packet ≡ momentAt image map (lossAt losses) (momentIn link₀ flash₀ packet₀) i)
 
 abbrev μ-loop : tie.MeasureT-loop
-μ-loop losses image map flash₀ packet₀ answer₀ ends₀ i₀ flash packet answer ends i = total map + 2 - i
+μ-loop losses image map flash₀ packet₀ answer₀ link₀ i₀ flash packet answer link i = total map + 2 - i
 
 loop-holds : tie.Need-loop-holds Inv-loop μ-loop
 unfolding momentAt
@@ -50,13 +51,13 @@ loop-again c = let s = c .before .before .before .before .before .before .before
     let t = not-true _ (sym (c .before .before .before .before .before .before .before .before .before .before .before .before .is-open .ensures) ∙ c .before .before .before .before .before .before .before .before .before .before .before .if1 .taken) in
     let bytes : Bytes (s .image .now) = λ k. omega (arith, c .before .before .before .before .before .before .before .before .before .before .before .before .before .before .before .before .before .before .shared-slice-known2 .given k) in
     let b = not-past (s .image .now) (s .map .now) (s .flash .now) (p .0) (p .1) (p .2) bytes (p .5) (s .first .session .kind) (s .first .loader) (lossAt (s .losses .now)) _ (p .7) (l .i) _ (l .inv .5) t in
-    let f : l .ends .len ≤ length (l .packet) = omega (arith, l .inv .1, l .inv .3) in (
+    let f : l .link .len ≤ length (l .packet) = omega (arith, l .inv .1, l .inv .3) in (
       k .0 ∙ l .inv .0,
       k .1 .0 ∙ l .inv .1,
       k .1 .1 .0 ∙ l .inv .2,
-      omega (arith, len-fits (s .image .now) (s .map .now) _ (l .ends) (l .flash) (l .packet) f (c .before .before .before .before .before .before .exchange .ensures), k .1 .0, l .inv .1),
+      omega (arith, len-fits (s .image .now) (s .map .now) _ (l .link) (l .flash) (l .packet) f (c .before .before .before .before .before .before .exchange .ensures), k .1 .0, l .inv .1),
       omega arith,
-      exchanged (s .image .now) (s .map .now) _ (l .ends) (l .flash) (l .packet) f (c .before .before .before .before .before .before .exchange .ensures)
+      exchanged (s .image .now) (s .map .now) _ (l .link) (l .flash) (l .packet) f (c .before .before .before .before .before .before .exchange .ensures)
           ∙ again (s .image .now) (s .map .now) (s .flash .now) (p .0) (p .1) (p .2) bytes (p .5) (s .first .session .kind) (s .first .loader) (lossAt (s .losses .now)) _ (p .7) (l .i) _ _ (l .inv .5) t (c .before .before .before .before .before .before .before .before .before .before .at .ensures),
     )
 

@@ -5,9 +5,6 @@ use Rattle.line.specs.Line.{lossAt}
 use Rattle.line.proofs.rehearse.rehearse.Statement.{statement}
 use Rattle.line.proofs.rehearse.rehearse.Tie as tie
 
-cast-if1 : tie.Need-cast-if1
-cast-if1 c = search needs
-
 returns : tie.Need-returns
 returns c = let s = c .before .before .before .before .before .args in flash-refused (s .image .now) (s .map .now) (s .kind) (s .loader) (lossAt (s .losses .now)) (s .flash .now) (c .if1 .taken)
 
@@ -30,7 +27,6 @@ pub rehearse-spec : {M : Type 1} → statement M
 rehearse-spec =
     tie.close
     (tie.spec
-    cast-if1
     returns
     slice-aggregate-begin
     slice-aggregate-begin-2

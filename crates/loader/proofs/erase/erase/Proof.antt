@@ -3,7 +3,7 @@ use Prim.Native.Nat.{ℕ, _*_}
 use mathlib.Core.Path.{refl, ap, sym, _∙_}
 use native.Mathlib.Omega.{arith}
 use borrow.Author.Needs.{needs}
-use Rattle.basis.specs.Board.{pages}
+use Rattle.basis.specs.Board.{pages, pageSize}
 use Rattle.basis.specs.Laws.Refusals.{alike, through}
 use Rattle.basis.specs.Refusals.{given}
 use Rattle.basis.specs.Units.{startOf}
@@ -46,6 +46,9 @@ start-requires c κs = search needs
 cast-erase : tie.Need-cast-erase
 cast-erase c = search needs
 
+cast-erase-2 : tie.Need-cast-erase-2
+cast-erase-2 c = search needs
+
 mul-erase : tie.Need-mul-erase
 mul-erase c = search needs
 
@@ -66,7 +69,7 @@ returns-4 c = let a = c .before .before .before .before .before .before .before 
     (erasing-pages pages (a .loader) (a .address .0) (a .count) (a .flash .now) (c .before .before .before .before .before .before .before .before .before .before .before .before .if1 .left) (sym (c .before .before .before .before .before .before .before .before .before .before .before .is-mass .ensures) ∙ c .before .before .before .before .before .before .before .before .before .before .if2 .left)
     ∙ through _ _ _ (sym (c .before .before .before .before .before .before .before .before .before .judge .ensures) ∙ ap paperVerdict (c .before .before .before .before .before .before .before .enum-told .given .1)))
     refl refl
-    (c .before .before .erase .ensures ∙ ap (λ (s : ℕ). eraseOf (a .flash .now) s (a .count * 512)) (c .before .before .before .before .start .ensures ∙ ap startOf (c .before .before .before .before .before .page .ensures)))
+    (c .before .before .erase .ensures ∙ ap (λ (s : ℕ). eraseOf (a .flash .now) s (a .count * pageSize)) (c .before .before .before .before .start .ensures ∙ ap startOf (c .before .before .before .before .before .page .ensures)))
 
 pub erase-spec : {M : Type 1} → statement M
 erase-spec =
@@ -83,6 +86,7 @@ erase-spec =
     page-requires
     start-requires
     cast-erase
+    cast-erase-2
     mul-erase
     erase-requires
     returns-3

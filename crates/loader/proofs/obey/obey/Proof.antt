@@ -5,7 +5,7 @@ use borrow.Author.Needs.{needs}
 use Rattle.basis.specs.Board.{pages}
 use Rattle.basis.specs.Refusals.{given, first}
 use Rattle.loader.specs.Commands.{erasing, keeping, protecting, obeyOf}
-use Rattle.loader.specs.Laws.Commands.{turned-does, judged-does, obey-erase, obey-write, obey-verify, obey-protect, obey-run}
+use Rattle.loader.specs.Laws.Commands.{changed-does, judged-does, obey-erase, obey-write, obey-verify, obey-protect, obey-run}
 use Rattle.packet.specs.Paper.{paperCommand}
 use Rattle.packet.specs.declared.table.Command.{Command}
 use Rattle.loader.proofs.obey.obey.Statement.{statement}
@@ -19,8 +19,8 @@ by-byte c e = let a = c .args in ap (λ (x : Command). obeyOf pages (a .loader) 
 enum-told : tie.Need-enum-told
 enum-told c = search needs
 
-first-requires : tie.Need-first-requires
-first-requires c κs = search needs
+first-byte-requires : tie.Need-first-byte-requires
+first-byte-requires c κs = search needs
 
 erase-requires : tie.Need-erase-requires
 erase-requires c κs = search needs
@@ -40,8 +40,8 @@ verify-requires c κs = search needs
 enum-told-4 : tie.Need-enum-told-4
 enum-told-4 c = search needs
 
-first-requires-2 : tie.Need-first-requires-2
-first-requires-2 c κs = search needs
+first-byte-requires-2 : tie.Need-first-byte-requires-2
+first-byte-requires-2 c κs = search needs
 
 protect-requires : tie.Need-protect-requires
 protect-requires c κs = search needs
@@ -57,7 +57,7 @@ same-length c = search needs
 
 returns : tie.Need-returns
 returns c = let a = c .before .before .before .before .before .before .before .before .before .args in
-    rw (by-byte (c .before .before .before .before .before .before .before .before .before) (c .before .before .before .before .before .enum-told .given .1) ∙ obey-erase pages (a .loader) (a .address .0) (a .sent .now) (a .flash .now) ∙ ap (λ (n : ℕ). erasing pages (a .loader) (a .address .0) n (a .flash .now)) (sym (c .before .before .before .before .first .ensures)))
+    rw (by-byte (c .before .before .before .before .before .before .before .before .before) (c .before .before .before .before .before .enum-told .given .1) ∙ obey-erase pages (a .loader) (a .address .0) (a .sent .now) (a .flash .now) ∙ ap (λ (n : ℕ). erasing pages (a .loader) (a .address .0) n (a .flash .now)) (sym (c .before .before .before .before .first-byte .ensures)))
     (c .before .before .erase .ensures)
 
 same-length-2 : tie.Need-same-length-2
@@ -76,26 +76,26 @@ returns-3 c = let a = c .before .before .before .before .before .before .args in
 
 returns-4 : tie.Need-returns-4
 returns-4 c = let a = c .before .before .before .before .before .before .args in
-    rw (by-byte (c .before .before .before .before .before .before) (c .before .before .enum-told4 .given .1) ∙ obey-protect pages (a .loader) (a .address .0) (a .sent .now) (a .flash .now) ∙ ap (λ (n : ℕ). keeping (a .flash .now) (protecting pages (a .loader) (a .address .0) n)) (sym (c .before .first2 .ensures)))
-    (turned-does _ _ _ (c .protect .ensures))
+    rw (by-byte (c .before .before .before .before .before .before) (c .before .before .enum-told4 .given .1) ∙ obey-protect pages (a .loader) (a .address .0) (a .sent .now) (a .flash .now) ∙ ap (λ (n : ℕ). keeping (a .flash .now) (protecting pages (a .loader) (a .address .0) n)) (sym (c .before .first-byte2 .ensures)))
+    (changed-does _ _ _ (c .protect .ensures))
 
 returns-5 : tie.Need-returns-5
 returns-5 c = let a = c .before .before .before .before .before .args in
-    rw (by-byte (c .before .before .before .before .before) (c .before .enum-told5 .given .1) ∙ obey-run pages (a .loader) (a .address .0) (a .sent .now) (a .flash .now)) (turned-does _ _ _ (c .run .ensures))
+    rw (by-byte (c .before .before .before .before .before) (c .before .enum-told5 .given .1) ∙ obey-run pages (a .loader) (a .address .0) (a .sent .now) (a .flash .now)) (changed-does _ _ _ (c .run .ensures))
 
 pub obey-spec : {M : Type 1} → statement M
 obey-spec =
     tie.close
     (tie.spec
     enum-told
-    first-requires
+    first-byte-requires
     erase-requires
     enum-told-2
     write-requires
     enum-told-3
     verify-requires
     enum-told-4
-    first-requires-2
+    first-byte-requires-2
     protect-requires
     enum-told-5
     run-requires

@@ -4,7 +4,7 @@ use borrow.Author.Needs.{needs}
 use borrow.Author.Tests.{le-leb, lt-leb}
 use Rattle.basis.specs.Laws.Refusals.{skip, stop, done}
 use Rattle.loader.specs.Commands.{adding}
-use Rattle.loader.specs.Laws.Commands.{stays, turns}
+use Rattle.loader.specs.Laws.Commands.{stays, changes}
 use Rattle.loader.specs.State.{withAdded}
 use Rattle.loader.proofs.protect.add.Statement.{statement}
 use Rattle.loader.proofs.protect.add.Tie as tie
@@ -28,7 +28,7 @@ with-added-requires c κs = search needs
 
 returns-3 : tie.Need-returns-3
 unfolding adding
-returns-3 c = turns _ (skip _ _ _ _ (c .before .before .before .before .before .before .if1 .left) ∙ skip _ _ _ _ (lt-leb _ _ (c .before .before .before .before .if2 .left)) ∙ done _) (c .with-added .ensures ∙ ap (withAdded (c .before .before .before .before .before .before .before .before .args .loader)) (c .before .added .ensures))
+returns-3 c = changes _ (skip _ _ _ _ (c .before .before .before .before .before .before .if1 .left) ∙ skip _ _ _ _ (lt-leb _ _ (c .before .before .before .before .if2 .left)) ∙ done _) (c .with-added .ensures ∙ ap (withAdded (c .before .before .before .before .before .before .before .before .args .loader)) (c .before .added .ensures))
 
 pub add-spec : {M : Type 1} → statement M
 add-spec =

@@ -3,7 +3,7 @@ use mathlib.Core.Path.{_∙_}
 use borrow.Author.Needs.{needs}
 use Rattle.basis.specs.Laws.Refusals.{skip, stop, done}
 use Rattle.loader.specs.Commands.{closing}
-use Rattle.loader.specs.Laws.Commands.{stays, turns}
+use Rattle.loader.specs.Laws.Commands.{stays, changes}
 use Rattle.loader.proofs.protect.close.Statement.{statement}
 use Rattle.loader.proofs.protect.close.Tie as tie
 
@@ -16,7 +16,7 @@ joined-requires c κs = search needs
 
 returns-2 : tie.Need-returns-2
 unfolding closing
-returns-2 c = turns _ (skip _ _ _ _ (c .before .if1 .left) ∙ done _) (c .joined .ensures)
+returns-2 c = changes _ (skip _ _ _ _ (c .before .if1 .left) ∙ done _) (c .joined .ensures)
 
 pub close-spec : {M : Type 1} → statement M
 close-spec = tie.close (tie.spec returns joined-requires returns-2)

@@ -3,7 +3,7 @@ use mathlib.Core.Path.{ap, _∙_}
 use borrow.Author.Needs.{needs}
 use Rattle.basis.specs.Laws.Refusals.{skip, stop, done}
 use Rattle.loader.specs.Commands.{opening}
-use Rattle.loader.specs.Laws.Commands.{stays, turns}
+use Rattle.loader.specs.Laws.Commands.{stays, changes}
 use Rattle.loader.specs.State.{withAdded}
 use Rattle.loader.proofs.protect.open.Statement.{statement}
 use Rattle.loader.proofs.protect.open.Tie as tie
@@ -20,7 +20,7 @@ with-added-requires c κs = search needs
 
 returns-2 : tie.Need-returns-2
 unfolding opening
-returns-2 c = turns _ (skip _ _ _ _ (c .before .before .if1 .left) ∙ done _) (c .with-added .ensures ∙ ap (withAdded (c .before .before .before .args .loader)) (c .before .none .ensures))
+returns-2 c = changes _ (skip _ _ _ _ (c .before .before .if1 .left) ∙ done _) (c .with-added .ensures ∙ ap (withAdded (c .before .before .before .args .loader)) (c .before .none .ensures))
 
 pub open-spec : {M : Type 1} → statement M
 open-spec = tie.close (tie.spec returns none-requires with-added-requires returns-2)

@@ -4,7 +4,7 @@ use borrow.Author.Needs.{needs}
 use borrow.Author.Tests.{lt-ltb, le-ltb}
 use Rattle.basis.specs.Laws.Refusals.{skip, stop, done}
 use Rattle.loader.specs.Commands.{running}
-use Rattle.loader.specs.Laws.Commands.{stays, turns}
+use Rattle.loader.specs.Laws.Commands.{stays, changes}
 use Rattle.loader.proofs.run.run.Statement.{statement}
 use Rattle.loader.proofs.run.run.Tie as tie
 
@@ -21,7 +21,7 @@ with-condition-requires c κs = search needs
 
 returns-3 : tie.Need-returns-3
 unfolding running
-returns-3 c = turns _ (skip _ _ _ _ (c .before .before .before .if1 .left) ∙ skip _ _ _ _ (le-ltb _ _ (c .before .if2 .left)) ∙ done _) (c .with-condition .ensures)
+returns-3 c = changes _ (skip _ _ _ _ (c .before .before .before .if1 .left) ∙ skip _ _ _ _ (le-ltb _ _ (c .before .if2 .left)) ∙ done _) (c .with-condition .ensures)
 
 pub run-spec : {M : Type 1} → statement M
 run-spec = tie.close (tie.spec returns returns-2 with-condition-requires returns-3)

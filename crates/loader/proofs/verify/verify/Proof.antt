@@ -10,6 +10,7 @@ use Rattle.basis.specs.Laws.Refusals.{skip, stop, done}
 use Rattle.loader.specs.Commands.{verifyRows}
 use Rattle.loader.proofs.verify.verify.Statement.{statement}
 use Rattle.loader.proofs.verify.verify.Tie as tie
+use Rattle.basis.specs.Board.{flashSize}
 
 returns : tie.Need-returns
 unfolding verifyRows
@@ -26,19 +27,19 @@ returns-3 : tie.Need-returns-3
 unfolding verifyRows
 returns-3 c = sym (skip _ _ _ _ (c .before .before .before .if1 .left) ∙ skip _ _ _ _ (sym (c .before .before .past-end .ensures) ∙ c .before .if2 .left) ∙ stop _ _ _ _ (c .if3 .taken))
 
-cast-same : tie.Need-cast-same
-cast-same c = search needs
+cast-equals : tie.Need-cast-equals
+cast-equals c = search needs
 
-same-requires : tie.Need-same-requires
-same-requires c κs = let a = c .before .before .before .before .before .before .before .args in omega (arith, ltb-false 63488 (a .address .0 + length (a .turned .now)) (sym (c .before .before .before .past-end .ensures) ∙ c .before .before .if2 .left), c .before .before .before .before .before .before .before .pre)
+equals-requires : tie.Need-equals-requires
+equals-requires c κs = let a = c .before .before .before .before .before .before .before .args in omega (arith, ltb-false flashSize (a .address .0 + length (a .turned .now)) (sym (c .before .before .before .past-end .ensures) ∙ c .before .before .if2 .left), c .before .before .before .before .before .before .before .pre)
 
 returns-4 : tie.Need-returns-4
 unfolding verifyRows
-returns-4 c = sym (skip _ _ _ _ (c .before .before .before .before .before .before .if1 .left) ∙ skip _ _ _ _ (sym (c .before .before .before .before .before .past-end .ensures) ∙ c .before .before .before .before .if2 .left) ∙ skip _ _ _ _ (c .before .before .before .if3 .left) ∙ stop _ _ _ _ (ap not (sym (c .before .same .ensures)) ∙ c .if4 .taken))
+returns-4 c = sym (skip _ _ _ _ (c .before .before .before .before .before .before .if1 .left) ∙ skip _ _ _ _ (sym (c .before .before .before .before .before .past-end .ensures) ∙ c .before .before .before .before .if2 .left) ∙ skip _ _ _ _ (c .before .before .before .if3 .left) ∙ stop _ _ _ _ (ap not (sym (c .before .equals .ensures)) ∙ c .if4 .taken))
 
 returns-5 : tie.Need-returns-5
 unfolding verifyRows
-returns-5 c = sym (skip _ _ _ _ (c .before .before .before .before .before .before .if1 .left) ∙ skip _ _ _ _ (sym (c .before .before .before .before .before .past-end .ensures) ∙ c .before .before .before .before .if2 .left) ∙ skip _ _ _ _ (c .before .before .before .if3 .left) ∙ skip _ _ _ _ (ap not (sym (c .before .same .ensures)) ∙ c .if4 .left) ∙ done _)
+returns-5 c = sym (skip _ _ _ _ (c .before .before .before .before .before .before .if1 .left) ∙ skip _ _ _ _ (sym (c .before .before .before .before .before .past-end .ensures) ∙ c .before .before .before .before .if2 .left) ∙ skip _ _ _ _ (c .before .before .before .if3 .left) ∙ skip _ _ _ _ (ap not (sym (c .before .equals .ensures)) ∙ c .if4 .left) ∙ done _)
 
 pub verify-spec : {M : Type 1} → statement M
 verify-spec =
@@ -48,7 +49,7 @@ verify-spec =
     past-end-requires
     returns-2
     returns-3
-    cast-same
-    same-requires
+    cast-equals
+    equals-requires
     returns-4
     returns-5)

@@ -4,7 +4,7 @@ use mathlib.Core.Path.{_≡_, ap₂, sym, _∙_}
 use native.Mathlib.Omega.{arith}
 use borrow.Author.Needs.{needs}
 use borrow.Author.Tests.{ltb-true, ltb-false}
-use Rattle.basis.specs.Board.{pages}
+use Rattle.basis.specs.Board.{pages, flashSize}
 use Rattle.basis.specs.Refusals.{given}
 use Rattle.loader.specs.Commands.{protectedBytes}
 use Rattle.loader.specs.Laws.Commands.{write-open, write-past, write-protected, write-passes}
@@ -12,7 +12,7 @@ use Rattle.loader.specs.Protection.{anyOf}
 use Rattle.loader.proofs.write.judge.Statement.{statement}
 use Rattle.loader.proofs.write.judge.Tie as tie
 
-inside : (c : tie.Else2) → let a = c .before .before .before .args in a .address .0 + a .size ≤ 63488
+inside : (c : tie.Else2) → let a = c .before .before .before .args in a .address .0 + a .size ≤ flashSize
 inside c = ltb-false _ _ (sym (c .before .past-end .ensures) ∙ c .if2 .left)
 
 -- the groups asked for are those of the bytes
@@ -39,8 +39,11 @@ add-end c = let h = inside (c .before .before) in omega arith
 group-requires : tie.Need-group-requires
 group-requires c κs = search needs
 
-add-t10 : tie.Need-add-t10
-add-t10 c = let h = inside (c .before .before .before) in omega arith
+sub-t10 : tie.Need-sub-t10
+sub-t10 c = search needs
+
+add-t14 : tie.Need-add-t14
+add-t14 c = let h = inside (c .before .before .before) in omega arith
 
 group-requires-2 : tie.Need-group-requires-2
 group-requires-2 c κs = search needs
@@ -64,7 +67,8 @@ judge-spec =
     cast-end
     add-end
     group-requires
-    add-t10
+    sub-t10
+    add-t14
     group-requires-2
     any-requires
     returns-3

@@ -8,19 +8,17 @@ use lib.Dec.{ltb}
 use Rattle.basis.specs.Laws.Choice.{decide}
 use Rattle.loader.proofs.write.past_end.Statement.{statement}
 use Rattle.loader.proofs.write.past_end.Tie as tie
+use Rattle.basis.specs.Board.{flashSize}
 
 -- the sum that could wrap is turned into a difference that cannot
-turned-over : (a x : ℕ) → x ≤ 63488 → ltb (63488 - x) a ≡ ltb 63488 (a + x)
+turned-over : (a x : ℕ) → x ≤ flashSize → ltb (flashSize - x) a ≡ ltb flashSize (a + x)
 turned-over a x h =
-    decide (ltb (63488 - x) a)
-    (λ t. t ∙ sym (lt-ltb 63488 (a + x) (omega (arith, ltb-true (63488 - x) a t))))
-    (λ t. t ∙ sym (le-ltb 63488 (a + x) (omega (arith, ltb-false (63488 - x) a t))))
-
-cast-room : tie.Need-cast-room
-cast-room c = search needs
+    decide (ltb (flashSize - x) a)
+    (λ t. t ∙ sym (lt-ltb flashSize (a + x) (omega (arith, ltb-true (flashSize - x) a t))))
+    (λ t. t ∙ sym (le-ltb flashSize (a + x) (omega (arith, ltb-false (flashSize - x) a t))))
 
 returns : tie.Need-returns
-returns c = let a = c .before .args in sym (lt-ltb 63488 (a .address .0 + a .size) (omega arith))
+returns c = let a = c .before .args in sym (lt-ltb flashSize (a .address .0 + a .size) (omega arith))
 
 cast-result : tie.Need-cast-result
 cast-result c = search needs
@@ -29,4 +27,4 @@ returns-2 : tie.Need-returns-2
 returns-2 c = let a = c .before .before .args in turned-over (a .address .0) (a .size) (c .before .if1 .left)
 
 pub past-end-spec : {M : Type 1} → statement M
-past-end-spec = tie.close (tie.spec cast-room returns cast-result returns-2)
+past-end-spec = tie.close (tie.spec returns cast-result returns-2)

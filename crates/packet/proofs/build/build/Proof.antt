@@ -9,18 +9,18 @@ use Rattle.basis.specs.Laws.Refusals.{leaves, writes, alike}
 use Rattle.basis.specs.Refusals.{refused, given, first}
 use Rattle.packet.specs.Laws.Packet.{packet-length, build-small, build-table}
 use Rattle.packet.specs.Laws.Table.{table-passes, table-holds, shape-short}
-use Rattle.packet.specs.Packet.{packet, buildOf}
+use Rattle.packet.specs.Packet.{packet, buildOf, dataMost, packetMost}
 use Rattle.packet.specs.Paper.{paperRow}
 use Rattle.packet.specs.Table.{table}
 use Rattle.packet.proofs.build.build.Statement.{statement}
 use Rattle.packet.proofs.build.build.Tie as tie
 
 -- the table's word, handed on
-module _ (room c a : ℕ) (d : List ℕ) (t k : ℕ) (h : 259 ≤ room) (e : t ≡ getD d 0 0) where
+module _ (room c a : ℕ) (d : List ℕ) (t k : ℕ) (h : packetMost ≤ room) (e : t ≡ getD d 0 0) where
   build-refused : first (table c (length d + 5) t) (given c) ≡ refused k → buildOf room c a d ≡ refused k
   build-refused f = build-table room c a d h ∙ alike _ _ _ (rw e at f)
 
-  build-given : first (table c (length d + 5) t) (given c) ≡ given k → (length d ≤ 250) × (buildOf room c a d ≡ given (packet c a d))
+  build-given : first (table c (length d + 5) t) (given c) ≡ given k → (length d ≤ dataMost) × (buildOf room c a d ≡ given (packet c a d))
   build-given f =
       let g = table-holds c (length d + 5) (getD d 0 0) (given c) (rw e at f) in (
         omega (arith, shape-short c (length d + 5) (getD d 0 0) (g .1)),
@@ -33,8 +33,8 @@ returns c = leaves _ (build-small _ _ _ _ (c .if1 .taken))
 add-look-up : tie.Need-add-look-up
 add-look-up c = search needs
 
-first-requires : tie.Need-first-requires
-first-requires c κs = search needs
+first-byte-requires : tie.Need-first-byte-requires
+first-byte-requires c κs = search needs
 
 look-up-requires : tie.Need-look-up-requires
 look-up-requires c κs = search needs
@@ -47,17 +47,17 @@ enum-told c = search needs
 
 write-requires : tie.Need-write-requires
 write-requires c κs = let a = c .before .before .before .before .before .before .before .before .args in
-    (c .before .before .before .before .before .if1 .left, build-given _ (a .command) (a .address .0) (a .plain .now) _ _ (c .before .before .before .before .before .if1 .left) (c .before .before .before .before .first .ensures) (sym (c .before .before .before .look-up .ensures) ∙ ap paperRow (c .before .enum-told .given .1)) .0)
+    (c .before .before .before .before .before .if1 .left, build-given _ (a .command) (a .address .0) (a .plain .now) _ _ (c .before .before .before .before .before .if1 .left) (c .before .before .before .before .first-byte .ensures) (sym (c .before .before .before .look-up .ensures) ∙ ap paperRow (c .before .enum-told .given .1)) .0)
 
 returns-2 : tie.Need-returns-2
-returns-2 c = leaves _ (build-refused _ _ _ _ _ _ (c .before .before .before .before .before .if1 .left) (c .before .before .before .before .first .ensures) (sym (c .before .before .before .look-up .ensures) ∙ ap paperRow (c .before .why .given .1)))
+returns-2 c = leaves _ (build-refused _ _ _ _ _ _ (c .before .before .before .before .before .if1 .left) (c .before .before .before .before .first-byte .ensures) (sym (c .before .before .before .look-up .ensures) ∙ ap paperRow (c .before .why .given .1)))
 
 same-length : tie.Need-same-length
 same-length c = search needs
 
 returns-3 : tie.Need-returns-3
 returns-3 c = let a = c .before .before .before .before .before .before .before .before .before .before .before .args in
-    let b = build-given _ _ (a .address .0) _ _ _ (c .before .before .before .before .before .before .before .before .if1 .left) (c .before .before .before .before .before .before .before .first .ensures) (sym (c .before .before .before .before .before .before .look-up .ensures) ∙ ap paperRow (c .before .before .before .before .enum-told .given .1)) in
+    let b = build-given _ _ (a .address .0) _ _ _ (c .before .before .before .before .before .before .before .before .if1 .left) (c .before .before .before .before .before .before .before .first-byte .ensures) (sym (c .before .before .before .before .before .before .look-up .ensures) ∙ ap paperRow (c .before .before .before .before .enum-told .given .1)) in
     writes _ _ (b .1) (c .before .before .write .ensures .0 ∙ sym (packet-length (a .command) (a .address .0) (a .plain .now))) (c .before .before .write .ensures .1)
 
 pub build-spec : {M : Type 1} → statement M
@@ -66,7 +66,7 @@ build-spec =
     (tie.spec
     returns
     add-look-up
-    first-requires
+    first-byte-requires
     look-up-requires
     enum-known-why
     enum-told

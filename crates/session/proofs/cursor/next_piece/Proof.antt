@@ -5,18 +5,19 @@ use Rattle.runs.specs.Laws.Runs.{len-le}
 use Rattle.runs.specs.Map.{named}
 use Rattle.session.proofs.cursor.next_piece.Statement.{statement}
 use Rattle.session.proofs.cursor.next_piece.Tie as tie
+use Rattle.runs.specs.Pieces.{pieceMost}
 
-run-len-requires : tie.Need-run-len-requires
-run-len-requires c κs = search needs
+row-len-requires : tie.Need-row-len-requires
+row-len-requires c κs = search needs
 
 add-end : tie.Need-add-end
-add-end c = let s = c .before .before .before .args in omega (arith, c .before .run-len .ensures, len-le (named (s .map .now)) (s .address .0) 250)
+add-end c = let s = c .before .before .before .args in omega (arith, c .before .row-len .ensures, len-le (named (s .map .now)) (s .address .0) pieceMost)
 
 next-named-requires : tie.Need-next-named-requires
 next-named-requires c κs = search needs
 
 returns : tie.Need-returns
-returns c = rw (← c .before .before .run-len .ensures) (c .next-named .ensures)
+returns c = rw (← c .before .before .row-len .ensures) (c .next-named .ensures)
 
 pub next-piece-spec : {M : Type 1} → statement M
-next-piece-spec = tie.close (tie.spec run-len-requires add-end next-named-requires returns)
+next-piece-spec = tie.close (tie.spec row-len-requires add-end next-named-requires returns)

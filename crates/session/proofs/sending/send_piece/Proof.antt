@@ -14,8 +14,8 @@ use Rattle.session.proofs.sending.send_piece.Tie as tie
 cast-from : tie.Need-cast-from
 cast-from c = search needs
 
-run-len-requires : tie.Need-run-len-requires
-run-len-requires c κs = let s = c .before .before .before .before in omega (arith, piece-below (s .args .map .now) (s .pre .1) (s .args .address .0) (s .pre .4))
+row-len-requires : tie.Need-row-len-requires
+row-len-requires c κs = let s = c .before .before .before .before in omega (arith, piece-below (s .args .map .now) (s .pre .1) (s .args .address .0) (s .pre .4))
 
 cast-end : tie.Need-cast-end
 cast-end c = search needs
@@ -30,7 +30,7 @@ part-put-start : tie.Need-part-put-start
 part-put-start c = search needs
 
 part-put-end : tie.Need-part-put-end
-part-put-end c = let s = c .before .before .before .before .before .before in omega (arith, c .before .run-len .ensures, file-piece (s .args .map .now) (s .pre .1) (s .args .address .0) (s .pre .4))
+part-put-end c = let s = c .before .before .before .before .before .before in omega (arith, c .before .row-len .ensures, file-piece (s .args .map .now) (s .pre .1) (s .args .address .0) (s .pre .4))
 
 put-requires : tie.Need-put-requires
 put-requires c κs = let s = c .before .before .before .before .before .before .before in
@@ -38,7 +38,7 @@ put-requires c κs = let s = c .before .before .before .before .before .before .
     let m = s .args .map .now in
     let d = pieceBytes (s .args .image .now) m a in
     let k = piece-carried m (s .pre .1) (s .args .image .now) a (s .pre .0) (s .pre .4) in
-    let e : a + c .before .before .run-len .result - a ≡ pieceLen m a = omega (arith, c .before .before .run-len .ensures) in
+    let e : a + c .before .before .row-len .result - a ≡ pieceLen m a = omega (arith, c .before .before .row-len .ensures) in
     (s .pre .2, carries-listed (s .args .command) (s .pre .3), rw e (carries-shape (s .args .command) (length d + 5) (getD d 0 0) (s .pre .3) (omega arith) (omega arith)))
 
 same-length : tie.Need-same-length
@@ -47,7 +47,7 @@ same-length c = search needs
 returns : tie.Need-returns
 returns c = let s = c .before .before .before .before .before .before .before .before .before .before in
     let a = s .args .address .0 in
-    let e : a + c .before .before .before .before .before .run-len .result - a ≡ pieceLen (s .args .map .now) a = omega (arith, c .before .before .before .before .before .run-len .ensures) in
+    let e : a + c .before .before .before .before .before .row-len .result - a ≡ pieceLen (s .args .map .now) a = omega (arith, c .before .before .before .before .before .row-len .ensures) in
     rw (← e) (c .before .before .put .ensures)
 
 pub send-piece-spec : {M : Type 1} → statement M
@@ -55,7 +55,7 @@ send-piece-spec =
     tie.close
     (tie.spec
     cast-from
-    run-len-requires
+    row-len-requires
     cast-end
     add-end
     sub-put

@@ -1,7 +1,7 @@
 -- `judge_first` meets its contract, event by event.
 use mathlib.Core.Path.{sym, ap}
 use borrow.Author.Needs.{needs}
-use Rattle.session.specs.Session.{judgedFirst}
+use Rattle.session.specs.Session.{judgeFirstOf}
 use Rattle.session.proofs.session.judge_first.Statement.{statement}
 use Rattle.session.proofs.session.judge_first.Tie as tie
 
@@ -24,16 +24,16 @@ returns : tie.Need-returns
 returns c = search needs
 
 returns-2 : tie.Need-returns-2
-returns-2 c = sym (ap judgedFirst (c .enum-told2 .given .1))
+returns-2 c = sym (ap judgeFirstOf (c .enum-told2 .given .1))
 
 returns-3 : tie.Need-returns-3
-returns-3 c = sym (ap judgedFirst (c .enum-told3 .given .1))
+returns-3 c = sym (ap judgeFirstOf (c .enum-told3 .given .1))
 
 returns-4 : tie.Need-returns-4
-returns-4 c = sym (ap judgedFirst (c .enum-told4 .given .1))
+returns-4 c = sym (ap judgeFirstOf (c .enum-told4 .given .1))
 
 returns-5 : tie.Need-returns-5
-returns-5 c = sym (ap judgedFirst (c .enum-told5 .given .1))
+returns-5 c = sym (ap judgeFirstOf (c .enum-told5 .given .1))
 
 pub judge-first-spec : {M : Type 1} → statement M
 judge-first-spec =

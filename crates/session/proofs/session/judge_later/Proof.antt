@@ -1,7 +1,7 @@
 -- `judge_later` meets its contract, event by event.
 use mathlib.Core.Path.{sym, ap}
 use borrow.Author.Needs.{needs}
-use Rattle.session.specs.Session.{judgedLater}
+use Rattle.session.specs.Session.{judgeLaterOf}
 use Rattle.session.proofs.session.judge_later.Statement.{statement}
 use Rattle.session.proofs.session.judge_later.Tie as tie
 
@@ -21,19 +21,19 @@ enum-told-5 : tie.Need-enum-told-5
 enum-told-5 c = search needs
 
 returns : tie.Need-returns
-returns c = sym (ap judgedLater (c .enum-told .given .1))
+returns c = sym (ap judgeLaterOf (c .enum-told .given .1))
 
 returns-2 : tie.Need-returns-2
 returns-2 c = search needs
 
 returns-3 : tie.Need-returns-3
-returns-3 c = sym (ap judgedLater (c .enum-told3 .given .1))
+returns-3 c = sym (ap judgeLaterOf (c .enum-told3 .given .1))
 
 returns-4 : tie.Need-returns-4
-returns-4 c = sym (ap judgedLater (c .enum-told4 .given .1))
+returns-4 c = sym (ap judgeLaterOf (c .enum-told4 .given .1))
 
 returns-5 : tie.Need-returns-5
-returns-5 c = sym (ap judgedLater (c .enum-told5 .given .1))
+returns-5 c = sym (ap judgeLaterOf (c .enum-told5 .given .1))
 
 pub judge-later-spec : {M : Type 1} → statement M
 judge-later-spec =

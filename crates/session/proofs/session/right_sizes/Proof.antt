@@ -6,9 +6,6 @@ use Rattle.basis.specs.Laws.Choice.{both-second, both-false}
 use Rattle.session.proofs.session.right_sizes.Statement.{statement}
 use Rattle.session.proofs.session.right_sizes.Tie as tie
 
-cast-if1 : tie.Need-cast-if1
-cast-if1 c = search needs
-
 returns : tie.Need-returns
 returns c = sym (both-false _ _ (ne-eqb _ _ (c .if1 .taken)))
 
@@ -19,4 +16,4 @@ returns-3 : tie.Need-returns-3
 returns-3 c = sym (both-second _ _ (eq-eqb _ _ (c .before .if1 .left)) ∙ both-second _ _ (eq-eqb _ _ (c .if2 .left)))
 
 pub right-sizes-spec : {M : Type 1} → statement M
-right-sizes-spec = tie.close (tie.spec cast-if1 returns returns-2 returns-3)
+right-sizes-spec = tie.close (tie.spec returns returns-2 returns-3)

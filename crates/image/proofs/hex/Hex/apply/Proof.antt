@@ -5,10 +5,11 @@ use denote.Ref.{now}
 use Rattle.image.specs.Record.{paperCheck}
 use Rattle.image.specs.Hex.{settled}
 use Rattle.image.specs.Laws.Hex.{framing-count}
-use Rattle.image.proofs.Records.{apply-framing, apply-shape, apply-data, apply-told}
+use Rattle.image.proofs.Records.{apply-framing, apply-shape, apply-data, apply-other}
 use borrow.Author.Needs.{needs}
 use Rattle.image.proofs.hex.Hex.apply.Statement.{statement}
 use Rattle.image.proofs.hex.Hex.apply.Tie as tie
+use Rattle.basis.specs.Board.{flashSize}
 
 framing-requires : tie.Need-framing-requires
 framing-requires c κs = search needs
@@ -17,7 +18,7 @@ enum-known-framed : tie.Need-enum-known-framed
 enum-known-framed c = search needs
 
 returns : tie.Need-returns
-returns c = apply-framing 63488 _ _ _ _ _ _ (sym (c .before .before .before .framing .ensures) ∙ ap paperCheck (c .before .framed .given .1))
+returns c = apply-framing flashSize _ _ _ _ _ _ (sym (c .before .before .before .framing .ensures) ∙ ap paperCheck (c .before .framed .given .1))
 
 enum-told : tie.Need-enum-told
 enum-told c = search needs
@@ -29,7 +30,7 @@ enum-known-shaped : tie.Need-enum-known-shaped
 enum-known-shaped c = search needs
 
 returns-2 : tie.Need-returns-2
-returns-2 c = apply-shape 63488 _ _ _ _ _ (sym (c .before .before .before .before .before .before .framing .ensures) ∙ ap paperCheck (c .before .before .before .before .enum-told .given .1)) _ (sym (c .before .before .before .shape .ensures) ∙ ap paperCheck (c .before .shaped .given .1))
+returns-2 c = apply-shape flashSize _ _ _ _ _ (sym (c .before .before .before .before .before .before .framing .ensures) ∙ ap paperCheck (c .before .before .before .before .enum-told .given .1)) _ (sym (c .before .before .before .shape .ensures) ∙ ap paperCheck (c .before .shaped .given .1))
 
 enum-told-2 : tie.Need-enum-told-2
 enum-told-2 c = search needs
@@ -50,15 +51,15 @@ same-length-2 c = search needs
 returns-3 : tie.Need-returns-3
 returns-3 c = let a = c .before .before .before .before .before .before .before .before .before .before .before .before .before .before .before .before .before .before .args in
     c .before .before .before .before .«data» .ensures
-    ∙ ap (λ x. settled x (now (a .image)) (now (a .map))) (apply-data 63488 _ _ _ _ _ (sym (c .before .before .before .before .before .before .before .before .before .before .before .before .before .before .framing .ensures) ∙ ap paperCheck (c .before .before .before .before .before .before .before .before .before .before .before .before .enum-told .given .1)) (sym (c .before .before .before .before .before .before .before .before .before .before .before .shape .ensures) ∙ ap paperCheck (c .before .before .before .before .before .before .before .before .before .enum-told2 .given .1)) (c .before .before .before .before .before .before .before .if1 .taken))
+    ∙ ap (λ x. settled x (now (a .image)) (now (a .map))) (apply-data flashSize _ _ _ _ _ (sym (c .before .before .before .before .before .before .before .before .before .before .before .before .before .before .framing .ensures) ∙ ap paperCheck (c .before .before .before .before .before .before .before .before .before .before .before .before .enum-told .given .1)) (sym (c .before .before .before .before .before .before .before .before .before .before .before .shape .ensures) ∙ ap paperCheck (c .before .before .before .before .before .before .before .before .before .enum-told2 .given .1)) (c .before .before .before .before .before .before .before .if1 .taken))
 
-told-requires : tie.Need-told-requires
-told-requires c κs = let f = framing-count (c .before .before .before .before .before .before .before .before .before .before .before .args .n) (c .before .before .before .before .before .before .before .before .before .before .before .args .bytes .now) (sym (c .before .before .before .before .before .before .before .framing .ensures) ∙ ap paperCheck (c .before .before .before .before .before .enum-told .given .1)) in
+other-requires : tie.Need-other-requires
+other-requires c κs = let f = framing-count (c .before .before .before .before .before .before .before .before .before .before .before .args .n) (c .before .before .before .before .before .before .before .before .before .before .before .args .bytes .now) (sym (c .before .before .before .before .before .before .before .framing .ensures) ∙ ap paperCheck (c .before .before .before .before .before .enum-told .given .1)) in
     (omega (arith, f, c .before .before .before .before .before .before .before .before .before .before .before .pre .0), sym (c .before .before .before .before .shape .ensures) ∙ ap paperCheck (c .before .before .enum-told2 .given .1), c .if1 .left)
 
 returns-4 : tie.Need-returns-4
 returns-4 c = let a = c .before .before .before .before .before .before .before .before .before .before .before .before .args in
-    rw (c .told .ensures) (ap (λ x. settled x (now (a .image)) (now (a .map))) (apply-told 63488 _ _ _ _ _ (sym (c .before .before .before .before .before .before .before .before .framing .ensures) ∙ ap paperCheck (c .before .before .before .before .before .before .enum-told .given .1)) (sym (c .before .before .before .before .before .shape .ensures) ∙ ap paperCheck (c .before .before .before .enum-told2 .given .1)) (c .before .if1 .left)))
+    rw (c .other .ensures) (ap (λ x. settled x (now (a .image)) (now (a .map))) (apply-other flashSize _ _ _ _ _ (sym (c .before .before .before .before .before .before .before .before .framing .ensures) ∙ ap paperCheck (c .before .before .before .before .before .before .enum-told .given .1)) (sym (c .before .before .before .before .before .shape .ensures) ∙ ap paperCheck (c .before .before .before .enum-told2 .given .1)) (c .before .if1 .left)))
 
 pub apply-spec : {M : Type 1} → statement M
 apply-spec =
@@ -77,5 +78,5 @@ apply-spec =
     same-length
     same-length-2
     returns-3
-    told-requires
+    other-requires
     returns-4)

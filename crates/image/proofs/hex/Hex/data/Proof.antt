@@ -8,6 +8,7 @@ use Rattle.image.proofs.Records.{data-none, data-high, data-twice, data
 use borrow.Author.Needs.{needs}
 use Rattle.image.proofs.hex.Hex.data.Statement.{statement}
 use Rattle.image.proofs.hex.Hex.data.Tie as tie
+use Rattle.basis.specs.Board.{flashSize}
 
 shared-slice-read-wide : tie.Need-shared-slice-read-wide
 shared-slice-read-wide c = search needs
@@ -16,7 +17,7 @@ wide-requires : tie.Need-wide-requires
 wide-requires c κs = search needs
 
 returns : tie.Need-returns
-returns c = data-none 63488 _ _ _ _ (sym (c .before .wide .ensures .0) ∙ c .if1 .taken)
+returns c = data-none flashSize _ _ _ _ (sym (c .before .wide .ensures .0) ∙ c .if1 .taken)
 
 cast-place : tie.Need-cast-place
 cast-place c = search needs
@@ -50,7 +51,7 @@ add-if2 c = search needs
 
 returns-2 : tie.Need-returns-2
 returns-2 c = let b = c .before .before .before .before .before .before .before .before .before .before .before .before .args .bytes .now in
-    data-high 63488 _ b _ _ (omega (arith, c .before .before .before .before .before .before .before .wide .ensures .0, c .before .before .before .before .before .before .if1 .left)) (omega (arith, c .before .before .before .before .before .before .before .wide .ensures .0, c .before .word .ensures, c .if2 .taken))
+    data-high flashSize _ b _ _ (omega (arith, c .before .before .before .before .before .before .before .wide .ensures .0, c .before .before .before .before .before .before .if1 .left)) (omega (arith, c .before .before .before .before .before .before .before .wide .ensures .0, c .before .word .ensures, c .if2 .taken))
 
 cast-any-named : tie.Need-cast-any-named
 cast-any-named c = search needs
@@ -66,7 +67,7 @@ same-length c = search needs
 
 returns-3 : tie.Need-returns-3
 returns-3 c = let b = c .before .before .before .before .before .before .before .before .before .before .before .before .before .before .before .args .bytes .now in
-    data-twice 63488 _ b _ _ (omega (arith, c .before .before .before .before .before .before .before .before .before .before .wide .ensures .0, c .before .before .before .before .before .before .before .before .before .if1 .left)) (omega (arith, c .before .before .before .before .before .before .before .before .before .before .wide .ensures .0, c .before .before .before .before .word .ensures, c .before .before .before .if2 .left)) (rw (← c .before .before .before .before .before .before .before .before .before .before .wide .ensures .0, ← c .before .before .before .before .word .ensures) (sym (c .before .any-named .ensures) ∙ c .if3 .taken))
+    data-twice flashSize _ b _ _ (omega (arith, c .before .before .before .before .before .before .before .before .before .before .wide .ensures .0, c .before .before .before .before .before .before .before .before .before .if1 .left)) (omega (arith, c .before .before .before .before .before .before .before .before .before .before .wide .ensures .0, c .before .before .before .before .word .ensures, c .before .before .before .if2 .left)) (rw (← c .before .before .before .before .before .before .before .before .before .before .wide .ensures .0, ← c .before .before .before .before .word .ensures) (sym (c .before .any-named .ensures) ∙ c .if3 .taken))
 
 add-end : tie.Need-add-end
 add-end c = search needs
@@ -98,7 +99,7 @@ same-length-3 c = search needs
 returns-4 : tie.Need-returns-4
 returns-4 c = let b = c .before .before .before .before .before .before .before .before .before .before .before .before .before .before .before .before .before .before .before .before .before .before .before .before .args .bytes .now in
     let size : 4 + c .before .before .before .before .before .before .before .before .before .before .before .before .before .before .before .before .before .before .before .wide .result - 4 ≡ count b = omega (arith, c .before .before .before .before .before .before .before .before .before .before .before .before .before .before .before .before .before .before .before .wide .ensures .0) in
-    data-given 63488 _ b _ _ (omega (arith, c .before .before .before .before .before .before .before .before .before .before .before .before .before .before .before .before .before .before .before .wide .ensures .0, c .before .before .before .before .before .before .before .before .before .before .before .before .before .before .before .before .before .before .if1 .left)) (omega (arith, c .before .before .before .before .before .before .before .before .before .before .before .before .before .before .before .before .before .before .before .wide .ensures .0, c .before .before .before .before .before .before .before .before .before .before .before .before .before .word .ensures, c .before .before .before .before .before .before .before .before .before .before .before .before .if2 .left)) _ _ (rw (← c .before .before .before .before .before .before .before .before .before .before .before .before .before .before .before .before .before .before .before .wide .ensures .0, ← c .before .before .before .before .before .before .before .before .before .before .before .before .before .word .ensures) (sym (c .before .before .before .before .before .before .before .before .before .before .any-named .ensures) ∙ c .before .before .before .before .before .before .before .before .before .if3 .left)) (c .before .before .before .before .before .before .copy .ensures ∙ rw (size, c .before .before .before .before .before .before .before .before .before .before .before .before .before .word .ensures)) (c .before .before .name-all .ensures ∙ rw (c .before .before .before .before .before .before .before .before .before .before .before .before .before .before .before .before .before .before .before .wide .ensures .0, c .before .before .before .before .before .before .before .before .before .before .before .before .before .word .ensures))
+    data-given flashSize _ b _ _ (omega (arith, c .before .before .before .before .before .before .before .before .before .before .before .before .before .before .before .before .before .before .before .wide .ensures .0, c .before .before .before .before .before .before .before .before .before .before .before .before .before .before .before .before .before .before .if1 .left)) (omega (arith, c .before .before .before .before .before .before .before .before .before .before .before .before .before .before .before .before .before .before .before .wide .ensures .0, c .before .before .before .before .before .before .before .before .before .before .before .before .before .word .ensures, c .before .before .before .before .before .before .before .before .before .before .before .before .if2 .left)) _ _ (rw (← c .before .before .before .before .before .before .before .before .before .before .before .before .before .before .before .before .before .before .before .wide .ensures .0, ← c .before .before .before .before .before .before .before .before .before .before .before .before .before .word .ensures) (sym (c .before .before .before .before .before .before .before .before .before .before .any-named .ensures) ∙ c .before .before .before .before .before .before .before .before .before .if3 .left)) (c .before .before .before .before .before .before .copy .ensures ∙ rw (size, c .before .before .before .before .before .before .before .before .before .before .before .before .before .word .ensures)) (c .before .before .name-all .ensures ∙ rw (c .before .before .before .before .before .before .before .before .before .before .before .before .before .before .before .before .before .before .before .wide .ensures .0, c .before .before .before .before .before .before .before .before .before .before .before .before .before .word .ensures))
 
 pub data-spec : {M : Type 1} → statement M
 data-spec =

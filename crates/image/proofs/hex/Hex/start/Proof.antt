@@ -6,6 +6,7 @@ use Rattle.image.proofs.Records.{start-given}
 use borrow.Author.Needs.{needs}
 use Rattle.image.proofs.hex.Hex.start.Statement.{statement}
 use Rattle.image.proofs.hex.Hex.start.Tie as tie
+use Rattle.basis.specs.Board.{flashSize}
 
 returns : tie.Need-returns
 unfolding first startIn
@@ -28,7 +29,7 @@ same-length-2 : tie.Need-same-length-2
 same-length-2 c = search needs
 
 returns-3 : tie.Need-returns-3
-returns-3 c = start-given 63488 _ _ _ _ (c .before .before .before .before .before .before .before .before .before .if1 .left) (c .before .before .before .before .before .before .before .before .if2 .left) (c .before .before .before .before .before .before .fill .ensures) (c .before .before .fill2 .ensures)
+returns-3 c = start-given flashSize _ _ _ _ (c .before .before .before .before .before .before .before .before .before .if1 .left) (c .before .before .before .before .before .before .before .before .if2 .left) (c .before .before .before .before .before .before .fill .ensures) (c .before .before .fill2 .ensures)
 
 pub start-spec : {M : Type 1} → statement M
 start-spec =

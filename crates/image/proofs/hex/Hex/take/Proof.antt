@@ -12,6 +12,7 @@ use Rattle.image.proofs.Records.{take-refused, take-applied}
 use borrow.Author.Needs.{needs}
 use Rattle.image.proofs.hex.Hex.take.Statement.{statement}
 use Rattle.image.proofs.hex.Hex.take.Tie as tie
+use Rattle.basis.specs.Board.{flashSize}
 
 characters-requires : tie.Need-characters-requires
 characters-requires c κs = search needs
@@ -23,7 +24,7 @@ same-length : tie.Need-same-length
 same-length c = search needs
 
 returns : tie.Need-returns
-returns c = take-refused 63488 _ _ _ _ (c .before .before .before .before .before .before .before .before .before .before .before .pre .1) (c .before .before .before .before .before .before .before .before .before .before .before .pre .2) (c .before .before .before .before .before .before .before .before .before .before .before .pre .3) _ (sym (c .before .before .before .before .before .characters .ensures .0) ∙ ap paperCheck (c .before .spelt .given .1))
+returns c = take-refused flashSize _ _ _ _ (c .before .before .before .before .before .before .before .before .before .before .before .pre .1) (c .before .before .before .before .before .before .before .before .before .before .before .pre .2) (c .before .before .before .before .before .before .before .before .before .before .before .pre .3) _ (sym (c .before .before .before .before .before .characters .ensures .0) ∙ ap paperCheck (c .before .spelt .given .1))
 
 enum-told : tie.Need-enum-told
 enum-told c = search needs
@@ -55,7 +56,7 @@ same-length-4 c = search needs
 returns-2 : tie.Need-returns-2
 returns-2 c = let a = c .before .before .before .before .before .before .before .before .before .before .before .before .before .before .before .before .before .before .args in
     let passed = ap paperCheck (c .before .before .before .before .before .before .before .before .enum-told .given .1) in
-    c .before .before .before .before .apply .ensures ∙ ap (λ x. settled x (now (a .image)) (now (a .map))) (take-applied 63488 _ _ _ _ (c .before .before .before .before .before .before .before .before .before .before .before .before .before .before .before .before .before .before .pre .1) (c .before .before .before .before .before .before .before .before .before .before .before .before .before .before .before .before .before .before .pre .2) (c .before .before .before .before .before .before .before .before .before .before .before .before .before .before .before .before .before .before .pre .3) _ (sym (c .before .before .before .before .before .before .before .before .before .before .before .before .characters .ensures .0) ∙ passed) (c .before .before .before .before .before .before .before .before .before .before .before .before .characters .ensures .1 passed))
+    c .before .before .before .before .apply .ensures ∙ ap (λ x. settled x (now (a .image)) (now (a .map))) (take-applied flashSize _ _ _ _ (c .before .before .before .before .before .before .before .before .before .before .before .before .before .before .before .before .before .before .pre .1) (c .before .before .before .before .before .before .before .before .before .before .before .before .before .before .before .before .before .before .pre .2) (c .before .before .before .before .before .before .before .before .before .before .before .before .before .before .before .before .before .before .pre .3) _ (sym (c .before .before .before .before .before .before .before .before .before .before .before .before .characters .ensures .0) ∙ passed) (c .before .before .before .before .before .before .before .before .before .before .before .before .characters .ensures .1 passed))
 
 pub take-spec : {M : Type 1} → statement M
 take-spec =

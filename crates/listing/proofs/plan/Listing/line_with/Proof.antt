@@ -4,7 +4,7 @@ use native.Mathlib.Omega.{arith}
 use borrow.Author.Needs.{needs}
 use lib.Seq.{length-take-le}
 use Rattle.listing.specs.Laws.Plan.{listed-start}
-use Rattle.listing.proofs.Pages.{packet-fits, packet-length, line-put}
+use Rattle.listing.proofs.Sheets.{packet-fits, packet-length, line-put}
 use Rattle.listing.proofs.plan.Listing.line_with.Statement.{statement}
 use Rattle.listing.proofs.plan.Listing.line_with.Tie as tie
 

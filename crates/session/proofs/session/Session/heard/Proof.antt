@@ -24,8 +24,8 @@ after-requires-2 c κs = search needs
 moved-requires-2 : tie.Need-moved-requires-2
 moved-requires-2 c κs = search needs
 
-enum-known-verdict : tie.Need-enum-known-verdict
-enum-known-verdict c = search needs
+enum-known-meaning : tie.Need-enum-known-meaning
+enum-known-meaning c = search needs
 
 moved-requires-3 : tie.Need-moved-requires-3
 moved-requires-3 c κs = search needs
@@ -37,7 +37,7 @@ returns-2 : tie.Need-returns-2
 returns-2 c = let s = c .before .before .before .before .before .args in c .moved2 .ensures ∙ ap (λ (x : Phase). movedOf (s .self) x 1) (c .before .after2 .ensures) ∙ sym (ap (heardOf (s .map .now) (s .self)) (c .before .before .enum-told2 .given .1))
 
 returns-3 : tie.Need-returns-3
-returns-3 c = let s = c .before .before .before .before .before .args in c .moved3 .ensures ∙ sym (ap (heardOf (s .map .now) (s .self)) (c .before .before .verdict .given .1))
+returns-3 c = let s = c .before .before .before .before .before .args in c .moved3 .ensures ∙ sym (ap (heardOf (s .map .now) (s .self)) (c .before .before .meaning .given .1))
 
 pub heard-spec : {M : Type 1} → statement M
 heard-spec =
@@ -49,7 +49,7 @@ heard-spec =
     enum-told-2
     after-requires-2
     moved-requires-2
-    enum-known-verdict
+    enum-known-meaning
     moved-requires-3
     returns
     returns-2

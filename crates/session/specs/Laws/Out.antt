@@ -11,7 +11,7 @@ use Rattle.runs.specs.Pieces.{pieceStarts, runStarts, runCount, pieceCount}
 use Rattle.runs.specs.Runs.{count}
 use Rattle.session.specs.Laws.Phases.{greeted, ranked-is, run-rank, piece-rank, at-stands}
 use Rattle.session.specs.Laws.States.{stands-run, phase-greeted, phase-open}
-use Rattle.session.specs.Phases.{ended, erasing, writing, verifying, phaseAt, standsOf}
+use Rattle.session.specs.Phases.{ended, eraseAt, writeAt, verifyAt, phaseAt, standsIn}
 use Rattle.session.specs.Plan.{total}
 use Rattle.session.specs.declared.phase.Phase.{Phase}
 
@@ -20,17 +20,17 @@ pub record Ranked (starts : ℕ → Bool) (place rank : ℕ) : Type 0 where
   pub begins : starts place ≡ true
   pub rank-is : count starts place ≡ rank
 
-pub data Turn (m : List ℕ) (k : ℕ) : Type 0 where
-  erases : (q : ℕ) → phaseAt m k ≡ erasing q → Ranked (runStarts m) q k → k < runCount m → Turn m k
-  writes : (a j : ℕ) → phaseAt m k ≡ writing a → Ranked (pieceStarts m) a j → k ≡ runCount m + j → j < pieceCount m → Turn m k
-  verifies : (a j : ℕ) → phaseAt m k ≡ verifying a → Ranked (pieceStarts m) a j → k ≡ runCount m + pieceCount m + j → j < pieceCount m → Turn m k
-  runs : phaseAt m k ≡ Phase.Run → k ≡ runCount m + 2 * pieceCount m → Turn m k
+pub data Out (m : List ℕ) (k : ℕ) : Type 0 where
+  erases : (q : ℕ) → phaseAt m k ≡ eraseAt q → Ranked (runStarts m) q k → k < runCount m → Out m k
+  writes : (a j : ℕ) → phaseAt m k ≡ writeAt a → Ranked (pieceStarts m) a j → k ≡ runCount m + j → j < pieceCount m → Out m k
+  verifies : (a j : ℕ) → phaseAt m k ≡ verifyAt a → Ranked (pieceStarts m) a j → k ≡ runCount m + pieceCount m + j → j < pieceCount m → Out m k
+  runs : phaseAt m k ≡ Phase.Run → k ≡ runCount m + 2 * pieceCount m → Out m k
 
-pub turn : (m : List ℕ) → length m ≡ mapSize → (k : ℕ) → k < total m → Turn m k
-unfolding standsOf
-turn m long k l = go (phaseAt m k) refl (at-stands m k l)
+pub out-after : (m : List ℕ) → length m ≡ mapSize → (k : ℕ) → k < total m → Out m k
+unfolding standsIn
+out-after m long k l = go (phaseAt m k) refl (at-stands m k l)
   where
-    go : (ph : Phase) → phaseAt m k ≡ ph → standsOf m ph k ≡ true → Turn m k
+    go : (ph : Phase) → phaseAt m k ≡ ph → standsIn m ph k ≡ true → Out m k
     go Phase.Greeting e h = absurd (true-false (sym (phase-greeted m k) ∙ ap greeted e))
     go (Phase.Erase p) e h = let r = ranked-is (runStarts m) 0 (p .0) k h in erases (p .0) e (record { begins = r .0; rank-is = omega arith }) (run-rank m long (p .0) k h)
     go (Phase.Write a) e h =

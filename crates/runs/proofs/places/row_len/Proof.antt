@@ -1,4 +1,4 @@
--- `run_len` meets its contract: the row from the start is what was passed and the row from here; past the map nothing is named.
+-- `row_len` meets its contract: the row from the start is what was passed and the row from here; past the map nothing is named.
 use Prim.Native.Nat.{_+_, _-_, _≤_}
 use mathlib.Core.Path.{_≡_, sym, _∙_}
 use native.Mathlib.Omega.{arith}
@@ -8,8 +8,8 @@ use Rattle.runs.specs.Map.{named}
 use Rattle.runs.specs.Runs.{len}
 use Rattle.runs.specs.Laws.Map.{named-past}
 use Rattle.runs.proofs.Turns.{len-begin, len-stop, len-go, len-end}
-use Rattle.runs.proofs.places.run_len.Statement.{statement}
-use Rattle.runs.proofs.places.run_len.Tie as tie
+use Rattle.runs.proofs.places.row_len.Statement.{statement}
+use Rattle.runs.proofs.places.row_len.Tie as tie
 
 abbrev Inv-loop : tie.InvT-loop
 Inv-loop map cap start n₀ n = (n ≤ cap) × (len (named map) start cap ≡ n + len (named map) (start + n) (cap - n))
@@ -47,8 +47,8 @@ loop-again c = (search needs, len-go _ _ _ _ (c .before .before .before .before 
 returns-3 : tie.Need-returns-3 Inv-loop μ-loop
 returns-3 c = sym (len-end _ _ _ _ (c .before .loop .inv .1) (omega arith))
 
-pub run-len-spec : {M : Type 1} → statement M
-run-len-spec =
+pub row-len-spec : {M : Type 1} → statement M
+row-len-spec =
     tie.close
     (tie.spec
     Inv-loop

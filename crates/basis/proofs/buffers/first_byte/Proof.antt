@@ -1,10 +1,10 @@
--- `first` meets its contract: past the end of a list stands 0.
+-- `first_byte` meets its contract: past the end of a list stands 0.
 use mathlib.Core.Path.{sym}
 use native.Mathlib.Omega.{arith}
 use borrow.Author.Needs.{needs}
 use lib.ListN.{List·getD-eq-default}
-use Rattle.basis.proofs.buffers.first.Statement.{statement}
-use Rattle.basis.proofs.buffers.first.Tie as tie
+use Rattle.basis.proofs.buffers.first_byte.Statement.{statement}
+use Rattle.basis.proofs.buffers.first_byte.Tie as tie
 
 returns : tie.Need-returns
 returns c = sym (List·getD-eq-default (c .before .args .bytes .now) 0 (omega arith))
@@ -15,5 +15,5 @@ shared-slice-read-result c = search needs
 returns-2 : tie.Need-returns-2
 returns-2 c = search needs
 
-pub first-spec : {M : Type 1} → statement M
-first-spec = tie.close (tie.spec returns shared-slice-read-result returns-2)
+pub first-byte-spec : {M : Type 1} → statement M
+first-byte-spec = tie.close (tie.spec returns shared-slice-read-result returns-2)

@@ -5,13 +5,13 @@ use native.Mathlib.Nat.{add-zero}
 use native.Mathlib.Omega.{arith}
 use borrow.Author.Needs.{needs}
 use lib.ListN.{length, drop}
-use Rattle.loader.proofs.Turns.{same-on, same-differs, same-end}
-use Rattle.loader.specs.Verify.{sameOf}
-use Rattle.loader.proofs.verify.same.Statement.{statement}
-use Rattle.loader.proofs.verify.same.Tie as tie
+use Rattle.loader.proofs.Turns.{equals-on, equals-differs, equals-end}
+use Rattle.loader.specs.Verify.{equalsOf}
+use Rattle.loader.proofs.verify.equals.Statement.{statement}
+use Rattle.loader.proofs.verify.equals.Tie as tie
 
 abbrev Inv-loop : tie.InvT-loop
-Inv-loop flash at turned i₀ i = (i ≤ length turned) × (sameOf flash at turned ≡ sameOf flash (at + i) (drop i turned))
+Inv-loop flash at turned i₀ i = (i ≤ length turned) × (equalsOf flash at turned ≡ equalsOf flash (at + i) (drop i turned))
 
 abbrev μ-loop : tie.MeasureT-loop
 μ-loop flash at turned i₀ i = length turned - i
@@ -32,7 +32,7 @@ restored-requires : tie.Need-restored-requires Inv-loop μ-loop
 restored-requires c κs = search needs
 
 returns : tie.Need-returns Inv-loop μ-loop
-returns c = sym (c .before .before .before .before .before .loop .inv .1 ∙ same-differs _ _ _ _ (c .before .before .before .before .loop-test .taken) (λ e. c .if1 .taken (e ∙ sym (c .before .restored .ensures))))
+returns c = sym (c .before .before .before .before .before .loop .inv .1 ∙ equals-differs _ _ _ _ (c .before .before .before .before .loop-test .taken) (λ e. c .if1 .taken (e ∙ sym (c .before .restored .ensures))))
 
 add-i : tie.Need-add-i Inv-loop μ-loop
 add-i c = search needs
@@ -41,13 +41,13 @@ loop-less : tie.Need-loop-less Inv-loop μ-loop
 loop-less c = search needs
 
 loop-again : tie.Need-loop-again Inv-loop μ-loop
-loop-again c = (omega arith, c .before .before .before .before .before .loop .inv .1 ∙ same-on _ _ _ _ (c .before .before .before .before .loop-test .taken) (c .if1 .left ∙ c .before .restored .ensures))
+loop-again c = (omega arith, c .before .before .before .before .before .loop .inv .1 ∙ equals-on _ _ _ _ (c .before .before .before .before .loop-test .taken) (c .if1 .left ∙ c .before .restored .ensures))
 
 returns-2 : tie.Need-returns-2 Inv-loop μ-loop
-returns-2 c = sym (c .before .loop .inv .1 ∙ same-end _ _ _ _ (c .loop-test .left))
+returns-2 c = sym (c .before .loop .inv .1 ∙ equals-end _ _ _ _ (c .loop-test .left))
 
-pub same-spec : {M : Type 1} → statement M
-same-spec =
+pub equals-spec : {M : Type 1} → statement M
+equals-spec =
     tie.close
     (tie.spec
     Inv-loop

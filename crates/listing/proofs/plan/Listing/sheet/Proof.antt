@@ -3,9 +3,9 @@ use Prim.Native.Nat.{_-_}
 use native.Mathlib.Omega.{arith}
 use lib.ListN.{length}
 use Rattle.listing.specs.Plan.{Listed}
-use Rattle.listing.proofs.Pages.{writing-falls, left, Writing, writing-start, writing-full, writing-end, writing-next}
-use Rattle.listing.proofs.plan.Listing.page.Statement.{statement}
-use Rattle.listing.proofs.plan.Listing.page.Tie as tie
+use Rattle.listing.proofs.Sheets.{writing-falls, left, Writing, writing-start, writing-full, writing-end, writing-next}
+use Rattle.listing.proofs.plan.Listing.sheet.Statement.{statement}
+use Rattle.listing.proofs.plan.Listing.sheet.Tie as tie
 
 abbrev Inv-loop : tie.InvT-loop
 Inv-loop image map buffer₀ listing₀ at₀ buffer listing at = Listed image map listing × Writing (left image map (length buffer₀) listing₀) buffer₀ buffer at (left image map (length buffer - at) listing)
@@ -40,8 +40,8 @@ same-length-2 c = omega (arith, c .before .before .loop .inv .1 .same)
 returns-2 : tie.Need-returns-2 Inv-loop μ-loop
 returns-2 c = writing-end _ _ _ _ _ (c .before .before .loop .inv .0) _ _ (c .before .before .loop .inv .1) (c .if1 .left)
 
-pub page-spec : {M : Type 1} → statement M
-page-spec =
+pub sheet-spec : {M : Type 1} → statement M
+sheet-spec =
     tie.close
     (tie.spec
     Inv-loop

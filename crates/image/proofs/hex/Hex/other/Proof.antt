@@ -1,10 +1,10 @@
--- `told` meets its contract: each type by its own arm; types 02 to 05 have the two bytes that are read.
+-- `other` meets its contract: each type by its own arm; types 02 to 05 have the two bytes that are read.
 use Rattle.image.specs.Laws.Hex.{shape-count}
 use native.Mathlib.Omega.{arith}
 use borrow.Author.Tests.{eq-eqb, ne-eqb}
 use borrow.Author.Needs.{needs}
-use Rattle.image.proofs.hex.Hex.told.Statement.{statement}
-use Rattle.image.proofs.hex.Hex.told.Tie as tie
+use Rattle.image.proofs.hex.Hex.other.Statement.{statement}
+use Rattle.image.proofs.hex.Hex.other.Tie as tie
 
 shared-slice-read-kind : tie.Need-shared-slice-read-kind
 shared-slice-read-kind c = search needs
@@ -39,8 +39,8 @@ returns-3 c = simp (ne-eqb _ _ (c .before .before .before .before .before .if1 .
 returns-4 : tie.Need-returns-4
 returns-4 c = simp (ne-eqb _ _ (c .before .before .before .before .before .if1 .left), ne-eqb _ _ (c .before .if2 .left), ne-eqb _ _ (c .if3 .left))
 
-pub told-spec : {M : Type 1} → statement M
-told-spec =
+pub other-spec : {M : Type 1} → statement M
+other-spec =
     tie.close
     (tie.spec
     shared-slice-read-kind
