@@ -164,7 +164,8 @@ impl Bench {
         self.step_spread(k, FLASH_BYTES as u32 / 2, 2)
     }
 
-    /// Step k of so many; an odd factor brings every piece in turn.
+    /// Step k of so many: two of W, two of V; a factor that shares no divisor
+    /// with the pieces brings each in turn.
     fn step_spread(&mut self, k: u64, pieces: u32, apart: u32) -> u64 {
         let piece = (k * 12289 % u64::from(pieces)) as u32;
         let place = ByteAddress(piece * apart);

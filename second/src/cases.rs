@@ -20,11 +20,11 @@ type Shown = Result<Vec<String>, (Refusal, String)>;
 
 /// Answers every line of the input.
 pub fn run(input: &[u8], output: &mut impl Write) -> io::Result<()> {
-    let mut bench = Bench::new();
+    let mut desk = Desk::new();
     for line in lines(input) {
         let line = line.strip_suffix(b"\n").unwrap_or(line);
         output.write_all(line)?;
-        match bench.line(line) {
+        match desk.line(line) {
             Some(shown) => writeln!(output, " -> {}", in_words(shown))?,
             None => writeln!(output, " -> ?")?,
         }
@@ -76,7 +76,7 @@ impl Buffer {
     }
 }
 
-struct Bench {
+struct Desk {
     loader: Loader,
     flash: Buffer,
     answer: Buffer,
@@ -89,12 +89,12 @@ struct Bench {
     log: Buffer,
 }
 
-impl Bench {
-    fn new() -> Bench {
+impl Desk {
+    fn new() -> Desk {
         let mut image = Buffer::new(FLASH_BYTES, 0xFF);
         let mut map = Buffer::new(MAP_BYTES, 0);
         let reader = Reader::start(image.lent_mut(), map.lent_mut()).expect("right sizes");
-        Bench {
+        Desk {
             loader: Loader::factory(),
             flash: Buffer::new(FLASH_BYTES, 0xFF),
             answer: Buffer::new(GREETING.len(), 0),

@@ -3,25 +3,15 @@
 
 pub mod refusal;
 pub mod units;
-
 pub mod packet;
-
 pub mod loader;
-
 pub mod map;
-
 pub mod hex;
-
 pub mod session;
-
 pub mod log;
-
 pub mod line;
-
 pub mod listing;
-
 pub mod cases;
-
 pub mod bench;
 
 pub use refusal::Refusal;

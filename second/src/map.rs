@@ -113,19 +113,15 @@ impl<'a> Map<'a> {
         address < FLASH_END && self.0[address as usize / 8] >> (address % 8) & 1 != 0
     }
 
-    pub fn is_empty(self) -> bool {
-        self.words().all(|word| word == 0)
-    }
-
     /// The lowest named address from here on.
     pub fn next_named(self, from: u32) -> Option<u32> {
-        self.next_where(from, |word| word)
+        self.next_where(from, FLASH_END, |word| word)
     }
 
     /// How many bytes from here on are named without a gap, up to a limit.
     pub fn run_length(self, start: u32, limit: u32) -> u32 {
-        let end = self.next_where(start, |word| !word).unwrap_or(FLASH_END);
-        (end - start).min(limit)
+        let end = FLASH_END.min(start + limit);
+        self.next_where(start, end, |word| !word).unwrap_or(end) - start
     }
 
     /// One pass over the map; it looks for the piece at an address on its way.
@@ -185,18 +181,19 @@ impl<'a> Map<'a> {
     }
 
     /// The lowest address from here on whose bit is set in the word as seen.
-    fn next_where(self, from: u32, seen: impl Fn(u64) -> u64) -> Option<u32> {
-        if from >= FLASH_END {
+    fn next_where(self, from: u32, end: u32, seen: impl Fn(u64) -> u64) -> Option<u32> {
+        if from >= end {
             return None;
         }
         let first = from / WORD_BITS;
         let mut word = seen(self.word(first)) & (u64::MAX << (from % WORD_BITS));
-        for index in first..FLASH_END / WORD_BITS {
+        for index in first..end.div_ceil(WORD_BITS) {
             if index > first {
                 word = seen(self.word(index));
             }
             if word != 0 {
-                return Some(index * WORD_BITS + word.trailing_zeros());
+                let place = index * WORD_BITS + word.trailing_zeros();
+                return Some(place).filter(|place| *place < end);
             }
         }
         None
@@ -305,7 +302,6 @@ mod tests {
             assert_eq!(map.piece_of(last), index);
         }
         assert_eq!(map.survey(Some(ByteAddress(u32::MAX))).sought.index, None);
-        assert_eq!(map.is_empty(), expected.is_empty());
     }
 
     fn map_of_runs(runs: &[(u32, u32)]) -> Vec<u8> {

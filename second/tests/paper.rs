@@ -632,7 +632,7 @@ fn log_read_refusals() {
 }
 
 #[test]
-fn whole_rehearsal_is_valid_and_loses_end_silent() {
+fn whole_rehearsal_is_valid_and_a_loss_ends_silent() {
     let reading = plan_file();
     let load = |exchanges: &[Exchange]| {
         let mut loader = Loader::factory();

@@ -21,7 +21,7 @@ const EPISODES: u32 = 12;
 
 /// Compares all lines and gives their number.
 pub fn compare() -> usize {
-    let path = root::root().join(LIST);
+    let path = root::repository().join(LIST);
     let list = fs::read(path).unwrap_or_else(|error| panic!("{LIST}: {error}"));
     let mut lines = compare_input(&list);
     for seed in 0..SCRIPTS {

@@ -33,6 +33,11 @@ pub fn compare(pair: &mut Pair) {
         let (image, map) = lent(&mut random);
         pair.hex_start(image, map);
     }
+    for _ in 0..60 {
+        let (image, map) = (wrong(&mut random, IMAGE), wrong(&mut random, MAP));
+        pair.hex_start(image, MAP);
+        pair.hex_start(IMAGE, map);
+    }
     for _ in 0..30 {
         write(pair, &mut random);
     }

@@ -28,7 +28,7 @@ pub fn compare(pair: &mut Pair) {
 
 fn write(pair: &mut Pair, random: &mut Random) {
     let state = session(random);
-    let length = random.pick(&[0, 9, 10, 10, 10, 10, 11, 30]);
+    let length = random.pick(&[0, 1, 3, 8, 9, 9, 10, 10, 11, 30]);
     let buffer = match length {
         0 => Part::NULL,
         _ => RECORD.with_length(length),

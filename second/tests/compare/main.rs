@@ -1,7 +1,7 @@
 //! The product compared with the second program, call by call and byte by
 //! byte, on random requests that are the same in every run. The product's
-//! driver and programs must have been built; GREMOLUNDE_ROOT names a root other
-//! than the repository's. With `--nocapture` the counts are printed.
+//! driver and programs must have been built. With `--nocapture` the counts are
+//! printed.
 
 mod boundary;
 mod caselines;
@@ -47,7 +47,7 @@ fn library() {
         });
         parts.map(|part| part.join().expect("alike")).into()
     });
-    let mut whole = Tally::new();
+    let mut whole = Tally::default();
     println!("part, calls compared, how often each number was seen");
     for ((name, _), tally) in PARTS.iter().zip(&tallies) {
         println!("{name:10} {:7} {}", tally.compared, tally.line());
@@ -55,11 +55,6 @@ fn library() {
     }
     println!("{:10} {:7} {}", "all", whole.compared, whole.line());
     whole.check();
-}
-
-#[test]
-fn a_place_where_a_phase_has_none() {
-    compared(sessions::places_where_there_are_none);
 }
 
 #[test]

@@ -136,7 +136,7 @@ impl Pair {
             wire: Some(Wire::open()),
             held: vec![vec![0; CAPACITY]; BUFFERS],
             settings: Vec::new(),
-            tally: Tally::new(),
+            tally: Tally::default(),
         }
     }
 
@@ -210,7 +210,7 @@ impl Pair {
 
     /// Makes a call on the product and leaves its answer to be checked.
     fn call(&mut self, request: Message, answer: Message, number: u8) {
-        self.tally.count(number);
+        self.tally.count(request.0[0], number);
         let mut whole = std::mem::take(&mut self.settings);
         whole.extend(request.0);
         let wire = self.wire.as_mut().expect("an open wire");

@@ -66,7 +66,7 @@ fn lost_at(random: &mut Random, place: usize, lost: Exchange) -> Vec<u8> {
     losses
 }
 
-/// Lends a file of random bytes and gives its packets' number.
+/// Lends a file of random bytes and gives how many packets it has.
 fn lend_file(pair: &mut Pair, random: &mut Random, map: &[u8]) -> u32 {
     let bytes = random.bytes(FLASH_END);
     pair.set(IMAGE, &bytes);
@@ -89,7 +89,7 @@ fn refused(pair: &mut Pair, random: &mut Random) {
         pair.rehearse(random.word(), loader, Part::NULL, (image, map), flash);
     }
     pair.fill(MAP, 0);
-    for flash in wrong.into_iter().chain([FLASH; 4]) {
+    for flash in wrong.into_iter().chain([FLASH; 6]) {
         let loader = loader(random);
         pair.rehearse(random.word(), loader, Part::NULL, (IMAGE, MAP), flash);
     }

@@ -32,6 +32,11 @@ pub fn compare(pair: &mut Pair) {
         pair.set(OTHER_MAP, &other);
         file(pair, &mut random);
     }
+    pair.fill(MAP, 0);
+    for _ in 0..100 {
+        let told = run(&mut random);
+        pair.session_start(told, IMAGE, MAP, PACKET);
+    }
 }
 
 fn map(random: &mut Random, kind: u32) -> Vec<u8> {
@@ -66,7 +71,7 @@ fn other_map(random: &mut Random, map: &[u8]) -> Vec<u8> {
 }
 
 fn file(pair: &mut Pair, random: &mut Random) {
-    for _ in 0..10 {
+    for _ in 0..15 {
         let (image, map) = lent(random);
         let told = run(random);
         let buffer = buffer(random);
@@ -248,9 +253,6 @@ fn made_up(random: &mut Random, state: SessionState) -> SessionState {
             _ => small,
         };
     }
-    if matches!(made_up.phase, 0 | 4) {
-        made_up.place = 0;
-    }
     made_up
 }
 
@@ -270,29 +272,5 @@ fn marks(pair: &mut Pair, random: &mut Random, state: SessionState) {
             _ => MAP,
         };
         pair.session_proved(state, map, address);
-    }
-}
-
-/// A greeting and an R have no place, so a session that says one is no
-/// start's.
-pub fn places_where_there_are_none(pair: &mut Pair) {
-    pair.set(MAP, &maps::of_runs(&[(0x200, 2)]));
-    let greeting = SessionState {
-        run: 1,
-        phase: 0,
-        place: 0,
-        acknowledged: 0,
-        total: 4,
-        named: 2,
-    };
-    let run = SessionState {
-        phase: 4,
-        acknowledged: 3,
-        ..greeting
-    };
-    for state in [greeting, run] {
-        for place in [0, 1, 40, 0x200, u32::MAX] {
-            step_right(pair, SessionState { place, ..state });
-        }
     }
 }
