@@ -12,7 +12,7 @@ use Rattle.basis.specs.Laws.Choice.{decide, both-true, both-false}
 use Rattle.basis.specs.Laws.Refusals.{stop, alike, through, apart, given-one, refused-one}
 use Rattle.basis.specs.Lists.{overlay}
 use Rattle.basis.specs.Refusals.{Answer, refused, given}
-use Rattle.line.specs.Line.{Moment, begun, momentAt, momentIn, rehearseOf, loaded, leftFlash, Rehearses}
+use Rattle.line.specs.Line.{Moment, begun, momentAt, loadAt, momentIn, rehearseOf, loaded, leftFlash, Rehearses}
 use Rattle.line.specs.declared.exchange.Loss.{Loss}
 use Rattle.line.specs.declared.rehearse.Load.{Load}
 use Rattle.loader.specs.State.{resetOf}
@@ -73,7 +73,7 @@ module _ (image m : List ℕ) (kind : RunKind) (l : Loader) (losses : ℕ → Lo
   -- 20 for the flash
   pub flash-refused : (length f ≡ flashSize → ⊥) → Rehearses whole f (refused 20) f
   unfolding rehearseOf
-  flash-refused n = rw (stop 20 _ _ (given (momentAt image m losses (begun m kind l f) (total m + 1))) (ap not (both-false (eqb (length f) flashSize) (rightSizes (length image) (length m) packetMost) (ne-eqb _ _ n)))) (record { result-is = refl; flash-is = refl })
+  flash-refused n = rw (stop 20 _ _ (given (loadAt image m kind l losses f (total m + 1))) (ap not (both-false (eqb (length f) flashSize) (rightSizes (length image) (length m) packetMost) (ne-eqb _ _ n)))) (record { result-is = refl; flash-is = refl })
 
   module _ (size : length f ≡ flashSize) where
     -- what the start refuses is refused, and what it gives is driven to the end
@@ -81,7 +81,7 @@ module _ (image m : List ℕ) (kind : RunKind) (l : Loader) (losses : ℕ → Lo
     unfolding rehearseOf started
     refused-too e = rw (eq-eqb (length f) flashSize size) (alike _ _ _ e)
 
-    given-too : {s : Sent} → started image m packetMost kind ≡ given s → whole ≡ given (momentAt image m losses (begun m kind l f) (total m + 1))
+    given-too : {s : Sent} → started image m packetMost kind ≡ given s → whole ≡ given (loadAt image m kind l losses f (total m + 1))
     unfolding rehearseOf started
     given-too e = rw (eq-eqb (length f) flashSize size) (through _ _ _ e)
 

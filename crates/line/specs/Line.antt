@@ -86,7 +86,11 @@ unfoldable pub momentAt : List ℕ → List ℕ → (ℕ → Loss) → Moment �
 momentAt image m losses x zero = x
 momentAt image m losses x (suc n) = pick (ended (momentAt image m losses x n .session .phase)) (momentAt image m losses x n) (exchangeOf image m (losses n) (momentAt image m losses x n))
 
--- a list of losses, one byte an exchange: 0 is none, 1 the packet, all else the answer; past the list's end nothing is lost
+-- a load: what stands after n exchanges from the start on, with flash as it was `before`
+abbrev pub loadAt : List ℕ → List ℕ → RunKind → Loader → (ℕ → Loss) → List ℕ → ℕ → Moment
+loadAt image m kind l losses before n = momentAt image m losses (begun m kind l before) n
+
+-- a list of losses, one byte an exchange: 0 is none, 1 the packet, all else the answer; past its end nothing is lost
 abbrev pub lossOf : ℕ → Loss
 lossOf b = pick (eqb b 0) Loss.Whole (pick (eqb b 1) Loss.Lost Loss.Unanswered)
 
@@ -99,7 +103,7 @@ rehearseOf image m kind l losses f =
     first
     (20 when not (both (eqb (length f) flashSize) (rightSizes (length image) (length m) packetMost))
     ∷ 32 when eqb (namedCount m) 0 ∷ [])
-    (given (momentAt image m losses (begun m kind l f) (total m + 1)))
+    (given (loadAt image m kind l losses f (total m + 1)))
 
 -- ---- what the functions show
 

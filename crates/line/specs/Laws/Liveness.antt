@@ -14,9 +14,11 @@ use Rattle.basis.specs.Laws.Choice.{decide}
 use Rattle.basis.specs.Laws.Lists.{bytes-take, bytes-drop}
 use Rattle.basis.specs.Lists.{Bytes}
 use Rattle.basis.specs.Refusals.{given}
-use Rattle.basis.specs.Units.{pageOf, pageGroupOf, startOf}
+use Rattle.basis.specs.Units.{pageOf, startOf}
 use Rattle.image.specs.Flash.{eraseOf, storeOf}
 use Rattle.image.specs.Laws.Flash.{Blank, length-erase, erase-below, erase-above, erase-at, length-store, store-below, store-above, store-blank-at}
+use Rattle.line.specs.Demand.{Free}
+use Rattle.line.specs.Laws.Exchange.{packetAt}
 use Rattle.line.specs.Laws.Safety.{Serves, takes-erase, takes-write, takes-verify, takes-run}
 use Rattle.line.specs.Line.{loaderTakes}
 use Rattle.loader.specs.Commands.{Effect, keeping}
@@ -39,15 +41,10 @@ use Rattle.runs.specs.Pieces.{pieceMost, pieceStarts, pieceLen, runStarts, runL
 use Rattle.runs.specs.Runs.{count}
 use Rattle.session.specs.Laws.Starts.{piece-carried}
 use Rattle.session.specs.Laws.Out.{Ranked, Out, erases, writes, verifies, runs}
-use Rattle.session.specs.Phases.{packetOut, phaseAt}
+use Rattle.session.specs.Phases.{packetOut}
 use Rattle.session.specs.Plan.{erasePacket, writePacket, pieceBytes, runAddress}
 use Rattle.session.specs.declared.phase.Phase.{Phase}
 use Rattle.session.specs.declared.phase.RunKind.{RunKind}
-
--- no touched page lies in a protected group, and reading is not protected
-pub record Free (m : List ℕ) (l : Loader) : Type 0 where
-  pub unprotected : (q : ℕ) → touched m q ≡ true → bit (l .protection .groups) (pageGroupOf q) ≡ false
-  pub readable : l .protection .read ≡ false
 
 -- flash after k acknowledgements: the bytes whose W is among them stand, those whose E is and whose W is not are blank
 pub record Grows (image m : List ℕ) (k : ℕ) (f : List ℕ) : Type 0 where
@@ -71,9 +68,6 @@ parts-same f g s n p q h =
     getD-take n (drop s f) i 0 c ∙ getD-drop s f i 0 ∙ h i c ∙ sym (getD-drop s g i 0) ∙ sym (getD-take n (drop s g) i 0 c))
 
 module _ (image m : List ℕ) (right : length image ≡ flashSize) (long : length m ≡ mapSize) (bytes : Bytes image) (kind : RunKind) (l : Loader) (serves : Serves l) (free : Free m l) (f : List ℕ) (k : ℕ) (h : Grows image m k f) where
-  abbrev sends : List ℕ
-  sends = packetOut image m kind (phaseAt m k)
-
   -- counts of pieces and runs at a named byte
   ranks : (a : ℕ) → named m a ≡ true → (0 < count (pieceStarts m) (a + 1)) × (count (pieceStarts m) (a + 1) ≤ pieceCount m) × (count (runStarts m) (pageOf a + 1) ≤ runCount m)
   ranks a t =
@@ -112,8 +106,8 @@ module _ (image m : List ℕ) (right : length image ≡ flashSize) (long : lengt
               (λ e. same ∙ h .blank a t (omega (arith, eqb-false (count (runStarts m) (pageOf a + 1)) (k + 1) e)) (omega arith)));
         }
 
-    erase-let : sends ≡ erasePacket m q → Lets image m l sends f k (record { loader = l; flash = erased })
-    erase-let e =
+    erase-lets : packetAt image m kind k ≡ erasePacket m q → Lets image m l (packetAt image m kind k) f k (record { loader = l; flash = erased })
+    erase-lets e =
         let n = piece-some (touched m) pages (omega arith) q (r .begins) in
         let i = inside in
         record {
@@ -186,8 +180,8 @@ module _ (image m : List ℕ) (right : length image ≡ flashSize) (long : lengt
                 (λ u. store-below f s piece a (leb-false s a u) ∙ h .blank a n (omega (arith, ranks a n .2)) (omega arith));
           }
 
-      write-let : sends ≡ writePacket image m s → Lets image m l sends f k (record { loader = l; flash = stored })
-      write-let e =
+      write-lets : packetAt image m kind k ≡ writePacket image m s → Lets image m l (packetAt image m kind k) f k (record { loader = l; flash = stored })
+      write-lets e =
           let n = piece-some (named m) pieceMost (omega arith) s (r .begins) in
           record {
             let-is = ap (λ (x : List ℕ). loaderTakes l x f) e
@@ -218,9 +212,9 @@ module _ (image m : List ℕ) (right : length image ≡ flashSize) (long : lengt
         blank = λ a n d e. absurd (omega (arith, ranks a n .1));
       }
 
-  pub lets : Out m k → (e : Effect) × Lets image m l sends f k e
-  lets (erases q e r b) = (record { loader = l; flash = erased q r b }, erase-let q r b (ap (packetOut image m kind) e))
-  lets (writes s j e r t b) = (record { loader = l; flash = stored s j r t }, write-let s j r t (ap (packetOut image m kind) e))
+  pub lets : Out m k → (e : Effect) × Lets image m l (packetAt image m kind k) f k e
+  lets (erases q e r b) = (record { loader = l; flash = erased q r b }, erase-lets q r b (ap (packetOut image m kind) e))
+  lets (writes s j e r t b) = (record { loader = l; flash = stored s j r t }, write-lets s j r t (ap (packetOut image m kind) e))
   lets (verifies s j e r t b) = (
     record { loader = l; flash = f },
     record {

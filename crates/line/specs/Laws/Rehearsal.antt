@@ -15,7 +15,7 @@ use Rattle.basis.specs.Refusals.{Answer, refused, given}
 use Rattle.basis.specs.Units.{pageOf}
 use Rattle.line.specs.Demand.{Stands, Valid}
 use Rattle.line.specs.Laws.Demand.{safe, finite}
-use Rattle.line.specs.Line.{Moment, begun, momentAt, rehearseOf, loaded, leftFlash, Rehearses}
+use Rattle.line.specs.Line.{Moment, loadAt, rehearseOf, loaded, leftFlash, Rehearses}
 use Rattle.line.specs.declared.exchange.Loss.{Loss}
 use Rattle.line.specs.declared.rehearse.Load.{Load}
 use Rattle.loader.specs.declared.state.Loader.{Loader}
@@ -37,7 +37,7 @@ module _ (image m : List ℕ) (kind : RunKind) (l : Loader) (losses : ℕ → Lo
     pub long : length m ≡ mapSize
     pub size : length before ≡ flashSize
     pub some : 0 < namedCount m
-    pub moment-is : x ≡ momentAt image m losses (begun m kind l before) (total m + 1)
+    pub moment-is : x ≡ loadAt image m kind l losses before (total m + 1)
 
   given-is : (x : Moment) → whole ≡ given x → Given x
   unfolding rehearseOf
@@ -65,7 +65,7 @@ module _ (image m : List ℕ) (kind : RunKind) (l : Loader) (losses : ℕ → Lo
         go (given x) e f =
             let g = given-is x e in
             ap (λ (s : List ℕ). getD s a 0) (f ∙ ap (λ (y : Moment). y .flash) (g .moment-is))
-            ∙ safe image m before (g .right) (g .long) (g .size) bytes (g .some) kind l losses (total m + 1) .untouched-stays a t
+            ∙ safe image m before (g .right) (g .long) (g .some) bytes kind l (g .size) losses (total m + 1) .untouched-stays a t
 
     module _ (y : Load) (v : r ≡ given y) where
       outcome : (x : Moment) × (Given x) × (flash ≡ x .flash) × (y .session ≡ x .session)
@@ -81,14 +81,14 @@ module _ (image m : List ℕ) (kind : RunKind) (l : Loader) (losses : ℕ → Lo
           let o = outcome in
           let g = o .1 in
           ap (λ (s : Session). ended (s .phase)) (o .3 ∙ ap (λ (x : Moment). x .session) (g .moment-is))
-          ∙ finite image m before (g .right) (g .long) (g .size) bytes (g .some) kind l losses
+          ∙ finite image m before (g .right) (g .long) (g .some) bytes kind l (g .size) losses
 
       -- and where it says valid, every named byte of flash is as in the file
       pub valid-stands : Valid (y .session) → (a : ℕ) → named m a ≡ true → Stands flash image a
       valid-stands t a n =
           let o = outcome in
           let g = o .1 in
-          let s = safe image m before (g .right) (g .long) (g .size) bytes (g .some) kind l losses (total m + 1) in
+          let s = safe image m before (g .right) (g .long) (g .some) bytes kind l (g .size) losses (total m + 1) in
           let e = o .3 ∙ ap (λ (x : Moment). x .session) (g .moment-is) in
           ap (λ (f : List ℕ). getD f a 0) (o .2 ∙ ap (λ (x : Moment). x .flash) (g .moment-is))
           ∙ s .proved-stands a (s .valid-proved (sym (ap (λ (x : Session). x .phase) e) ∙ t) a n)

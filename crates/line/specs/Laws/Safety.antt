@@ -1,7 +1,7 @@
 -- What no loss, no protection and no flash can break: the bytes marked proved stand, and untouched pages stay.
 use Prim.Native.Nat.{ℕ, _+_, _-_, _*_, _≤_, _<_}
 use mathlib.Core.Bool.{true, false}
-use mathlib.Core.List.{List, map}
+use mathlib.Core.List.{List, [], _∷_, map}
 use mathlib.Core.Path.{_≡_, refl, sym, ap, _∙_}
 use native.Mathlib.Omega.{arith}
 use borrow.Author.Tests.{ltb-true, ltb-false, leb-true, leb-false, ne-eqb}
@@ -21,8 +21,9 @@ use Rattle.line.specs.Line.{loaderTakes, delivered}
 use Rattle.line.specs.declared.exchange.Loss.{Loss}
 use Rattle.loader.specs.Commands.{Effect, effectAfter, keeping, eraseRows, writeRows, verifyRows, writing, running}
 use Rattle.loader.specs.Laws.Commands.{erasing-pages, verify-let}
-use Rattle.loader.specs.Laws.Host.{sent-erase, sent-write, sent-verify, sent-run}
+use Rattle.loader.specs.Laws.Host.{sent-opening, sent-erase, sent-write, sent-verify, sent-run}
 use Rattle.loader.specs.Laws.Verify.{same-stands}
+use Rattle.loader.specs.State.{resetOf, withCondition}
 use Rattle.loader.specs.declared.state.Condition.the-variants.{Serving}
 use Rattle.loader.specs.declared.state.Loader.{Loader}
 use Rattle.packet.specs.Laws.Turn.{restored-turned, undone}
@@ -39,6 +40,13 @@ use Rattle.session.specs.declared.phase.RunKind.{RunKind}
 pub record Serves (l : Loader) : Type 0 where
   pub condition-is : l .condition ≡ Serving
   pub sequence-is : l .sequence .opened ≡ false
+
+-- as the opening byte leaves it
+abbrev pub serving : Loader → Loader
+serving l = withCondition (resetOf l) Serving
+
+pub serving-serves : (l : Loader) → Serves (serving l)
+serving-serves l = record { condition-is = refl; sequence-is = refl }
 
 -- two lists that agree on a part agree at each place of it
 part-at : (f g : List ℕ) (s n a : ℕ) → take n (drop s f) ≡ take n (drop s g) → s ≤ a → a < s + n → getD f a 0 ≡ getD g a 0
@@ -81,6 +89,11 @@ pub served-by : (P : Effect → Type 0) (o : Loss) (l : Loader) (s f : List ℕ)
 served-by P Loss.Whole l s f p q = q
 served-by P Loss.Lost l s f p q = p
 served-by P Loss.Unanswered l s f p q = q
+
+-- the opening byte makes the loader serve, and its answer is the greeting
+pub board-greets : (l : Loader) (f : List ℕ) → length f ≡ flashSize
+    → loaderTakes (resetOf l) (0x08 ∷ []) f ≡ given (record { loader = serving l; flash = f })
+board-greets l f size = sent-opening pages (resetOf l) f answerMost size (omega arith) refl
 
 -- ---- the packets of the plan, as a serving loader takes them
 

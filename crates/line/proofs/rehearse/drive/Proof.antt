@@ -40,7 +40,7 @@ add-i c = omega (arith, c .before .before .before .before .before .before .befor
 loop-less : tie.Need-loop-less Inv-loop μ-loop
 loop-less c = let s = c .before .before .before .before .before .before .before .before .before .before .before .before .before .before .before .before .before .before .before .before .args in
     let p = c .before .before .before .before .before .before .before .before .before .before .before .before .before .before .before .before .before .before .before .before .pre in
-    let n = not-past (s .image .now) (s .map .now) (s .flash .now) (p .0) (p .1) (p .2) (λ k. omega (arith, c .before .before .before .before .before .before .before .before .before .before .before .before .before .before .before .before .before .before .shared-slice-known2 .given k)) (p .5) (s .first .session .kind) (s .first .loader) (lossAt (s .losses .now)) _ (p .7) (c .before .before .before .before .before .before .before .before .before .before .before .before .before .loop .i) _ (c .before .before .before .before .before .before .before .before .before .before .before .before .before .loop .inv .5) (not-true _ (sym (c .before .before .before .before .before .before .before .before .before .before .before .before .is-open .ensures) ∙ c .before .before .before .before .before .before .before .before .before .before .before .if1 .taken)) in
+    let n = not-past (s .image .now) (s .map .now) (s .flash .now) (p .0) (p .1) (p .5) (λ k. omega (arith, c .before .before .before .before .before .before .before .before .before .before .before .before .before .before .before .before .before .before .shared-slice-known2 .given k)) (s .first .session .kind) (s .first .loader) (p .2) (lossAt (s .losses .now)) _ (p .7) (c .before .before .before .before .before .before .before .before .before .before .before .before .before .loop .i) _ (c .before .before .before .before .before .before .before .before .before .before .before .before .before .loop .inv .5) (not-true _ (sym (c .before .before .before .before .before .before .before .before .before .before .before .before .is-open .ensures) ∙ c .before .before .before .before .before .before .before .before .before .before .before .if1 .taken)) in
     omega arith
 
 loop-again : tie.Need-loop-again Inv-loop μ-loop
@@ -50,7 +50,7 @@ loop-again c = let s = c .before .before .before .before .before .before .before
     let k = c .before .before .before .before .before .before .exchange .kept .1 .1 .1 .1 in
     let t = not-true _ (sym (c .before .before .before .before .before .before .before .before .before .before .before .before .is-open .ensures) ∙ c .before .before .before .before .before .before .before .before .before .before .before .if1 .taken) in
     let bytes : Bytes (s .image .now) = λ k. omega (arith, c .before .before .before .before .before .before .before .before .before .before .before .before .before .before .before .before .before .before .shared-slice-known2 .given k) in
-    let b = not-past (s .image .now) (s .map .now) (s .flash .now) (p .0) (p .1) (p .2) bytes (p .5) (s .first .session .kind) (s .first .loader) (lossAt (s .losses .now)) _ (p .7) (l .i) _ (l .inv .5) t in
+    let b = not-past (s .image .now) (s .map .now) (s .flash .now) (p .0) (p .1) (p .5) bytes (s .first .session .kind) (s .first .loader) (p .2) (lossAt (s .losses .now)) _ (p .7) (l .i) _ (l .inv .5) t in
     let f : l .link .len ≤ length (l .packet) = omega (arith, l .inv .1, l .inv .3) in (
       k .0 ∙ l .inv .0,
       k .1 .0 ∙ l .inv .1,
@@ -58,7 +58,7 @@ loop-again c = let s = c .before .before .before .before .before .before .before
       omega (arith, len-fits (s .image .now) (s .map .now) _ (l .link) (l .flash) (l .packet) f (c .before .before .before .before .before .before .exchange .ensures), k .1 .0, l .inv .1),
       omega arith,
       exchanged (s .image .now) (s .map .now) _ (l .link) (l .flash) (l .packet) f (c .before .before .before .before .before .before .exchange .ensures)
-          ∙ again (s .image .now) (s .map .now) (s .flash .now) (p .0) (p .1) (p .2) bytes (p .5) (s .first .session .kind) (s .first .loader) (lossAt (s .losses .now)) _ (p .7) (l .i) _ _ (l .inv .5) t (c .before .before .before .before .before .before .before .before .before .before .at .ensures),
+          ∙ again (s .image .now) (s .map .now) (lossAt (s .losses .now)) _ (l .i) _ _ (l .inv .5) t (c .before .before .before .before .before .before .before .before .before .before .at .ensures),
     )
 
 same-length : tie.Need-same-length Inv-loop μ-loop
@@ -75,7 +75,7 @@ returns c = let s = c .before .before .before .before .before .before .before .b
     let p = c .before .before .before .before .before .before .before .before .before .pre in
     let l = c .before .before .loop in
     let t = not-false _ (sym (c .before .is-open .ensures) ∙ c .if1 .left) in
-    let e = done (s .image .now) (s .map .now) (s .flash .now) (p .0) (p .1) (p .2) (λ k. omega (arith, c .before .before .before .before .before .before .before .shared-slice-known2 .given k)) (p .5) (s .first .session .kind) (s .first .loader) (lossAt (s .losses .now)) _ (p .7) (l .i) _ (l .inv .5) (l .inv .4) t in
+    let e = done (s .image .now) (s .map .now) (lossAt (s .losses .now)) _ (l .i) _ (l .inv .5) (l .inv .4) t in
     (sym (ap (λ (x : Moment). x .loader) e), sym (ap (λ (x : Moment). x .session) e), sym (ap (λ (x : Moment). x .flash) e))
 
 pub drive-spec : {M : Type 1} → statement M
