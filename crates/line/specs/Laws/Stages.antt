@@ -7,12 +7,12 @@ use native.Mathlib.Omega.{arith}
 use borrow.Author.Tests.{ltb-true, ltb-false}
 use lib.Dec.{ltb}
 use lib.ListN.{length, getD}
-use Rattle.basis.specs.Board.{pages, flashSize, mapSize, pageSize}
+use Rattle.basis.specs.Board.{pages, flashSize, mapSize}
 use Rattle.basis.specs.Choice.{pick}
 use Rattle.basis.specs.Laws.Choice.{decide, true-false}
 use Rattle.basis.specs.Lists.{Bytes}
 use Rattle.basis.specs.Refusals.{Answer, given, first}
-use Rattle.basis.specs.Units.{pageOf, startOf}
+use Rattle.basis.specs.Units.{startOf}
 use Rattle.image.specs.Laws.Flash.{length-erase, length-store}
 use Rattle.line.specs.Laws.Exchange.{silence-is, acked, packetAt, opened, over, standing, served, on-ack, on-last, on-else, on-greeting, on-silence}
 use Rattle.line.specs.Laws.Safety.{Serves, serving, serving-serves, board-greets, Untouched, erase-untouched, store-untouched, served-by, takes-erase, takes-write, takes-verify, takes-run, verified}
@@ -89,7 +89,7 @@ module _ (image m before : List ℕ) (right : length image ≡ flashSize) (long 
   arrived (erases q e r b) =
       rw (e, takes-erase image m right long l serves f (h .size) q (r .begins))
       (either-way (λ (x : Effect). Holds image m before k (x .flash)) l f _ _ h
-      (early image m before long (omega arith) (length-erase f (startOf (pageOf (startOf q))) (runLen m q * pageSize) ∙ h .size)
+      (early image m before long (omega arith) (length-erase f (startOf q) (startOf (runLen m q)) ∙ h .size)
       (erase-untouched m before f q (h .untouched))))
   arrived (writes a j e r t b) =
       rw (e, takes-write image m right long l serves f (h .size) a (r .begins))
