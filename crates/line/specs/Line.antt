@@ -33,6 +33,10 @@ pub record Moment : Type 0 where
   pub session : Session
   pub wire : List ℕ
 
+-- loader and flash, with a session and what it has sent
+abbrev pub momentWith : Effect → Session → List ℕ → Moment
+momentWith e s w = record { loader = e .loader; flash = e .flash; session = s; wire = w }
+
 -- a freshly reset loader, and a session just started: the opening byte is on the wire
 abbrev pub begun : List ℕ → RunKind → Loader → List ℕ → Moment
 begun m kind l f = record { loader = resetOf l; flash = f; session = atGreeting m kind; wire = 0x08 ∷ [] }
@@ -59,9 +63,7 @@ arrives Loss.Unanswered l s f = []
 
 -- between the loader's step and the session's
 abbrev pub between : Loss → Moment → Moment
-between o x =
-    let e = delivered o (x .loader) (x .wire) (x .flash) in
-    record { loader = e .loader; flash = e .flash; session = x .session; wire = x .wire }
+between o x = momentWith (delivered o (x .loader) (x .wire) (x .flash)) (x .session) (x .wire)
 
 -- what the session hears: no answer is silence
 abbrev pub reply : Loss → Moment → List ℕ
@@ -94,7 +96,7 @@ momentAt image m losses x (suc n) =
 abbrev pub loadAt : List ℕ → List ℕ → RunKind → Loader → (ℕ → Loss) → List ℕ → ℕ → Moment
 loadAt image m kind l losses before n = momentAt image m losses (begun m kind l before) n
 
--- a list of losses, one byte an exchange: 0 is none, 1 the packet, all else the answer; past its end there is none
+-- a list of losses, one byte an exchange: 0 is none, 1 the packet, all else the answer; past its end none
 abbrev pub lossOf : ℕ → Loss
 lossOf b = pick (eqb b 0) Loss.Whole (pick (eqb b 1) Loss.Lost Loss.Unanswered)
 

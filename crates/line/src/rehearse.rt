@@ -65,7 +65,7 @@ pub fn rehearse(
     )
 }
 
-// Starts the session and drives it. `packet` and `answer` are scratch: what they hold before and after tells nothing.
+// Starts the session and drives it. `packet` and `answer` are scratch, so nothing is promised of them.
 fn begin(
     kind: RunKind,
     loader: Loader,
@@ -77,7 +77,9 @@ fn begin(
     answer: &mut [u8],
 ) -> Rehearsed
     requires { ⌜
-        (length (now flash) ≡ flashSize) × (length (now packet) ≡ packetMost) × (length (now answer) ≡ answerMost)
+        (length (now flash) ≡ flashSize)
+        × (length (now packet) ≡ packetMost)
+        × (length (now answer) ≡ answerMost)
         ⌝ }
     ensures { λ r. ⌜
         (let x = rehearseOf (now (image .entry)) (now (map .entry)) kind loader (lossAt (now (losses .entry)))
@@ -102,7 +104,7 @@ fn begin(
     }
 }
 
-// Exchanges until the session has ended. The first packet is in `packet`; what it and `answer` hold after tells nothing.
+// Exchanges until the session has ended. `packet` has the opening byte first; then it and `answer` are scratch.
 fn drive(
     first: Link,
     losses: &[u8],
@@ -116,7 +118,8 @@ fn drive(
         (Lent (now image) (now map) (now flash) (now packet) (now answer))
         × (0 < namedCount (now map))
         × (first .len ≤ packetMost)
-        × (momentIn first (now flash) (now packet) ≡ begun (now map) (first .session .kind) (first .loader) (now flash))
+        × (momentIn first (now flash) (now packet)
+        ≡ begun (now map) (first .session .kind) (first .loader) (now flash))
         ⌝ }
     ensures { λ r. ⌜
         (let start = momentIn first (now (flash .entry)) (now (packet .entry)) in

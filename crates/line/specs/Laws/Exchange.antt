@@ -9,7 +9,7 @@ use Rattle.basis.specs.Board.{flashSize, mapSize, greeting}
 use Rattle.basis.specs.Choice.{pick}
 use Rattle.basis.specs.Laws.Choice.{true-false}
 use Rattle.basis.specs.Refusals.{Answer, refused, given, bare}
-use Rattle.line.specs.Line.{Moment, begun, loaderTakes, delivered, arrives, reply, eventIn, stepsOn, between, exchangeOf}
+use Rattle.line.specs.Line.{Moment, momentWith, begun, loaderTakes, delivered, arrives, reply, eventIn, stepsOn, between, exchangeOf}
 use Rattle.line.specs.declared.exchange.Loss.{Loss}
 use Rattle.loader.specs.Commands.{Effect}
 use Rattle.loader.specs.State.{resetOf}
@@ -45,18 +45,25 @@ refusal-heard n = go (quiet n)
     go false = ap isAck bel-heard
 
 -- an ACK comes from a loader that has let the packet through, and nothing was lost
-pub acked : (o : Loss) (l : Loader) (s f : List ℕ) → l .condition ≡ Serving → eventIn (arrives o l s f) ≡ Event.Ack → (o ≡ Loss.Whole) × (e : Effect) × (loaderTakes l s f ≡ given e)
-acked Loss.Whole l s f c h = go (loaderTakes l s f) refl (sym (ap isAck (sym (ap (λ (w : Bool). eventIn (tellOf w (bare (loaderTakes l s f)))) (ap waiting c)) ∙ h)))
+pub acked : (o : Loss) (l : Loader) (s f : List ℕ) → l .condition ≡ Serving
+    → eventIn (arrives o l s f) ≡ Event.Ack → (o ≡ Loss.Whole) × (e : Effect) × (loaderTakes l s f ≡ given e)
+acked Loss.Whole l s f c h =
+    let w = ap (λ (w : Bool). eventIn (tellOf w (bare (loaderTakes l s f)))) (ap waiting c) in
+    go (loaderTakes l s f) refl (sym (ap isAck (sym w ∙ h)))
   where
-    go : (x : Answer Effect) → loaderTakes l s f ≡ x → true ≡ isAck (eventIn (tellOf false (bare x))) → (Loss.Whole ≡ Loss.Whole) × (e : Effect) × (loaderTakes l s f ≡ given e)
+    go : (x : Answer Effect) → loaderTakes l s f ≡ x → true ≡ isAck (eventIn (tellOf false (bare x)))
+        → (Loss.Whole ≡ Loss.Whole) × (e : Effect) × (loaderTakes l s f ≡ given e)
     go (refused n) e t = absurd (true-false (t ∙ refusal-heard n))
     go (given y) e t = (refl, y, e)
 acked Loss.Lost l s f c h = absurd (true-false (sym (ap isAck (sym (silence-heard []) ∙ h))))
 acked Loss.Unanswered l s f c h = absurd (true-false (sym (ap isAck (sym (silence-heard []) ∙ h))))
 
 -- and what it lets through it acknowledges
-pub let-acked : (l : Loader) (s f : List ℕ) (e : Effect) → l .condition ≡ Serving → loaderTakes l s f ≡ given e → eventIn (arrives Loss.Whole l s f) ≡ Event.Ack
-let-acked l s f e c q = ap (λ (x : Answer Effect). eventIn (answerBytes l x)) q ∙ ap (λ (w : Bool). eventIn (pick w greeting (0x06 ∷ []))) (ap waiting c) ∙ ack-heard
+pub let-acked : (l : Loader) (s f : List ℕ) (e : Effect) → l .condition ≡ Serving
+    → loaderTakes l s f ≡ given e → eventIn (arrives Loss.Whole l s f) ≡ Event.Ack
+let-acked l s f e c q =
+    ap (λ (x : Answer Effect). eventIn (answerBytes l x)) q
+    ∙ ap (λ (w : Bool). eventIn (pick w greeting (0x06 ∷ []))) (ap waiting c) ∙ ack-heard
 
 -- ---- where the session stands then
 
@@ -70,12 +77,12 @@ opened o l f = delivered o (resetOf l) (0x08 ∷ []) f
 
 -- the session has ended
 abbrev pub over : List ℕ → RunKind → Effect → Outcome → ℕ → Moment
-over m kind e u k = record { loader = e .loader; flash = e .flash; session = sessionIn m kind (Phase.Ended u) k; wire = [] }
+over m kind e u k = momentWith e (sessionIn m kind (Phase.Ended u) k) []
 
 module _ (image m : List ℕ) (kind : RunKind) where
   -- k packets are acknowledged and the next is on the wire
   abbrev pub standing : Effect → ℕ → Moment
-  standing e k = record { loader = e .loader; flash = e .flash; session = stateAt m kind k; wire = packetAt image m kind k }
+  standing e k = momentWith e (stateAt m kind k) (packetAt image m kind k)
 
   -- that packet on its way to the loader
   abbrev pub served : Loss → Effect → ℕ → Effect
@@ -83,10 +90,10 @@ module _ (image m : List ℕ) (kind : RunKind) where
 
   -- the session has taken what it heard
   abbrev went : Effect → Session → Moment
-  went e s = record { loader = e .loader; flash = e .flash; session = s; wire = packetOut image m kind (s .phase) }
+  went e s = momentWith e s (packetOut image m kind (s .phase))
 
-module _ (image m : List ℕ) (right : length image ≡ flashSize) (long : length m ≡ mapSize) (some : 0 < namedCount m)
-    (kind : RunKind) where
+module _ (image m : List ℕ) (right : length image ≡ flashSize) (long : length m ≡ mapSize)
+    (some : 0 < namedCount m) (kind : RunKind) where
   right-sizes : rightSizes (length image) (length m) packetMost ≡ true
   right-sizes = rw (eq-eqb _ _ right, eq-eqb _ _ long)
 
@@ -107,14 +114,19 @@ module _ (image m : List ℕ) (right : length image ≡ flashSize) (long : lengt
 
     pub on-ack : k + 1 < total m → heard ≡ Event.Ack
         → exchangeOf image m o here ≡ standing image m kind (served image m kind o e k) (k + 1)
-    on-ack n h = taken ∙ ap (λ (v : Event). next (tookOf m (stateAt m kind k) v)) h ∙ ap next (ack-next m long some kind k n)
+    on-ack n h =
+        taken ∙ ap (λ (v : Event). next (tookOf m (stateAt m kind k) v)) h
+        ∙ ap next (ack-next m long some kind k n)
 
     pub on-last : k + 1 ≡ total m → heard ≡ Event.Ack
         → exchangeOf image m o here ≡ over m kind (served image m kind o e k) Outcome.Valid (total m)
-    on-last n h = taken ∙ ap (λ (v : Event). next (tookOf m (stateAt m kind k) v)) h ∙ ap next (ack-last m long some kind k n)
+    on-last n h =
+        taken ∙ ap (λ (v : Event). next (tookOf m (stateAt m kind k) v)) h
+        ∙ ap next (ack-last m long some kind k n)
 
     pub on-else : isAck heard ≡ false
-        → (u : Outcome) × (failing u k ≡ true) × (exchangeOf image m o here ≡ over m kind (served image m kind o e k) u k)
+        → (u : Outcome) × (failing u k ≡ true)
+        × (exchangeOf image m o here ≡ over m kind (served image m kind o e k) u k)
     on-else h = let f = not-ack m long some kind k heard h l in (f .0, f .1, taken ∙ ap next (f .2))
 
   -- the opening byte
@@ -132,9 +144,11 @@ module _ (image m : List ℕ) (right : length image ≡ flashSize) (long : lengt
     unfolding exchangeOf
     taken-first =
         ap (stepsOn (between o start))
-        (step-taken image m packetMost (atGreeting m kind) first-heard right-sizes refl (waiting-fits m long some kind))
+        (step-taken image m packetMost (atGreeting m kind) first-heard right-sizes refl
+        (waiting-fits m long some kind))
 
-    pub on-greeting : first-heard ≡ Event.Greeting → exchangeOf image m o start ≡ standing image m kind (opened o l f) 0
+    pub on-greeting : first-heard ≡ Event.Greeting
+        → exchangeOf image m o start ≡ standing image m kind (opened o l f) 0
     on-greeting h =
         taken-first
         ∙ ap (λ (v : Event). first-next (tookOf m (atGreeting m kind) v)) h

@@ -54,11 +54,13 @@ pieceRank m a = count (pieceStarts m) (a + 1)
 abbrev runRank : List ℕ → ℕ → ℕ
 runRank m a = count (runStarts m) (pageOf a + 1)
 
--- flash after k acknowledgements: the bytes whose W is among them stand, those whose E is and whose W is not are blank
+-- flash after k acknowledgements: the bytes whose W is among them stand, those whose E is and whose W is not
+-- are blank
 pub record Grows (image m : List ℕ) (k : ℕ) (f : List ℕ) : Type 0 where
   pub size : length f ≡ flashSize
   pub written : (a : ℕ) → named m a ≡ true → runCount m + pieceRank m a ≤ k → getD f a 0 ≡ getD image a 0
-  pub blank : (a : ℕ) → named m a ≡ true → runRank m a ≤ k → k < runCount m + pieceRank m a → getD f a 0 ≡ 0xFF
+  pub blank : (a : ℕ) → named m a ≡ true → runRank m a ≤ k → k < runCount m + pieceRank m a
+      → getD f a 0 ≡ 0xFF
 
 -- the packet is let through, and leaves this
 pub record Lets (image m : List ℕ) (l : Loader) (s f : List ℕ) (k : ℕ) (e : Effect) : Type 0 where
@@ -66,8 +68,9 @@ pub record Lets (image m : List ℕ) (l : Loader) (s f : List ℕ) (k : ℕ) (e 
   pub grows : Grows image m (k + 1) (e .flash)
   pub loader-is : k < runCount m + 2 * pieceCount m → e .loader ≡ l
 
-module _ (image m : List ℕ) (right : length image ≡ flashSize) (long : length m ≡ mapSize) (bytes : Bytes image)
-    (kind : RunKind) (l : Loader) (serves : Serves l) (free : Free m l) (f : List ℕ) (k : ℕ) (h : Grows image m k f) where
+module _ (image m : List ℕ) (right : length image ≡ flashSize) (long : length m ≡ mapSize)
+    (bytes : Bytes image) (kind : RunKind) (l : Loader) (serves : Serves l) (free : Free m l)
+    (f : List ℕ) (k : ℕ) (h : Grows image m k f) where
   -- the ranks of a named byte
   ranks : (a : ℕ) → named m a ≡ true
       → (0 < pieceRank m a) × (pieceRank m a ≤ pieceCount m) × (runRank m a ≤ runCount m)
@@ -87,7 +90,8 @@ module _ (image m : List ℕ) (right : length image ≡ flashSize) (long : lengt
     -- a byte of a run with this rank lies in the run
     run-home : (a : ℕ) → named m a ≡ true → runRank m a ≡ k + 1 → (q ≤ pageOf a) × (pageOf a < q + runLen m q)
     run-home a t e =
-        rank-home (touched m) pages (omega arith) q (pageOf a) (r .begins) (named-touched m a t) (omega (arith, e, r .rank-is))
+        rank-home (touched m) pages (omega arith) q (pageOf a) (r .begins) (named-touched m a t)
+        (omega (arith, e, r .rank-is))
 
     erase-grows : Grows image m (k + 1) (erasedRun f m q)
     erase-grows =
@@ -117,7 +121,8 @@ module _ (image m : List ℕ) (right : length image ≡ flashSize) (long : lengt
         record {
           let-is = ap (λ (s : List ℕ). loaderTakes l s f) e
               ∙ takes-erase image m right long l serves f (h .size) q (r .begins)
-              ∙ erase-passes pages l (startOf q) (runLen m q) (given (record { loader = l; flash = erasedRun f m q }))
+              ∙ erase-passes pages l (startOf q) (runLen m q)
+              (given (record { loader = l; flash = erasedRun f m q }))
               (λ z. omega arith) (omega arith) (omega arith)
               (ap (λ (p : ℕ). protectedPages (l .protection) p (p + runLen m q)) (page-start q) ∙ run-free);
           grows = erase-grows;
@@ -145,7 +150,8 @@ module _ (image m : List ℕ) (right : length image ≡ flashSize) (long : lengt
 
     -- and a named byte with this rank is one of them
     piece-home : (a : ℕ) → named m a ≡ true → pieceRank m a ≡ suc j → (s ≤ a) × (a < s + pieceLen m s)
-    piece-home a t e = rank-home (named m) pieceMost (omega arith) s a (r .begins) t (e ∙ sym (ap suc (r .rank-is)))
+    piece-home a t e =
+        rank-home (named m) pieceMost (omega arith) s a (r .begins) t (e ∙ sym (ap suc (r .rank-is)))
 
     piece-bytes : Bytes piece
     piece-bytes = bytes-take (pieceLen m s) (drop s image) (bytes-drop s image bytes)
@@ -178,7 +184,8 @@ module _ (image m : List ℕ) (right : length image ≡ flashSize) (long : lengt
                 absurd (out (i .0) (omega (arith, long-is, i .1))))
                 (λ e. same ∙ h .written a n (omega (arith, eqb-false (pieceRank m a) (suc j) e))));
             blank = λ a n c d. store-or f s piece a
-                (λ i b e. absurd (omega (arith, sym (ap (pieceRank m) e) ∙ held i (omega (arith, long-is)) .1)))
+                (λ i b e. let r = held i (omega (arith, long-is)) .1 in
+                absurd (omega (arith, sym (ap (pieceRank m) e) ∙ r)))
                 (λ out same. same ∙ h .blank a n (omega (arith, ranks a n .2)) (omega arith));
           }
 
@@ -195,8 +202,8 @@ module _ (image m : List ℕ) (right : length image ≡ flashSize) (long : lengt
           record {
             let-is = ap (λ (x : List ℕ). loaderTakes l x f) e
                 ∙ takes-write image m right long l serves f (h .size) s (r .begins)
-                ∙ write-passes pages l s (length piece) (given (record { loader = l; flash = stored })) (serves .sequence-is)
-                (omega (arith, long-is, fits)) piece-free;
+                ∙ write-passes pages l s (length piece) (given (record { loader = l; flash = stored }))
+                (serves .sequence-is) (omega (arith, long-is, fits)) piece-free;
             grows = write-grows;
             loader-is = λ z. refl;
           }
@@ -205,7 +212,8 @@ module _ (image m : List ℕ) (right : length image ≡ flashSize) (long : lengt
 
     verify-same : runCount m + pieceCount m ≤ k → equalsOf f s (map turnedOf piece) ≡ true
     verify-same c =
-        stands-same f s (map turnedOf piece) (omega (arith, length-map piece turnedOf, long-is, fits, h .size))
+        stands-same f s (map turnedOf piece)
+        (omega (arith, length-map piece turnedOf, long-is, fits, h .size))
         (ap (λ (n : ℕ). take n (drop s f)) (length-map piece turnedOf ∙ long-is)
         ∙ parts-equal f image s (pieceLen m s) (omega (arith, fits, h .size)) (omega (arith, fits))
         (λ i b. let n = held i b .0 in h .written (s + i) n (omega (arith, ranks (s + i) n .1)))

@@ -1,5 +1,5 @@
--- The moments of a load, one after another: that each is safe, that the load ends, what silence does, and that it
--- ends valid.
+-- The moments of a load, one after another: that each is safe, that the load ends, what silence does, and
+-- that it ends valid.
 use Prim.Native.Nat.{ℕ, zero, suc, _+_, _*_, _≤_, _<_}
 use mathlib.Core.Bool.{Bool, true, false}
 use mathlib.Core.List.{List, [], _∷_}
@@ -20,7 +20,7 @@ use Rattle.line.specs.Laws.Exchange.{silence-is, let-acked, packetAt, op
 use Rattle.line.specs.Laws.Liveness.{Grows, Lets, lets}
 use Rattle.line.specs.Laws.Safety.{serving, serving-serves, board-greets}
 use Rattle.line.specs.Laws.Stages.{Holds, Stage, starts, stands, ends, stage, served-holds, opening-holds, first-flash}
-use Rattle.line.specs.Line.{Moment, begun, loaderTakes, between, reply, eventIn, exchangeOf, momentAt, loadAt}
+use Rattle.line.specs.Line.{Moment, momentWith, begun, loaderTakes, between, reply, eventIn, exchangeOf, momentAt, loadAt}
 use Rattle.line.specs.declared.exchange.Loss.{Loss}
 use Rattle.loader.specs.Commands.{Effect, effectAfter}
 use Rattle.loader.specs.State.{resetOf}
@@ -61,17 +61,20 @@ module _ (image m : List ℕ) (losses : ℕ → Loss) (x : Moment) where
       decide (eqb i (suc n))
       (λ t. ap at (sym (eqb-true i (suc n) t)))
       (λ t. let e = stays i n (omega (arith, eqb-false i (suc n) t)) h in
-      ap (λ (y : Bool). pick y (at n) (exchangeOf image m (losses n) (at n))) (ap (λ (y : Moment). ended (y .session .phase)) e ∙ h) ∙ e)
+      ap (λ (y : Bool). pick y (at n) (exchangeOf image m (losses n) (at n)))
+      (ap (λ (y : Moment). ended (y .session .phase)) e ∙ h) ∙ e)
 
   -- while the session goes on the next exchange takes place
-  pub follows : (n : ℕ) → ended (at n .session .phase) ≡ false → at (suc n) ≡ exchangeOf image m (losses n) (at n)
+  pub follows : (n : ℕ) → ended (at n .session .phase) ≡ false
+      → at (suc n) ≡ exchangeOf image m (losses n) (at n)
   unfolding momentAt
   follows n h = ap (λ (y : Bool). pick y (at n) (exchangeOf image m (losses n) (at n))) h
 
 -- ---- what flash holds makes a moment safe, if R and the verdict come late enough
 
-holds-safe : (image m before : List ℕ) (long : length m ≡ mapSize) (k : ℕ) (x : Moment) → x .session .acknowledged ≡ k
-    → Holds image m before k (x .flash) → (RunOut x → runCount m + 2 * pieceCount m ≤ k)
+holds-safe : (image m before : List ℕ) (long : length m ≡ mapSize) (k : ℕ) (x : Moment)
+    → x .session .acknowledged ≡ k → Holds image m before k (x .flash)
+    → (RunOut x → runCount m + 2 * pieceCount m ≤ k)
     → (Valid (x .session) → runCount m + 2 * pieceCount m ≤ k) → Safe image m before x
 holds-safe image m before long k x c h run val =
     record {
@@ -93,9 +96,12 @@ run-late : (image m : List ℕ) (long : length m ≡ mapSize) (kind : RunKind) (
 run-late image m long kind k b = go (out-after m long k b)
   where
     go : Out m k → command (packetAt image m kind k) ≡ 0x52 → runCount m + 2 * pieceCount m ≤ k
-    go (erases q e r c) h = absurd (omega (arith, sym (packet-command 0x45 (startOf q) (runLen m q ∷ [])) ∙ (rw e at h)))
-    go (writes a j e r t c) h = absurd (omega (arith, sym (packet-command 0x57 a (pieceBytes image m a)) ∙ (rw e at h)))
-    go (verifies a j e r t c) h = absurd (omega (arith, sym (packet-command 0x56 a (pieceBytes image m a)) ∙ (rw e at h)))
+    go (erases q e r c) h =
+        absurd (omega (arith, sym (packet-command 0x45 (startOf q) (runLen m q ∷ [])) ∙ (rw e at h)))
+    go (writes a j e r t c) h =
+        absurd (omega (arith, sym (packet-command 0x57 a (pieceBytes image m a)) ∙ (rw e at h)))
+    go (verifies a j e r t c) h =
+        absurd (omega (arith, sym (packet-command 0x56 a (pieceBytes image m a)) ∙ (rw e at h)))
     go (runs e t) h = omega arith
 
 -- a session that goes on is not valid
@@ -114,14 +120,15 @@ valid-is u e = ap outcome e
     outcome (Phase.Ended o) = o
 
 -- a moment whose session has ended does not go on
-not-open : {R : Type 0} {x y : Moment} → x ≡ y → ended (y .session .phase) ≡ true → ended (x .session .phase) ≡ false → R
+not-open : {R : Type 0} {x y : Moment} → x ≡ y → ended (y .session .phase) ≡ true
+    → ended (x .session .phase) ≡ false → R
 not-open q d t = absurd (true-false (sym d ∙ sym (ap (λ (z : Moment). ended (z .session .phase)) q) ∙ t))
 
 module _ (image m before : List ℕ) (right : length image ≡ flashSize) (long : length m ≡ mapSize)
     (kind : RunKind) (l : Loader) (size : length before ≡ flashSize) where
   -- the opening byte is out, before and after the loader has taken it
   first-safe : (e : Effect) → e .flash ≡ before
-      → Safe image m before (record { loader = e .loader; flash = e .flash; session = atGreeting m kind; wire = 0x08 ∷ [] })
+      → Safe image m before (momentWith e (atGreeting m kind) (0x08 ∷ []))
   first-safe e q =
       holds-safe image m before long 0 _ refl (opening-holds image m before long (e .flash) q size)
       (λ r. absurd (omega arith)) (open-invalid (atGreeting m kind) refl)
@@ -129,7 +136,8 @@ module _ (image m before : List ℕ) (right : length image ≡ flashSize) (long 
   next-safe : (k : ℕ) → k < total m → (e : Effect) → Holds image m before k (e .flash)
       → Safe image m before (standing image m kind e k)
   next-safe k b e h =
-      holds-safe image m before long k _ refl h (run-late image m long kind k b) (open-invalid (stateAt m kind k) (phase-open m k))
+      holds-safe image m before long k _ refl h (run-late image m long kind k b)
+      (open-invalid (stateAt m kind k) (phase-open m k))
 
   pub stage-safe : (n : ℕ) (x : Moment) → Stage image m before kind l n x → Safe image m before x
   stage-safe n x (starts z q) = rw q (first-safe (record { loader = resetOf l; flash = before }) refl)
@@ -137,8 +145,8 @@ module _ (image m before : List ℕ) (right : length image ≡ flashSize) (long 
   stage-safe n x (ends e u k h v q) =
       rw q (holds-safe image m before long k _ refl h (λ r. absurd (omega arith)) (λ t. v (valid-is u t)))
 
-  pub amid-safe : (o : Loss) (n : ℕ) (x : Moment) → Stage image m before kind l n x → ended (x .session .phase) ≡ false
-      → Safe image m before (between o x)
+  pub amid-safe : (o : Loss) (n : ℕ) (x : Moment) → Stage image m before kind l n x
+      → ended (x .session .phase) ≡ false → Safe image m before (between o x)
   amid-safe o n x (starts z q) t = rw q (first-safe (opened o l before) (first-flash o l before size))
   amid-safe o n x (stands e k z b s h q) t =
       rw q (next-safe k b (served image m kind o e k)
@@ -147,8 +155,9 @@ module _ (image m before : List ℕ) (right : length image ≡ flashSize) (long 
 
 -- ---- the end
 
-module _ (image m before : List ℕ) (right : length image ≡ flashSize) (long : length m ≡ mapSize) (some : 0 < namedCount m)
-    (bytes : Bytes image) (kind : RunKind) (l : Loader) (size : length before ≡ flashSize) (losses : ℕ → Loss) where
+module _ (image m before : List ℕ) (right : length image ≡ flashSize) (long : length m ≡ mapSize)
+    (some : 0 < namedCount m) (bytes : Bytes image) (kind : RunKind) (l : Loader)
+    (size : length before ≡ flashSize) (losses : ℕ → Loss) where
   abbrev load : ℕ → Moment
   load = loadAt image m kind l losses before
 
@@ -165,8 +174,9 @@ module _ (image m before : List ℕ) (right : length image ≡ flashSize) (long 
       go x (ends e u k h v q) t = not-open q refl t
 
   -- an exchange that brings no answer ends the session with 40
-  hushed : (o : Loss) (n : ℕ) (x : Moment) → Stage image m before kind l n x → ended (x .session .phase) ≡ false
-      → reply o x ≡ [] → exchangeOf image m o x .session .phase ≡ Phase.Ended Outcome.Silence
+  hushed : (o : Loss) (n : ℕ) (x : Moment) → Stage image m before kind l n x
+      → ended (x .session .phase) ≡ false → reply o x ≡ []
+      → exchangeOf image m o x .session .phase ≡ Phase.Ended Outcome.Silence
   hushed o n x (starts z q) t r =
       ap (λ (y : Moment). exchangeOf image m o y .session .phase) q
       ∙ ap (λ (y : Moment). y .session .phase) (taken-first image m right long some kind o l before)
@@ -180,12 +190,14 @@ module _ (image m before : List ℕ) (right : length image ≡ flashSize) (long 
   hushed o n x (ends e u k h v q) t r = not-open q refl t
 
   -- so it stands ended with 40 from then on, and was valid at no time
-  module _ (i : ℕ) (goes-on : ended (load i .session .phase) ≡ false) (no-answer : reply (losses i) (load i) ≡ []) where
+  module _ (i : ℕ) (goes-on : ended (load i .session .phase) ≡ false)
+      (no-answer : reply (losses i) (load i) ≡ []) where
     pub silent : (n : ℕ) → i < n → load n .session .phase ≡ Phase.Ended Outcome.Silence
     silent n b =
         let e : load (suc i) .session .phase ≡ Phase.Ended Outcome.Silence
         = ap (λ (x : Moment). x .session .phase) (follows image m losses start i goes-on)
-        ∙ hushed (losses i) i (load i) (stage image m before right long some bytes kind l size losses i) goes-on no-answer in
+        ∙ hushed (losses i) i (load i) (stage image m before right long some bytes kind l size losses i)
+        goes-on no-answer in
         ap (λ (x : Moment). x .session .phase) (stays image m losses start (suc i) n b (ap ended e)) ∙ e
 
     pub never-valid : (n : ℕ) → Valid (load n .session) → ⊥
@@ -214,7 +226,9 @@ module _ (image m before : List ℕ) (right : length image ≡ flashSize) (long 
         record {
           size = size;
           written = λ a t b. absurd (omega (arith, rank-some (named m) pieceMost (omega arith) a t));
-          blank = λ a t b c. absurd (omega (arith, rank-some (touched m) pages (omega arith) (pageOf a) (named-touched m a t)));
+          blank = λ a t b c.
+              let r = rank-some (touched m) pages (omega arith) (pageOf a) (named-touched m a t) in
+              absurd (omega arith);
         }
 
     -- loader and flash that serve, with k packets acknowledged
@@ -235,7 +249,8 @@ module _ (image m before : List ℕ) (right : length image ≡ flashSize) (long 
       passing : (e : Effect) × Lets image m (serving l) (packetAt image m kind k) f k e
       passing =
           lets image m right long bytes kind (serving l) (serving-serves l)
-          (record { unprotected = free .unprotected; readable = free .readable }) f k grows (out-after m long k b)
+          (record { unprotected = free .unprotected; readable = free .readable }) f k grows
+          (out-after m long k b)
 
       served-is : served image m kind Loss.Whole (serves-at f) k ≡ passing .0
       served-is = ap (λ (x : Answer Effect). effectAfter (serving l) f x) (passing .1 .let-is)
@@ -281,16 +296,19 @@ module _ (image m before : List ℕ) (right : length image ≡ flashSize) (long 
           flash = e .flash;
           grows = subst (λ (i : ℕ). Grows image m i (e .flash)) j (p .grows);
           moment-is = exchanged k c
-              ∙ on-ack image m right long some kind Loss.Whole (serves-at (c .flash)) k d (omega arith) (hears k d (c .flash) (c .grows))
+              ∙ on-ack image m right long some kind Loss.Whole (serves-at (c .flash)) k d (omega arith)
+              (hears k d (c .flash) (c .grows))
               ∙ ap (λ (x : Effect). standing image m kind x (k + 1)) (served-is k d (c .flash) (c .grows))
               ∙ ap (standing image m kind e) j
-              ∙ ap (λ (x : Loader). standing image m kind (record { loader = x; flash = e .flash }) (suc k)) s;
+              ∙ ap (λ (x : Loader). standing image m kind (record { loader = x; flash = e .flash }) (suc k))
+              s;
         }
 
     -- after the last ACK it is valid, and stays so
     pub ends-valid : (n : ℕ) → total m < n → Valid (load n .session)
     ends-valid n b =
-        ap (λ (x : Moment). x .session .phase) (stays image m losses start (suc (suc last)) n (omega arith) (ap ended ended-valid))
+        ap (λ (x : Moment). x .session .phase)
+        (stays image m losses start (suc (suc last)) n (omega arith) (ap ended ended-valid))
         ∙ ended-valid
       where
         last : ℕ
@@ -302,4 +320,5 @@ module _ (image m before : List ℕ) (right : length image ≡ flashSize) (long 
             let d : last < total m = omega arith in
             ap (λ (x : Moment). x .session .phase)
             (exchanged last c
-            ∙ on-last image m right long some kind Loss.Whole (serves-at (c .flash)) last d refl (hears last d (c .flash) (c .grows)))
+            ∙ on-last image m right long some kind Loss.Whole (serves-at (c .flash)) last d refl
+            (hears last d (c .flash) (c .grows)))

@@ -1,4 +1,4 @@
--- Lists place by place: what a store or an erasure leaves at a place, parts that agree, and where a page starts.
+-- Lists place by place: what a store or an erasure leaves at a place, and parts that agree; a page's start.
 use Prim.Native.Nat.{ℕ, _+_, _-_, _≤_, _<_}
 use mathlib.Core.List.{List}
 use mathlib.Core.Path.{_≡_, sym, ap, _∙_}
@@ -27,9 +27,11 @@ stored-or op f a s j among stays =
     (λ t. let b = ltb-true j a t in stays (λ x y. omega arith) (stored-below op f a s j b))
     (λ t. decide (leb (a + length s) j)
     (λ u. let b = leb-true (a + length s) j u in stays (λ x y. omega arith) (stored-above op f a s j b))
-    (λ u. among (j - a) (omega (arith, ltb-false j a t, leb-false (a + length s) j u)) (omega (arith, ltb-false j a t))))
+    (λ u. let b = ltb-false j a t in
+    among (j - a) (omega (arith, leb-false (a + length s) j u)) (omega arith)))
 
-pub store-or : {R : Type 0} (f : List ℕ) (a : ℕ) (s : List ℕ) (j : ℕ) → ((k : ℕ) → k < length s → a + k ≡ j → R)
+pub store-or : {R : Type 0} (f : List ℕ) (a : ℕ) (s : List ℕ) (j : ℕ)
+    → ((k : ℕ) → k < length s → a + k ≡ j → R)
     → ((a ≤ j → j < a + length s → ⊥) → getD (storeOf f a s) j 0 ≡ getD f j 0 → R) → R
 store-or = stored-or bitAnd
 

@@ -65,13 +65,17 @@ module _ (image m : List ℕ) (kind : RunKind) (l : Loader) (losses : ℕ → Lo
         go (given x) e f =
             let g = given-is x e in
             ap (λ (s : List ℕ). getD s a 0) (f ∙ ap (λ (y : Moment). y .flash) (g .moment-is))
-            ∙ safe image m before (g .right) (g .long) (g .some) bytes kind l (g .size) losses (total m + 1) .untouched-stays a t
+            ∙ safe image m before (g .right) (g .long) (g .some) bytes kind l (g .size) losses (total m + 1)
+            .untouched-stays a t
 
     module _ (y : Load) (v : r ≡ given y) where
-      outcome : (x : Moment) × (Given x) × (flash ≡ x .flash) × (y .session ≡ x .session)
+      abbrev Outcome : Type 0
+      Outcome = (x : Moment) × (Given x) × (flash ≡ x .flash) × (y .session ≡ x .session)
+
+      outcome : Outcome
       outcome = go whole refl (sym v ∙ h .result-is) (h .flash-is)
         where
-          go : (w : Answer Moment) → whole ≡ w → given y ≡ loaded w → flash ≡ leftFlash before w → (x : Moment) × (Given x) × (flash ≡ x .flash) × (y .session ≡ x .session)
+          go : (w : Answer Moment) → whole ≡ w → given y ≡ loaded w → flash ≡ leftFlash before w → Outcome
           go (refused n) e s f = absurd (apart (sym s))
           go (given x) e s f = (x, given-is x e, f, ap (λ (z : Load). z .session) (given-one s))
 
@@ -88,7 +92,8 @@ module _ (image m : List ℕ) (kind : RunKind) (l : Loader) (losses : ℕ → Lo
       valid-stands t a n =
           let o = outcome in
           let g = o .1 in
-          let s = safe image m before (g .right) (g .long) (g .some) bytes kind l (g .size) losses (total m + 1) in
+          let s = safe image m before (g .right) (g .long) (g .some) bytes kind l (g .size) losses
+          (total m + 1) in
           let e = o .3 ∙ ap (λ (x : Moment). x .session) (g .moment-is) in
           ap (λ (f : List ℕ). getD f a 0) (o .2 ∙ ap (λ (x : Moment). x .flash) (g .moment-is))
           ∙ s .proved-stands a (s .valid-proved (sym (ap (λ (x : Session). x .phase) e) ∙ t) a n)

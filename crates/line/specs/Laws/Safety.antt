@@ -1,4 +1,4 @@
--- What no loss, no protection and no flash can break: the bytes marked proved stand, and untouched pages stay.
+-- What no loss, no protection and no flash can break: bytes marked proved stand, and untouched pages stay.
 use Prim.Native.Nat.{ℕ, _+_, _-_, _≤_, _<_}
 use mathlib.Core.Bool.{true, false}
 use mathlib.Core.List.{List, [], _∷_, map}
@@ -60,7 +60,8 @@ module _ (m before : List ℕ) where
   pub erase-untouched : (f : List ℕ) (q : ℕ) → Untouched m before f → Untouched m before (erasedRun f m q)
   erase-untouched f q h a t =
       erase-or f (startOf q) (startOf (runLen m q)) a
-      (λ k b e. absurd (true-false (sym (piece-passes (touched m) pages q (pageOf a) (omega arith) (omega arith)) ∙ t)))
+      (λ k b e. let p = piece-passes (touched m) pages q (pageOf a) (omega arith) (omega arith) in
+      absurd (true-false (sym p ∙ t)))
       (λ out same. same ∙ h a t)
 
   -- a piece stored
@@ -68,12 +69,13 @@ module _ (m before : List ℕ) where
       → Untouched m before (storeOf f s d)
   store-untouched f d s n h a t =
       store-or f s d a
-      (λ k b e. absurd (true-false (sym (piece-touched m pieceMost s a (omega arith) (omega (arith, n))) ∙ t)))
+      (λ k b e. let p = piece-touched m pieceMost s a (omega arith) (omega (arith, n)) in
+      absurd (true-false (sym p ∙ t)))
       (λ out same. same ∙ h a t)
 
 -- by what befalls the exchange: what holds as it was and after the loader has taken the packet
-pub served-by : (P : Effect → Type 0) (o : Loss) (l : Loader) (s f : List ℕ) → P (record { loader = l; flash = f })
-    → P (effectAfter l f (loaderTakes l s f)) → P (delivered o l s f)
+pub served-by : (P : Effect → Type 0) (o : Loss) (l : Loader) (s f : List ℕ)
+    → P (record { loader = l; flash = f }) → P (effectAfter l f (loaderTakes l s f)) → P (delivered o l s f)
 served-by P Loss.Whole l s f p q = q
 served-by P Loss.Lost l s f p q = p
 served-by P Loss.Unanswered l s f p q = q
@@ -85,15 +87,17 @@ board-greets l f size = sent-opening pages (resetOf l) f answerMost size (omega 
 
 -- ---- the packets of the plan, as a serving loader takes them
 
-module _ (image m : List ℕ) (right : length image ≡ flashSize) (long : length m ≡ mapSize) (l : Loader) (serves : Serves l)
-    (f : List ℕ) (size : length f ≡ flashSize) where
+module _ (image m : List ℕ) (right : length image ≡ flashSize) (long : length m ≡ mapSize)
+    (l : Loader) (serves : Serves l) (f : List ℕ) (size : length f ≡ flashSize) where
   pub takes-erase : (q : ℕ) → runStarts m q ≡ true
       → loaderTakes l (erasePacket m q) f
-      ≡ first (eraseRows pages l (startOf q) (runLen m q)) (given (record { loader = l; flash = erasedRun f m q }))
+      ≡ first (eraseRows pages l (startOf q) (runLen m q))
+      (given (record { loader = l; flash = erasedRun f m q }))
   takes-erase q h =
       let b = run-below m long q h in
       let n = piece-some (touched m) pages (omega arith) q h in
-      sent-erase pages l f answerMost size (omega arith) (serves .condition-is) (startOf q) (omega arith) (runLen m q)
+      sent-erase pages l f answerMost size (omega arith) (serves .condition-is) (startOf q) (omega arith)
+      (runLen m q)
       ∙ erasing-pages pages l (startOf q) (runLen m q) f (serves .sequence-is)
       (both-false (eqb (runLen m q) 0) _ (ne-eqb (runLen m q) 0 (λ e. omega arith)))
       ∙ ap (λ (p : ℕ). first (eraseRows pages l (startOf q) (runLen m q))
@@ -109,21 +113,27 @@ module _ (image m : List ℕ) (right : length image ≡ flashSize) (long : lengt
         (piece-below m long s h, omega (arith, c .0), omega (arith, c .0))
 
     pub takes-write : loaderTakes l (writePacket image m s) f
-        ≡ first (writeRows pages l s (length piece)) (given (record { loader = l; flash = storeOf f s piece }))
+        ≡ first (writeRows pages l s (length piece))
+        (given (record { loader = l; flash = storeOf f s piece }))
     unfolding writing
     takes-write =
         let p = piece-fits in
-        sent-write pages l f answerMost size (omega arith) (serves .condition-is) s (omega (arith, p .0)) piece (p .1) (p .2)
+        sent-write pages l f answerMost size (omega arith) (serves .condition-is) s (omega (arith, p .0))
+        piece (p .1) (p .2)
 
     pub takes-verify : loaderTakes l (verifyPacket image m s) f
         ≡ keeping f (first (verifyRows pages l s (map turnedOf piece) f) (given l))
     takes-verify =
         let p = piece-fits in
-        sent-verify pages l f answerMost size (omega arith) (serves .condition-is) s (omega (arith, p .0)) piece (p .1) (p .2)
+        sent-verify pages l f answerMost size (omega arith) (serves .condition-is) s (omega (arith, p .0))
+        piece (p .1) (p .2)
 
-  pub takes-run : (kind : RunKind) → loaderTakes l (runPacket kind) f ≡ keeping f (running l (runAddress kind))
-  takes-run RunKind.Reset = sent-run pages l f answerMost size (omega arith) (serves .condition-is) 1 (omega arith)
-  takes-run RunKind.Jump = sent-run pages l f answerMost size (omega arith) (serves .condition-is) 0 (omega arith)
+  pub takes-run : (kind : RunKind)
+      → loaderTakes l (runPacket kind) f ≡ keeping f (running l (runAddress kind))
+  takes-run RunKind.Reset =
+      sent-run pages l f answerMost size (omega arith) (serves .condition-is) 1 (omega arith)
+  takes-run RunKind.Jump =
+      sent-run pages l f answerMost size (omega arith) (serves .condition-is) 0 (omega arith)
 
   -- an accepted V says that flash has its piece as the file has it
   pub verified : Bytes image → (s : ℕ) → pieceStarts m s ≡ true → (e : Effect)

@@ -1,4 +1,4 @@
--- Every moment of a load over a line that may lose anything: where the session stands, and what flash then holds.
+-- Every moment of a load over a line that may lose anything: where the session stands, and what flash holds.
 use Prim.Native.Nat.{ℕ, zero, suc, _+_, _*_, _≤_, _<_}
 use mathlib.Core.Bool.{true, false}
 use mathlib.Core.List.{List, [], _∷_, map}
@@ -47,14 +47,14 @@ module _ (image m before : List ℕ) where
     pub untouched : Untouched m before f
     pub stands : (a : ℕ) → marked m k a ≡ true → getD f a 0 ≡ getD image a 0
 
-  -- after n exchanges: the opening byte is out; or n - 1 packets are acknowledged and the next is out; or the session
-  -- has ended
+  -- after n exchanges: the opening byte is out; or n - 1 packets are acknowledged and the next is out; or the
+  -- session has ended
   pub data Stage (kind : RunKind) (l : Loader) (n : ℕ) (x : Moment) : Type 0 where
     starts : n ≡ 0 → x ≡ begun m kind l before → Stage kind l n x
     stands : (e : Effect) (k : ℕ) → n ≡ k + 1 → k < total m → e .loader ≡ serving l → Holds k (e .flash)
         → x ≡ standing image m kind e k → Stage kind l n x
-    ends : (e : Effect) (u : Outcome) (k : ℕ) → Holds k (e .flash) → (u ≡ Outcome.Valid → runCount m + 2 * pieceCount m ≤ k)
-        → x ≡ over m kind e u k → Stage kind l n x
+    ends : (e : Effect) (u : Outcome) (k : ℕ) → Holds k (e .flash)
+        → (u ≡ Outcome.Valid → runCount m + 2 * pieceCount m ≤ k) → x ≡ over m kind e u k → Stage kind l n x
 
 -- ---- before the first V
 
@@ -62,7 +62,8 @@ module _ (image m before : List ℕ) (long : length m ≡ mapSize) where
   -- before the first V is acknowledged no byte is marked
   early : {k : ℕ} {f : List ℕ} → k ≤ runCount m + pieceCount m → length f ≡ flashSize → Untouched m before f
       → Holds image m before k f
-  early {k} l s u = record { size = s; untouched = u; stands = λ a h. absurd (omega (arith, marked-late m long k a h)) }
+  early {k} l s u =
+      record { size = s; untouched = u; stands = λ a h. absurd (omega (arith, marked-late m long k a h)) }
 
   pub opening-holds : (f : List ℕ) → f ≡ before → length before ≡ flashSize → Holds image m before 0 f
   opening-holds f e s = early (omega arith) (ap length e ∙ s) (λ a t. ap (λ (x : List ℕ). getD x a 0) e)
@@ -80,8 +81,9 @@ place : (a b : ℕ) → verifyAt a ≡ verifyAt b → a ≡ b
 unfolding placeOf
 place a b e = ap placeOf e
 
-module _ (image m before : List ℕ) (right : length image ≡ flashSize) (long : length m ≡ mapSize) (kind : RunKind)
-    (l : Loader) (serves : Serves l) (o : Loss) (f : List ℕ) (k : ℕ) (h : Holds image m before k f) where
+module _ (image m before : List ℕ) (right : length image ≡ flashSize) (long : length m ≡ mapSize)
+    (kind : RunKind) (l : Loader) (serves : Serves l) (o : Loss) (f : List ℕ) (k : ℕ)
+    (h : Holds image m before k f) where
   abbrev arriving : Effect
   arriving = effectAfter l f (loaderTakes l (packetAt image m kind k) f)
 
@@ -95,7 +97,8 @@ module _ (image m before : List ℕ) (right : length image ≡ flashSize) (long 
       rw (e, takes-write image m right long l serves f (h .size) a (r .begins))
       (either-way (λ (x : Effect). Holds image m before k (x .flash)) l f _ _ h
       (early image m before long (omega arith) (length-store f a (pieceBytes image m a) ∙ h .size)
-      (store-untouched m before f (pieceBytes image m a) a (piece-carried m long image a right (r .begins) .0) (h .untouched))))
+      (store-untouched m before f (pieceBytes image m a) a (piece-carried m long image a right (r .begins) .0)
+      (h .untouched))))
   arrived (verifies a j e r t b) =
       rw (e, takes-verify image m right long l serves f (h .size) a (r .begins), kept l f _) h
   arrived (runs e t) =
@@ -107,7 +110,8 @@ module _ (image m before : List ℕ) (right : length image ≡ flashSize) (long 
       (arrived (out-after m long k b))
 
   -- until R it keeps the loader too
-  served-loader : k < runCount m + 2 * pieceCount m → Out m k → delivered o l (packetAt image m kind k) f .loader ≡ l
+  served-loader : k < runCount m + 2 * pieceCount m → Out m k
+      → delivered o l (packetAt image m kind k) f .loader ≡ l
   served-loader b t = served-by (λ (x : Effect). x .loader ≡ l) o l (packetAt image m kind k) f refl (go t)
     where
       go : Out m k → arriving .loader ≡ l
@@ -159,13 +163,15 @@ module _ (image m before : List ℕ) (right : length image ≡ flashSize) (long 
           record {
             size = hg .size;
             untouched = hg .untouched;
-            stands = λ a n. hg .stands a (all-marked m long k a (omega arith) ∙ sym (all-marked m long (k + 1) a (omega arith)) ∙ n);
+            stands = λ a n. hg .stands a
+                (all-marked m long k a (omega arith) ∙ sym (all-marked m long (k + 1) a (omega arith)) ∙ n);
           }
 
 -- ---- one exchange leads from stage to stage
 
-module _ (image m before : List ℕ) (right : length image ≡ flashSize) (long : length m ≡ mapSize) (some : 0 < namedCount m)
-    (bytes : Bytes image) (kind : RunKind) (l : Loader) (size : length before ≡ flashSize) where
+module _ (image m before : List ℕ) (right : length image ≡ flashSize) (long : length m ≡ mapSize)
+    (some : 0 < namedCount m) (bytes : Bytes image) (kind : RunKind) (l : Loader)
+    (size : length before ≡ flashSize) where
   abbrev At : ℕ → Moment → Type 0
   At = Stage image m before kind l
 
@@ -173,13 +179,15 @@ module _ (image m before : List ℕ) (right : length image ≡ flashSize) (long 
   start = begun m kind l before
 
   -- an outcome that is a failure is not valid
-  not-late : {u : Outcome} {k : ℕ} → failing u k ≡ true → u ≡ Outcome.Valid → runCount m + 2 * pieceCount m ≤ k
+  not-late : {u : Outcome} {k : ℕ} → failing u k ≡ true → u ≡ Outcome.Valid
+      → runCount m + 2 * pieceCount m ≤ k
   not-late {u} {k} t e = absurd (true-false (sym t ∙ ap (λ (v : Outcome). failing v k) e))
 
   silent-stage : (o : Loss) → eventIn (reply o start) ≡ Event.Silence → At 1 (exchangeOf image m o start)
   silent-stage o h =
       let s = on-silence image m right long some kind o l before h in
-      ends (opened o l before) (s .0) 0 (opening-holds image m before long _ (first-flash o l before size) size) (not-late (s .1)) (s .2)
+      ends (opened o l before) (s .0) 0
+      (opening-holds image m before long _ (first-flash o l before size) size) (not-late (s .1)) (s .2)
 
   first-stage : (o : Loss) → At 1 (exchangeOf image m o start)
   first-stage Loss.Whole =
@@ -193,7 +201,8 @@ module _ (image m before : List ℕ) (right : length image ≡ flashSize) (long 
   first-stage Loss.Unanswered = silent-stage Loss.Unanswered (silence-is [] refl)
 
   -- ACK goes on or ends valid, all else ends
-  next-stage : (o : Loss) (e : Effect) (k : ℕ) → k < total m → e .loader ≡ serving l → Holds image m before k (e .flash)
+  next-stage : (o : Loss) (e : Effect) (k : ℕ) → k < total m → e .loader ≡ serving l
+      → Holds image m before k (e .flash)
       → At (suc (k + 1)) (exchangeOf image m o (standing image m kind e k))
   next-stage o e k b s h = ack-or (eventIn (reply o here)) on-it off-it
     where
@@ -206,22 +215,26 @@ module _ (image m before : List ℕ) (right : length image ≡ flashSize) (long 
       off-it : isAck (eventIn (reply o here)) ≡ false → At (suc (k + 1)) (exchangeOf image m o here)
       off-it t =
           let r = on-else image m right long some kind o e k b t in
-          ends _ (r .0) k (served-holds image m before right long kind (e .loader) serves o (e .flash) k h b) (not-late (r .1)) (r .2)
+          ends _ (r .0) k (served-holds image m before right long kind (e .loader) serves o (e .flash) k h b)
+          (not-late (r .1)) (r .2)
 
       on-it : eventIn (reply o here) ≡ Event.Ack → At (suc (k + 1)) (exchangeOf image m o here)
       on-it t =
-          let c : (o ≡ Loss.Whole) × (x : Effect) × (loaderTakes (e .loader) (packetAt image m kind k) (e .flash) ≡ given x)
+          let c : (o ≡ Loss.Whole) × (x : Effect)
+          × (loaderTakes (e .loader) (packetAt image m kind k) (e .flash) ≡ given x)
           = acked o (e .loader) _ (e .flash) (serves .condition-is) t in
-          let g = acked-holds image m before right long kind (e .loader) serves o (e .flash) k h bytes b (c .1) (c .2) in
+          let g = acked-holds image m before right long kind (e .loader) serves o (e .flash) k h bytes b
+          (c .1) (c .2) in
           let x = served image m kind o e k in
           decide (ltb (k + 1) (total m))
           (λ d. let n = ltb-true (k + 1) (total m) d in
           stands x (k + 1) (omega arith) n
-          (served-loader image m before right long kind (e .loader) serves o (e .flash) k h (omega arith) (out-after m long k b) ∙ s) g
+          (served-loader image m before right long kind (e .loader) serves o (e .flash) k h (omega arith)
+          (out-after m long k b) ∙ s) g
           (on-ack image m right long some kind o e k b n t))
           (λ d. let n : k + 1 ≡ total m = omega (arith, ltb-false (k + 1) (total m) d) in
-          ends x Outcome.Valid (total m) (subst (λ (j : ℕ). Holds image m before j (x .flash)) n g) (λ q. omega arith)
-          (on-last image m right long some kind o e k b n t))
+          ends x Outcome.Valid (total m) (subst (λ (j : ℕ). Holds image m before j (x .flash)) n g)
+          (λ q. omega arith) (on-last image m right long some kind o e k b n t))
 
   -- after any number of exchanges
   pub stage : (losses : ℕ → Loss) (n : ℕ) → At n (loadAt image m kind l losses before n)
@@ -229,7 +242,8 @@ module _ (image m before : List ℕ) (right : length image ≡ flashSize) (long 
   stage losses zero = starts refl refl
   stage losses (suc n) = go (loadAt image m kind l losses before n) (stage losses n)
     where
-      go : (x : Moment) → At n x → At (suc n) (pick (ended (x .session .phase)) x (exchangeOf image m (losses n) x))
+      go : (x : Moment) → At n x
+          → At (suc n) (pick (ended (x .session .phase)) x (exchangeOf image m (losses n) x))
       go x (starts z q) = rw (q, z) (first-stage (losses 0))
       go x (stands e k z b s h q) = rw (q, phase-open m k, z) (next-stage (losses (k + 1)) e k b s h)
       go x (ends e u k h v q) = rw q (ends e u k h v refl)

@@ -1,4 +1,4 @@
--- A worked load: demand 3 is not empty. One byte at 0x0200, a loader from the factory, flash all 0, nothing lost.
+-- A worked load: demand 3 is not empty. One byte at 0x0200, a loader from the factory, flash all 0, no loss.
 use Prim.Native.Nat.{ℕ, _+_, _≤_}
 use mathlib.Core.Bool.{true, false}
 use mathlib.Core.List.{List}
@@ -55,7 +55,8 @@ pub worked : let x = loadAt image map RunKind.Reset factoryOf (λ i. Loss.Whole)
     (Valid (x .session)) × (Stands (x .flash) image 0x200)
 worked =
     let v = valid image map flash (length-replicate {A = ℕ} flashSize 0x12) map-long
-    (omega (arith, rank-below (named map) flashSize 0x200 (omega arith) one-named)) image-bytes RunKind.Reset factoryOf
-    (length-replicate {A = ℕ} flashSize 0x00) (λ i. Loss.Whole) (λ n. refl)
-    (record { unprotected = λ q t. no-group (pageGroupOf q); readable = refl }) (total map + 1) (omega arith) in
+    (omega (arith, rank-below (named map) flashSize 0x200 (omega arith) one-named)) image-bytes
+    RunKind.Reset factoryOf (length-replicate {A = ℕ} flashSize 0x00) (λ i. Loss.Whole) (λ n. refl)
+    (record { unprotected = λ q t. no-group (pageGroupOf q); readable = refl }) (total map + 1)
+    (omega arith) in
     (v .0, v .1 0x200 one-named)

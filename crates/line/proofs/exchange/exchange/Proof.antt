@@ -1,4 +1,4 @@
--- `exchange` meets its contract: what arrives stands at the start of the answer buffer, and the session steps on it.
+-- `exchange` meets its contract: what arrives stands at the start of the buffer, and the session steps on it.
 use Prim.Native.Nat.{_≤_}
 use mathlib.Core.Path.{_≡_, ap, _∙_, sym}
 use native.Mathlib.Omega.{arith}

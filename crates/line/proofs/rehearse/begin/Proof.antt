@@ -42,7 +42,8 @@ drive-requires c κs =
       },
       b .some,
       omega (arith, ap (λ (x : Next). x .len) (b .next-is)),
-      begun-again b (a .loader) _ (c .before .before .before .reset .ensures) (a .flash .now) _ _ (t .start .ensures .1),
+      begun-again b (a .loader) _ (c .before .before .before .reset .ensures) (a .flash .now) _ _
+          (t .start .ensures .1),
     )
 
 same-length : tie.Need-same-length
@@ -53,8 +54,9 @@ returns c =
     let t = c .before .before .before .before .before in
     let s = entry t in
     let a = s .args in
-    start-refused (a .image .now) (a .map .now) (a .kind) (a .loader) (lossAt (a .losses .now)) (a .flash .now)
-    (s .pre .0) (s .pre .1) (ap paperStepped (sym (c .before .why .given .1)) ∙ t .start .ensures .0)
+    start-refused (a .image .now) (a .map .now) (a .kind) (a .loader) (lossAt (a .losses .now))
+    (a .flash .now) (s .pre .0) (s .pre .1)
+    (ap paperStepped (sym (c .before .why .given .1)) ∙ t .start .ensures .0)
 
 same-length-2 : tie.Need-same-length-2
 same-length-2 c = search needs
@@ -77,7 +79,8 @@ returns-2 c =
     (ap paperStepped (sym (n .next .given .1)) ∙ t .start .ensures .0) in
     driven (a .image .now) (a .map .now) (a .kind) (a .loader) (lossAt (a .losses .now)) (a .flash .now)
     (s .pre .0) (s .pre .1) b _ _ _
-    (begun-moment b (a .loader) _ (r .reset .ensures) (a .flash .now) _ _ (t .start .ensures .1)) (d .drive .ensures)
+    (begun-moment b (a .loader) _ (r .reset .ensures) (a .flash .now) _ _ (t .start .ensures .1))
+    (d .drive .ensures)
 
 pub begin-spec : {M : Type 1} → statement M
 begin-spec =

@@ -1,4 +1,4 @@
--- `drive` meets its contract: after i turns the moment after i exchanges stands, and the session ends within total + 1.
+-- `drive` meets its contract: after i turns the moment after i exchanges stands, and i is at most total + 1.
 use Prim.Native.Nat.{_+_, _-_, _≤_}
 use mathlib.Core.Bool.{false}
 use mathlib.Core.Path.{_≡_, refl, sym, ap, _∙_}
@@ -31,14 +31,17 @@ entry c = c .before .before .before .before .before .before .before
 open-yet : (c : tie.Then1 Inv-loop μ-loop) → ended (c .before .before .loop .link .session .phase) ≡ false
 open-yet c = not-true _ (sym (c .before .is-open .ensures) ∙ c .if1 .taken)
 
-early : (c : tie.Then1 Inv-loop μ-loop) → let l = c .before .before in l .loop .i ≤ total (entry l .args .map .now)
+early : (c : tie.Then1 Inv-loop μ-loop)
+    → let l = c .before .before in l .loop .i ≤ total (entry l .args .map .now)
 early c =
     let l = c .before .before in
     let s = entry l in
     let a = s .args in
-    not-past (a .image .now) (a .map .now) (a .flash .now) (s .pre .0 .image-size) (s .pre .0 .map-size) (s .pre .1)
-    (λ k. omega (arith, l .before .before .before .before .before .shared-slice-known2 .given k)) (a .first .session .kind) (a .first .loader)
-    (s .pre .0 .flash-size) (lossAt (a .losses .now)) _ (s .pre .3) (l .loop .i) _ (l .loop .inv .3) (open-yet c)
+    let n = s .pre .0 in
+    not-past (a .image .now) (a .map .now) (a .flash .now) (n .image-size) (n .map-size) (s .pre .1)
+    (λ k. omega (arith, l .before .before .before .before .before .shared-slice-known2 .given k))
+    (a .first .session .kind) (a .first .loader) (n .flash-size) (lossAt (a .losses .now)) _ (s .pre .3)
+    (l .loop .i) _ (l .loop .inv .3) (open-yet c)
 
 loop-holds : tie.Need-loop-holds Inv-loop μ-loop
 unfolding momentAt
@@ -64,7 +67,8 @@ add-i c =
 
 loop-less : tie.Need-loop-less Inv-loop μ-loop
 loop-less c =
-    let n = early (c .before .before .before .before .before .before .before .before .before .before .before) in
+    let t = c .before .before .before .before .before .before .before .before .before .before .before in
+    let n = early t in
     omega arith
 
 loop-again : tie.Need-loop-again Inv-loop μ-loop
@@ -92,8 +96,8 @@ loop-again c =
       ),
       omega arith,
       exchanged (a .image .now) (a .map .now) _ (l .link) (l .flash) (l .packet) f (e .exchange .ensures)
-          ∙ again (a .image .now) (a .map .now) (lossAt (a .losses .now)) _ (l .i) _ _ (l .inv .3) (open-yet t)
-          (e .before .before .before .before .at .ensures),
+          ∙ again (a .image .now) (a .map .now) (lossAt (a .losses .now)) _ (l .i) _ _ (l .inv .3)
+          (open-yet t) (e .before .before .before .before .at .ensures),
     )
 
 same-length : tie.Need-same-length Inv-loop μ-loop
@@ -110,7 +114,8 @@ returns c =
     let a = entry (c .before .before) .args in
     let l = c .before .before .loop in
     let t = not-false _ (sym (c .before .is-open .ensures) ∙ c .if1 .left) in
-    let e = done (a .image .now) (a .map .now) (lossAt (a .losses .now)) _ (l .i) _ (l .inv .3) (l .inv .2) t in (
+    let e = done (a .image .now) (a .map .now) (lossAt (a .losses .now)) _ (l .i) _ (l .inv .3) (l .inv .2)
+    t in (
       sym (ap (λ (x : Moment). x .loader) e),
       sym (ap (λ (x : Moment). x .session) e),
       sym (ap (λ (x : Moment). x .flash) e),
