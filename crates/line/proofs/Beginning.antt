@@ -29,8 +29,8 @@ use Rattle.packet.specs.Packet.{packetMost}
 
 -- what a start that is not refused gives
 pub record Starts (image m : List ℕ) (kind : RunKind) (room : ℕ) (y : Next) : Type 0 where
-  pub image-long : length image ≡ flashSize
-  pub map-long : length m ≡ mapSize
+  pub image-size : length image ≡ flashSize
+  pub map-size : length m ≡ mapSize
   pub some : 0 < namedCount m
   pub next-is : y ≡ record { session = atGreeting m kind; len = 1 }
   pub started-is : started image m room kind
@@ -47,8 +47,8 @@ starting image m kind room y e =
     let c = both-true (eqb (length m) mapSize) _ (b .1) in
     let g = start-given image m room kind r (eqb-false (namedCount m) 0 z) in
     record {
-      image-long = eqb-true (length image) flashSize (b .0);
-      map-long = eqb-true (length m) mapSize (c .0);
+      image-size = eqb-true (length image) flashSize (b .0);
+      map-size = eqb-true (length m) mapSize (c .0);
       some = omega (arith, eqb-false (namedCount m) 0 z);
       next-is = given-one (e ∙ ap measured g);
       started-is = g;

@@ -123,7 +123,8 @@ module _ (image m : List ℕ) (o : Loss) (x : Moment) (oldPacket packet oldAnswe
             (ap (λ (n : Next). n .len) (given-one t))
 
     -- or is as it was, and so is its packet
-    pub keeps : {n : ℕ} (len : ℕ) → refused n ≡ measured said → len ≡ length (x .wire) → Shown (x .session) len
+    pub keeps : {n : ℕ} (len : ℕ) → refused n ≡ measured said → len ≡ length (x .wire)
+        → Shown (x .session) len
     keeps {n} len e w = go (stepped image m o x) refl (e ∙ ap measured said-is)
       where
         go : (a : Answer Sent) → stepped image m o x ≡ a → refused n ≡ measured a → Shown (x .session) len

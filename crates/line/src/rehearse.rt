@@ -104,7 +104,7 @@ fn begin(
     }
 }
 
-// Exchanges until the session has ended. `packet` has the opening byte first; then it and `answer` are scratch.
+// Exchanges until the session has ended. `packet` holds the opening byte; then it and `answer` are scratch.
 fn drive(
     first: Link,
     losses: &[u8],

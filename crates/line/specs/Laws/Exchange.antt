@@ -71,7 +71,7 @@ let-acked l s f e c q =
 abbrev pub packetAt : List ℕ → List ℕ → RunKind → ℕ → List ℕ
 packetAt image m kind k = packetOut image m kind (phaseAt m k)
 
--- the opening byte on its way to the loader
+-- loader and flash when the opening byte has arrived or is lost
 abbrev pub opened : Loss → Loader → List ℕ → Effect
 opened o l f = delivered o (resetOf l) (0x08 ∷ []) f
 
@@ -84,11 +84,11 @@ module _ (image m : List ℕ) (kind : RunKind) where
   abbrev pub standing : Effect → ℕ → Moment
   standing e k = momentWith e (stateAt m kind k) (packetAt image m kind k)
 
-  -- that packet on its way to the loader
+  -- loader and flash when that packet has arrived or is lost
   abbrev pub served : Loss → Effect → ℕ → Effect
   served o e k = delivered o (e .loader) (packetAt image m kind k) (e .flash)
 
-  -- the session has taken what it heard
+  -- the session has taken what it heard, and its next packet is on the wire
   abbrev went : Effect → Session → Moment
   went e s = momentWith e s (packetOut image m kind (s .phase))
 

@@ -236,7 +236,7 @@ module _ (image m before : List ℕ) (right : length image ≡ flashSize) (long 
     serves-at f = record { loader = serving l; flash = f }
 
     -- after k + 1 exchanges k packets are acknowledged
-    pub record Alive (k : ℕ) (x : Moment) : Type 0 where
+    record Alive (k : ℕ) (x : Moment) : Type 0 where
       pub flash : List ℕ
       pub grows : Grows image m k flash
       pub moment-is : x ≡ standing image m kind (serves-at flash) k

@@ -34,8 +34,8 @@ drive-requires c κs =
     let b = starting (a .image .now) (a .map .now) (a .kind) _ _
     (ap paperStepped (sym (n .next .given .1)) ∙ t .start .ensures .0) in (
       record {
-        image-size = b .image-long;
-        map-size = b .map-long;
+        image-size = b .image-size;
+        map-size = b .map-size;
         flash-size = s .pre .0;
         packet-size = t .start .kept .1 .1 .1 .0 ∙ s .pre .1;
         answer-size = s .pre .2;
