@@ -17,83 +17,116 @@ use Rattle.loader.specs.declared.state.Loader.{Loader}
 use Rattle.session.specs.Events.{classifyOf}
 use Rattle.session.specs.Session.{Sent, measured, sentBytes, stepOf}
 use Rattle.session.specs.declared.session.Next.{Next}
+use Rattle.session.specs.declared.session.Session.{Session}
 use Rattle.packet.specs.Packet.{packetMost}
 
 pub lost : {o : Loss} {l : Loader} {s f old : List ℕ} → o ≡ Loss.Lost → Delivers o l s f old l 0 f old
 lost e = rw e (record { loader-is = refl; flash-is = refl; arrived-is = refl; answer-is = refl })
 
-module _ (o : Loss) (l : Loader) (s f old : List ℕ) (room : ℕ) {v : Answer (Unit {0})} {next : Loader} {answered : ℕ} {flash answer : List ℕ} (full : room ≡ answerMost) (t : Takes (takeOf pages l s f room) l f old v next answered flash answer) where
+module _ (o : Loss) (l : Loader) (s f old : List ℕ) (room : ℕ)
+    {v : Answer (Unit {0})} {next : Loader} {answered : ℕ} {flash answer : List ℕ} (full : room ≡ answerMost)
+    (t : Takes (takeOf pages l s f room) l f old v next answered flash answer) where
   at-full : Takes (loaderTakes l s f) l f old v next answered flash answer
   at-full = subst (λ (n : ℕ). Takes (takeOf pages l s f n) l f old v next answered flash answer) full t
 
   pub whole : o ≡ Loss.Whole → Delivers o l s f old next answered flash answer
-  whole e = rw e (record { loader-is = at-full .does-is .loader-is; flash-is = at-full .does-is .flash-is; arrived-is = at-full .answered-is; answer-is = at-full .answer-is })
+  whole e =
+      rw e
+      (record {
+        loader-is = at-full .does-is .loader-is;
+        flash-is = at-full .does-is .flash-is;
+        arrived-is = at-full .answered-is;
+        answer-is = at-full .answer-is;
+      })
 
   pub unanswered : o ≡ Loss.Unanswered → Delivers o l s f old next 0 flash answer
-  unanswered e = rw e (record { loader-is = at-full .does-is .loader-is; flash-is = at-full .does-is .flash-is; arrived-is = refl; answer-is = at-full .answer-is })
+  unanswered e =
+      rw e
+      (record {
+        loader-is = at-full .does-is .loader-is;
+        flash-is = at-full .does-is .flash-is;
+        arrived-is = refl;
+        answer-is = at-full .answer-is;
+      })
+
+-- the bytes stand at the start of the buffer
+abbrev pub Begins : List ℕ → List ℕ → Type 0
+Begins w b = (length w ≤ length b) × (take (length w) b ≡ w)
+
+pub overlay-begins : (w old : List ℕ) → Begins w (overlay w old)
+overlay-begins w old = (simp length-append (omega arith), take-append-seam w _)
 
 -- what arrives stands at the start of the answer buffer
-prefix : (o : Loss) (l : Loader) (s f old : List ℕ) → (length (arrives o l s f) ≤ length (overlay (sends o l s f) old)) × (take (length (arrives o l s f)) (overlay (sends o l s f) old) ≡ arrives o l s f)
-prefix Loss.Whole l s f old = (simp length-append (omega arith), take-append-seam _ _)
-prefix Loss.Lost l s f old = (omega arith, refl)
-prefix Loss.Unanswered l s f old = (omega arith, refl)
+arrival : (o : Loss) (l : Loader) (s f old : List ℕ) → Begins (arrives o l s f) (overlay (sends o l s f) old)
+arrival Loss.Whole l s f old = overlay-begins (arrives Loss.Whole l s f) old
+arrival Loss.Lost l s f old = (omega arith, refl)
+arrival Loss.Unanswered l s f old = (omega arith, refl)
 
-module _ {o : Loss} {l next : Loader} {s f old flash answer : List ℕ} {arrived : ℕ} (d : Delivers o l s f old next arrived flash answer) where
+module _ {o : Loss} {l next : Loader} {s f old flash answer : List ℕ} {arrived : ℕ}
+    (d : Delivers o l s f old next arrived flash answer) where
   pub arrived-fits : arrived ≤ length answer
-  arrived-fits = rw (d .arrived-is, d .answer-is) (prefix o l s f old .0)
+  arrived-fits = rw (d .arrived-is, d .answer-is) (arrival o l s f old .0)
 
-  pub arrived-bytes : take arrived answer ≡ arrives o l s f
-  arrived-bytes = rw (d .arrived-is, d .answer-is) (prefix o l s f old .1)
+  arrived-bytes : take arrived answer ≡ arrives o l s f
+  arrived-bytes = rw (d .arrived-is, d .answer-is) (arrival o l s f old .1)
 
-module _ (image m : List ℕ) (o : Loss) (x : Moment) (oldPacket packet oldAnswer answer flash : List ℕ) (room arrived : ℕ) (next : Loader) (full : room ≡ packetMost)
+-- the session's step changes neither loader nor flash
+steps-kept : (y : Moment) (a : Answer Sent)
+    → (stepsOn y a .loader ≡ y .loader) × (stepsOn y a .flash ≡ y .flash)
+steps-kept y (refused n) = (refl, refl)
+steps-kept y (given s) = (refl, refl)
+
+module _ (image m : List ℕ) (o : Loss) (x : Moment) (oldPacket packet oldAnswer answer flash : List ℕ)
+    (room arrived : ℕ) (next : Loader) (full : room ≡ packetMost)
     (d : Delivers o (x .loader) (x .wire) (x .flash) oldAnswer next arrived flash answer) where
+  abbrev saying : ℕ → ℕ → List ℕ → Answer Sent
+  saying space n b = stepOf image m space (x .session) (classifyOf (eqb n 0) b)
+
   abbrev said : Answer Sent
-  said = stepOf image m room (x .session) (classifyOf (eqb arrived 0) (take arrived answer))
+  said = saying room arrived (take arrived answer)
 
   said-is : said ≡ stepped image m o x
   said-is =
-      ap (λ (n : ℕ). stepOf image m n (x .session) (classifyOf (eqb arrived 0) (take arrived answer))) full
-      ∙ ap (λ (n : ℕ). stepOf image m packetMost (x .session) (classifyOf (eqb n 0) (take arrived answer))) (d .arrived-is)
-      ∙ ap (λ (b : List ℕ). stepOf image m packetMost (x .session) (classifyOf (eqb (length (reply o x)) 0) b)) (arrived-bytes d)
+      ap (λ (n : ℕ). saying n arrived (take arrived answer)) full
+      ∙ ap (λ (n : ℕ). saying packetMost n (take arrived answer)) (d .arrived-is)
+      ∙ ap (saying packetMost (length (reply o x))) (arrived-bytes d)
+
+  abbrev Shown : Session → ℕ → Type 0
+  Shown s len =
+      Exchanges image m o x oldPacket oldAnswer (record { loader = next; session = s; len = len })
+      flash packet answer
 
   module _ (p : packet ≡ overlay (sentBytes said) oldPacket) where
-    packet-as : packet ≡ overlay (sentBytes (stepped image m o x)) oldPacket
-    packet-as = p ∙ ap (λ (a : Answer Sent). overlay (sentBytes a) oldPacket) said-is
+    -- what the session and its packet are then is what an exchange shows
+    shows : (a : Answer Sent) → stepped image m o x ≡ a → (s : Session) (len : ℕ)
+        → s ≡ stepsOn (between o x) a .session → len ≡ length (stepsOn (between o x) a .wire) → Shown s len
+    unfolding exchangeOf
+    shows a q s len es el =
+        let k = steps-kept (between o x) (stepped image m o x) in
+        record {
+          loader-is = d .loader-is ∙ sym (k .0);
+          session-is = es ∙ sym (ap (λ (b : Answer Sent). stepsOn (between o x) b .session) q);
+          len-is = el ∙ sym (ap (λ (b : Answer Sent). length (stepsOn (between o x) b .wire)) q);
+          flash-is = d .flash-is ∙ sym (k .1);
+          packet-is = p ∙ ap (λ (b : Answer Sent). overlay (sentBytes b) oldPacket) said-is;
+          answer-is = d .answer-is;
+        }
 
     -- the session goes on
-    pub goes : (y : Next) → given y ≡ measured said → Exchanges image m o x oldPacket oldAnswer (record { loader = next; session = y .session; len = y .len }) flash packet answer
-    unfolding exchangeOf
-    goes y e =
-        let s = sent-as (stepped image m o x) (e ∙ ap measured said-is) in
-        let q = s .1 in
-        record {
-          loader-is = d .loader-is ∙ sym (ap (λ (a : Answer Sent). stepsOn (between o x) a .loader) q);
-          session-is = ap (λ (n : Next). n .session) (s .2) ∙ sym (ap (λ (a : Answer Sent). stepsOn (between o x) a .session) q);
-          len-is = ap (λ (n : Next). n .len) (s .2) ∙ sym (ap (λ (a : Answer Sent). length (stepsOn (between o x) a .wire)) q);
-          flash-is = d .flash-is ∙ sym (ap (λ (a : Answer Sent). stepsOn (between o x) a .flash) q);
-          packet-is = packet-as;
-          answer-is = d .answer-is;
-        }
+    pub goes : (y : Next) → given y ≡ measured said → Shown (y .session) (y .len)
+    goes y e = go (stepped image m o x) refl (e ∙ ap measured said-is)
       where
-        sent-as : (a : Answer Sent) → given y ≡ measured a → (s : Sent) × (a ≡ given s) × (y ≡ record { session = s .session; len = length (s .packet) })
-        sent-as (refused n) e = absurd (apart (sym e))
-        sent-as (given s) e = (s, refl, given-one e)
+        go : (a : Answer Sent) → stepped image m o x ≡ a → given y ≡ measured a → Shown (y .session) (y .len)
+        go (refused n) q t = absurd (apart (sym t))
+        go (given s) q t =
+            shows (given s) q (y .session) (y .len) (ap (λ (n : Next). n .session) (given-one t))
+            (ap (λ (n : Next). n .len) (given-one t))
 
     -- or is as it was, and so is its packet
-    pub keeps : {n : ℕ} (len : ℕ) → refused n ≡ measured said → len ≡ length (x .wire) → Exchanges image m o x oldPacket oldAnswer (record { loader = next; session = x .session; len = len }) flash packet answer
-    unfolding exchangeOf
-    keeps {n} len e w =
-        let s = kept-as (stepped image m o x) (e ∙ ap measured said-is) in
-        let q = s .1 in
-        record {
-          loader-is = d .loader-is ∙ sym (ap (λ (a : Answer Sent). stepsOn (between o x) a .loader) q);
-          session-is = sym (ap (λ (a : Answer Sent). stepsOn (between o x) a .session) q);
-          len-is = w ∙ sym (ap (λ (a : Answer Sent). length (stepsOn (between o x) a .wire)) q);
-          flash-is = d .flash-is ∙ sym (ap (λ (a : Answer Sent). stepsOn (between o x) a .flash) q);
-          packet-is = packet-as;
-          answer-is = d .answer-is;
-        }
+    pub keeps : {n : ℕ} (len : ℕ) → refused n ≡ measured said → len ≡ length (x .wire)
+        → Shown (x .session) len
+    keeps {n} len e w = go (stepped image m o x) refl (e ∙ ap measured said-is)
       where
-        kept-as : (a : Answer Sent) → refused n ≡ measured a → (k : ℕ) × (a ≡ refused k)
-        kept-as (refused k) e = (k, refl)
-        kept-as (given s) e = absurd (apart e)
+        go : (a : Answer Sent) → stepped image m o x ≡ a → refused n ≡ measured a → Shown (x .session) len
+        go (refused k) q t = shows (refused k) q (x .session) len refl w
+        go (given s) q t = absurd (apart t)

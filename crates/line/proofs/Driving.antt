@@ -1,18 +1,18 @@
--- One turn of a load: an exchange leads from the moment after i exchanges to the one after i + 1, and the load ends.
+-- One turn of a load: an exchange leads from the moment after i exchanges to that after i + 1; the load ends.
 use Prim.Native.Nat.{ℕ, _+_, _≤_, _<_}
-use mathlib.Core.Bool.{Bool, true, false}
+use mathlib.Core.Bool.{true, false}
 use mathlib.Core.List.{List}
 use mathlib.Core.Path.{_≡_, sym, ap, _∙_}
 use native.Mathlib.Numerals.{add-one}
 use native.Mathlib.Omega.{arith}
-use lib.ListN.{length, take, length-append}
-use lib.Seq.{take-append-seam, length-take-le}
+use lib.ListN.{length, take}
+use lib.Seq.{length-take-le}
 use Rattle.basis.specs.Board.{flashSize, mapSize}
-use Rattle.basis.specs.Choice.{pick}
 use Rattle.basis.specs.Lists.{Bytes, overlay}
 use Rattle.basis.specs.Refusals.{Answer, refused, given}
-use Rattle.line.specs.Laws.Moments.{going, stays}
-use Rattle.line.specs.Line.{Moment, begun, between, stepped, stepsOn, exchangeOf, momentAt, momentIn, Exchanges}
+use Rattle.line.proofs.Delivering.{Begins, overlay-begins}
+use Rattle.line.specs.Laws.Moments.{going, stays, follows}
+use Rattle.line.specs.Line.{Moment, begun, between, stepped, stepsOn, exchangeOf, momentAt, loadAt, momentIn, Exchanges}
 use Rattle.line.specs.declared.exchange.Link.{Link}
 use Rattle.line.specs.declared.exchange.Loss.{Loss}
 use Rattle.loader.specs.declared.state.Loader.{Loader}
@@ -24,15 +24,19 @@ use Rattle.session.specs.declared.phase.RunKind.{RunKind}
 
 -- ---- what an exchange leaves in the packet buffer is what is on the wire
 
-module _ (image m : List ℕ) (o : Loss) (link : Link) (before old : List ℕ) (fits : link .len ≤ length old) where
+module _ (image m : List ℕ) (o : Loss) (link : Link) (before old : List ℕ)
+    (fits : link .len ≤ length old) where
   abbrev here : Moment
   here = momentIn link before old
 
-  wired : (a : Answer Sent) → (length (stepsOn (between o here) a .wire) ≤ length (overlay (sentBytes a) old)) × (take (length (stepsOn (between o here) a .wire)) (overlay (sentBytes a) old) ≡ stepsOn (between o here) a .wire)
-  wired (refused n) = let e = length-take-le (link .len) old fits in (omega (arith, e), ap (λ (k : ℕ). take k old) e)
-  wired (given s) = (simp length-append (omega arith), take-append-seam (s .packet) _)
+  wired : (a : Answer Sent) → Begins (stepsOn (between o here) a .wire) (overlay (sentBytes a) old)
+  wired (refused n) =
+      let e = length-take-le (link .len) old fits in
+      (omega (arith, e), ap (λ (k : ℕ). take k old) e)
+  wired (given s) = overlay-begins (s .packet) old
 
-  module _ {oldAnswer flash packet answer : List ℕ} {r : Link} (x : Exchanges image m o here old oldAnswer r flash packet answer) where
+  module _ {oldAnswer flash packet answer : List ℕ} {r : Link}
+      (x : Exchanges image m o here old oldAnswer r flash packet answer) where
     pub len-fits : r .len ≤ length packet
     unfolding exchangeOf
     len-fits = rw (x .len-is, x .packet-is) (wired (stepped image m o here) .0)
@@ -42,31 +46,35 @@ module _ (image m : List ℕ) (o : Loss) (link : Link) (before old : List ℕ) (
     wire = rw (x .len-is, x .packet-is) (wired (stepped image m o here) .1)
 
     pub exchanged : momentIn r flash packet ≡ exchangeOf image m o here
-    exchanged = λ i. record { loader = x .loader-is i; flash = x .flash-is i; session = x .session-is i; wire = wire i }
+    exchanged = λ i.
+        record { loader = x .loader-is i; flash = x .flash-is i; session = x .session-is i; wire = wire i }
 
 -- ---- turns
 
-module _ (image m before : List ℕ) (right : length image ≡ flashSize) (long : length m ≡ mapSize) (size : length before ≡ flashSize)
-    (bytes : Bytes image) (some : 0 < namedCount m) (kind : RunKind) (l : Loader) (losses : ℕ → Loss) (start : Moment) (fresh : start ≡ begun m kind l before) where
-  abbrev at : ℕ → Moment
-  at i = momentAt image m losses start i
-
-  since : (i : ℕ) → at i ≡ momentAt image m losses (begun m kind l before) i
-  since i = ap (λ (x : Moment). momentAt image m losses x i) fresh
-
-  pub not-past : (i : ℕ) (x : Moment) → x ≡ at i → ended (x .session .phase) ≡ false → i ≤ total m
-  not-past i x e t = going image m before right long size bytes some kind l losses i (sym (ap (λ (y : Moment). ended (y .session .phase)) (e ∙ since i)) ∙ t)
-
-  pub done : (i : ℕ) (x : Moment) → x ≡ at i → i ≤ total m + 1 → ended (x .session .phase) ≡ true → at (total m + 1) ≡ x
+module _ (image m : List ℕ) (losses : ℕ → Loss) (start : Moment) where
+  pub done : (i : ℕ) (x : Moment) → x ≡ momentAt image m losses start i → i ≤ total m + 1
+      → ended (x .session .phase) ≡ true → momentAt image m losses start (total m + 1) ≡ x
   done i x e b t =
-      since (total m + 1)
-      ∙ stays image m before right long size bytes some kind l losses i (total m + 1) b (sym (ap (λ (y : Moment). ended (y .session .phase)) (e ∙ since i)) ∙ t)
-      ∙ sym (since i) ∙ sym e
+      stays image m losses start i (total m + 1) b
+      (sym (ap (λ (y : Moment). ended (y .session .phase)) e) ∙ t) ∙ sym e
 
-  pub again : (i : ℕ) (x : Moment) (o : Loss) → x ≡ at i → ended (x .session .phase) ≡ false → o ≡ losses i → exchangeOf image m o x ≡ at (i + 1)
-  unfolding momentAt
+  pub again : (i : ℕ) (x : Moment) (o : Loss) → x ≡ momentAt image m losses start i
+      → ended (x .session .phase) ≡ false → o ≡ losses i
+      → exchangeOf image m o x ≡ momentAt image m losses start (i + 1)
   again i x o e t q =
       rw add-one
       (ap (λ (y : Loss). exchangeOf image m y x) q
       ∙ ap (exchangeOf image m (losses i)) e
-      ∙ sym (ap (λ (b : Bool). pick b (at i) (exchangeOf image m (losses i) (at i))) (sym (ap (λ (y : Moment). ended (y .session .phase)) e) ∙ t)))
+      ∙ sym (follows image m losses start i (sym (ap (λ (y : Moment). ended (y .session .phase)) e) ∙ t)))
+
+module _ (image m before : List ℕ) (right : length image ≡ flashSize) (long : length m ≡ mapSize)
+    (some : 0 < namedCount m) (bytes : Bytes image) (kind : RunKind) (l : Loader)
+    (size : length before ≡ flashSize) (losses : ℕ → Loss) where
+  pub not-past : (start : Moment) → start ≡ begun m kind l before → (i : ℕ) (x : Moment)
+      → x ≡ momentAt image m losses start i → ended (x .session .phase) ≡ false → i ≤ total m
+  not-past start fresh i x e t =
+      going image m before right long some bytes kind l size losses i
+      (sym (ap (λ (y : Moment). ended (y .session .phase)) (e ∙ since)) ∙ t)
+    where
+      since : momentAt image m losses start i ≡ loadAt image m kind l losses before i
+      since = ap (λ (y : Moment). momentAt image m losses y i) fresh

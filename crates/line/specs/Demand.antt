@@ -4,9 +4,11 @@ use mathlib.Core.Bool.{true, false}
 use mathlib.Core.List.{List}
 use mathlib.Core.Path.{_≡_}
 use lib.ListN.{getD}
+use Rattle.basis.specs.Bits.{bit}
 use Rattle.basis.specs.Refusals.{given}
-use Rattle.basis.specs.Units.{pageOf}
+use Rattle.basis.specs.Units.{pageOf, pageGroupOf}
 use Rattle.line.specs.Line.{Moment}
+use Rattle.loader.specs.declared.state.Loader.{Loader}
 use Rattle.packet.specs.Packet.{command}
 use Rattle.runs.specs.Map.{named}
 use Rattle.runs.specs.Pages.{touched}
@@ -44,3 +46,8 @@ pub record Safe (image m before : List ℕ) (x : Moment) : Type 0 where
   -- no run packet goes out and no session ends valid until every file byte is proved
   pub run-proved : RunOut x → AllProved m (x .session)
   pub valid-proved : Valid (x .session) → AllProved m (x .session)
+
+-- no touched page lies in a protected group, and reading is not protected
+pub record Free (m : List ℕ) (l : Loader) : Type 0 where
+  pub unprotected : (q : ℕ) → touched m q ≡ true → bit (l .protection .groups) (pageGroupOf q) ≡ false
+  pub readable : l .protection .read ≡ false

@@ -1,3 +1,4 @@
+pub mod Places
 pub mod Exchange
 pub mod Safety
 pub mod Stages

@@ -5,7 +5,7 @@ use mathlib.Core.List.{List, [], _∷_}
 use mathlib.Core.Path.{_≡_}
 use lib.Dec.{eqb}
 use lib.ListN.{length, getD, take}
-use Rattle.basis.specs.Board.{pages, flashSize, answerMost}
+use Rattle.basis.specs.Board.{pages, flashSize, mapSize, answerMost}
 use Rattle.basis.specs.Choice.{pick, both}
 use Rattle.basis.specs.Lists.{overlay}
 use Rattle.basis.specs.Refusals.{Answer, refused, given, _when_, first}
@@ -33,6 +33,10 @@ pub record Moment : Type 0 where
   pub session : Session
   pub wire : List ℕ
 
+-- loader and flash, with a session and what it has sent
+abbrev pub momentWith : Effect → Session → List ℕ → Moment
+momentWith e s w = record { loader = e .loader; flash = e .flash; session = s; wire = w }
+
 -- a freshly reset loader, and a session just started: the opening byte is on the wire
 abbrev pub begun : List ℕ → RunKind → Loader → List ℕ → Moment
 begun m kind l f = record { loader = resetOf l; flash = f; session = atGreeting m kind; wire = 0x08 ∷ [] }
@@ -59,8 +63,7 @@ arrives Loss.Unanswered l s f = []
 
 -- between the loader's step and the session's
 abbrev pub between : Loss → Moment → Moment
-between o x =
-    record { loader = delivered o (x .loader) (x .wire) (x .flash) .loader; flash = delivered o (x .loader) (x .wire) (x .flash) .flash; session = x .session; wire = x .wire }
+between o x = momentWith (delivered o (x .loader) (x .wire) (x .flash)) (x .session) (x .wire)
 
 -- what the session hears: no answer is silence
 abbrev pub reply : Loss → Moment → List ℕ
@@ -84,9 +87,16 @@ exchangeOf image m o x = stepsOn (between o x) (stepped image m o x)
 -- after n exchanges, each with its loss; after the end there are none
 unfoldable pub momentAt : List ℕ → List ℕ → (ℕ → Loss) → Moment → ℕ → Moment
 momentAt image m losses x zero = x
-momentAt image m losses x (suc n) = pick (ended (momentAt image m losses x n .session .phase)) (momentAt image m losses x n) (exchangeOf image m (losses n) (momentAt image m losses x n))
+momentAt image m losses x (suc n) =
+    pick (ended (momentAt image m losses x n .session .phase))
+    (momentAt image m losses x n)
+    (exchangeOf image m (losses n) (momentAt image m losses x n))
 
--- a list of losses, one byte an exchange: 0 is none, 1 the packet, all else the answer; past the list's end nothing is lost
+-- a load: what stands after n exchanges from the start on, with flash as it was `before`
+abbrev pub loadAt : List ℕ → List ℕ → RunKind → Loader → (ℕ → Loss) → List ℕ → ℕ → Moment
+loadAt image m kind l losses before n = momentAt image m losses (begun m kind l before) n
+
+-- a list of losses, one byte an exchange: 0 is none, 1 the packet, all else the answer; past its end none
 abbrev pub lossOf : ℕ → Loss
 lossOf b = pick (eqb b 0) Loss.Whole (pick (eqb b 1) Loss.Lost Loss.Unanswered)
 
@@ -99,21 +109,32 @@ rehearseOf image m kind l losses f =
     first
     (20 when not (both (eqb (length f) flashSize) (rightSizes (length image) (length m) packetMost))
     ∷ 32 when eqb (namedCount m) 0 ∷ [])
-    (given (momentAt image m losses (begun m kind l f) (total m + 1)))
+    (given (loadAt image m kind l losses f (total m + 1)))
 
--- ---- what the functions show
+-- ---- what the functions are lent, and what they show
+
+-- file, flash and both buffers have their sizes
+pub record Lent (image m flash packet answer : List ℕ) : Type 0 where
+  pub image-size : length image ≡ flashSize
+  pub map-size : length m ≡ mapSize
+  pub flash-size : length flash ≡ flashSize
+  pub packet-size : length packet ≡ packetMost
+  pub answer-size : length answer ≡ answerMost
 
 -- loader, session and packet buffer as a moment
 abbrev pub momentIn : Link → List ℕ → List ℕ → Moment
-momentIn e flash packet = record { loader = e .loader; flash = flash; session = e .session; wire = take (e .len) packet }
+momentIn e flash packet =
+    record { loader = e .loader; flash = flash; session = e .session; wire = take (e .len) packet }
 
-pub record Delivers (o : Loss) (l : Loader) (s f old : List ℕ) (next : Loader) (arrived : ℕ) (flash answer : List ℕ) : Type 0 where
+pub record Delivers (o : Loss) (l : Loader) (s f old : List ℕ) (next : Loader) (arrived : ℕ)
+    (flash answer : List ℕ) : Type 0 where
   pub loader-is : next ≡ delivered o l s f .loader
   pub flash-is : flash ≡ delivered o l s f .flash
   pub arrived-is : arrived ≡ length (arrives o l s f)
   pub answer-is : answer ≡ overlay (sends o l s f) old
 
-pub record Exchanges (image m : List ℕ) (o : Loss) (x : Moment) (oldPacket oldAnswer : List ℕ) (r : Link) (flash packet answer : List ℕ) : Type 0 where
+pub record Exchanges (image m : List ℕ) (o : Loss) (x : Moment) (oldPacket oldAnswer : List ℕ) (r : Link)
+    (flash packet answer : List ℕ) : Type 0 where
   pub loader-is : r .loader ≡ exchangeOf image m o x .loader
   pub session-is : r .session ≡ exchangeOf image m o x .session
   pub len-is : r .len ≡ length (exchangeOf image m o x .wire)

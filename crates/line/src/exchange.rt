@@ -2,9 +2,9 @@
 ghost use mathlib.Core.Path.{_≡_};
 ghost use Prim.Native.Nat.{_≤_};
 ghost use lib.ListN.{length};
-ghost use Rattle.basis.specs.Board.{flashSize, mapSize, answerMost};
+ghost use Rattle.basis.specs.Board.{answerMost};
 ghost use Rattle.packet.specs.Packet.{packetMost};
-ghost use Rattle.line.specs.Line.{lossOf, lossAt, momentIn, Delivers, Exchanges};
+ghost use Rattle.line.specs.Line.{lossOf, lossAt, momentIn, Lent, Delivers, Exchanges};
 use loader::state::Loader;
 use loader::take::take;
 use session::session::Session;
@@ -68,8 +68,14 @@ pub fn exchange(
     packet: &mut [u8],
     answer: &mut [u8],
 ) -> Link
-    requires { ⌜ (length (now image) ≡ flashSize) × (length (now map) ≡ mapSize) × (length (now flash) ≡ flashSize) × (length (now packet) ≡ packetMost) × (length (now answer) ≡ answerMost) × (link .len ≤ packetMost) ⌝ }
-    ensures { λ r. ⌜ Exchanges (now (image .entry)) (now (map .entry)) loss (momentIn link (now (flash .entry)) (now (packet .entry))) (now (packet .entry)) (now (answer .entry)) r (now (flash .exit)) (now (packet .exit)) (now (answer .exit)) ⌝ }
+    requires { ⌜
+        (Lent (now image) (now map) (now flash) (now packet) (now answer)) × (link .len ≤ packetMost)
+        ⌝ }
+    ensures { λ r. ⌜
+        (let x = momentIn link (now (flash .entry)) (now (packet .entry)) in
+        Exchanges (now (image .entry)) (now (map .entry)) loss x (now (packet .entry)) (now (answer .entry))
+        r (now (flash .exit)) (now (packet .exit)) (now (answer .exit)))
+        ⌝ }
 {
     let loader = link.loader;
     let session = link.session;
@@ -103,7 +109,10 @@ fn deliver(
     answer: &mut [u8],
 ) -> Delivered
     requires { ⌜ length (now answer) ≡ answerMost ⌝ }
-    ensures { λ r. ⌜ Delivers loss loader (now (packet .entry)) (now (flash .entry)) (now (answer .entry)) (r .loader) (r .arrived) (now (flash .exit)) (now (answer .exit)) ⌝ }
+    ensures { λ r. ⌜
+        Delivers loss loader (now (packet .entry)) (now (flash .entry)) (now (answer .entry))
+        (r .loader) (r .arrived) (now (flash .exit)) (now (answer .exit))
+        ⌝ }
 {
     match loss {
         Loss::Whole => {

@@ -3,9 +3,9 @@ ghost use mathlib.Core.Path.{_≡_};
 ghost use mathlib.Core.Bool.{not};
 ghost use Prim.Native.Nat.{_+_, _<_, _≤_};
 ghost use lib.ListN.{length};
-ghost use Rattle.basis.specs.Board.{flashSize, mapSize, answerMost};
+ghost use Rattle.basis.specs.Board.{flashSize, answerMost};
 ghost use Rattle.packet.specs.Packet.{packetMost};
-ghost use Rattle.line.specs.Line.{begun, momentAt, lossAt, rehearseOf, momentIn, Rehearses};
+ghost use Rattle.line.specs.Line.{begun, momentAt, lossAt, rehearseOf, momentIn, Lent, Rehearses};
 ghost use Rattle.line.specs.Paper.{paperRehearsed};
 ghost use Rattle.runs.specs.Pieces.{namedCount};
 ghost use Rattle.session.specs.Phases.{ended};
@@ -42,7 +42,11 @@ pub fn rehearse(
     map: &[u8],
     flash: &mut [u8],
 ) -> Rehearsed
-    ensures { λ r. ⌜ Rehearses (rehearseOf (now (image .entry)) (now (map .entry)) kind loader (lossAt (now (losses .entry))) (now (flash .entry))) (now (flash .entry)) (paperRehearsed r) (now (flash .exit)) ⌝ }
+    ensures { λ r. ⌜
+        (let x = rehearseOf (now (image .entry)) (now (map .entry)) kind loader (lossAt (now (losses .entry)))
+        (now (flash .entry)) in
+        Rehearses x (now (flash .entry)) (paperRehearsed r) (now (flash .exit)))
+        ⌝ }
 {
     if flash.len() != SIZE {
         return Rehearsed::Refused(Refusal::Size);
@@ -61,6 +65,7 @@ pub fn rehearse(
     )
 }
 
+// Starts the session and drives it. `packet` and `answer` are scratch, so nothing is promised of them.
 fn begin(
     kind: RunKind,
     loader: Loader,
@@ -71,8 +76,16 @@ fn begin(
     packet: &mut [u8],
     answer: &mut [u8],
 ) -> Rehearsed
-    requires { ⌜ (length (now flash) ≡ flashSize) × (length (now packet) ≡ packetMost) × (length (now answer) ≡ answerMost) ⌝ }
-    ensures { λ r. ⌜ Rehearses (rehearseOf (now (image .entry)) (now (map .entry)) kind loader (lossAt (now (losses .entry))) (now (flash .entry))) (now (flash .entry)) (paperRehearsed r) (now (flash .exit)) ⌝ }
+    requires { ⌜
+        (length (now flash) ≡ flashSize)
+        × (length (now packet) ≡ packetMost)
+        × (length (now answer) ≡ answerMost)
+        ⌝ }
+    ensures { λ r. ⌜
+        (let x = rehearseOf (now (image .entry)) (now (map .entry)) kind loader (lossAt (now (losses .entry)))
+        (now (flash .entry)) in
+        Rehearses x (now (flash .entry)) (paperRehearsed r) (now (flash .exit)))
+        ⌝ }
 {
     match Session::start(kind, image, map, packet) {
         Stepped::Refused(why) => Rehearsed::Refused(why),
@@ -91,7 +104,7 @@ fn begin(
     }
 }
 
-// Exchanges until the session has ended.
+// Exchanges until the session has ended. `packet` holds the opening byte; then it and `answer` are scratch.
 fn drive(
     first: Link,
     losses: &[u8],
@@ -101,9 +114,17 @@ fn drive(
     packet: &mut [u8],
     answer: &mut [u8],
 ) -> Link
-    requires { ⌜ (length (now image) ≡ flashSize) × (length (now map) ≡ mapSize) × (length (now flash) ≡ flashSize) × (length (now packet) ≡ packetMost) × (length (now answer) ≡ answerMost) × (0 < namedCount (now map)) × (first .len ≤ packetMost) × (momentIn first (now flash) (now packet) ≡ begun (now map) (first .session .kind) (first .loader) (now flash)) ⌝ }
+    requires { ⌜
+        (Lent (now image) (now map) (now flash) (now packet) (now answer))
+        × (0 < namedCount (now map))
+        × (first .len ≤ packetMost)
+        × (momentIn first (now flash) (now packet)
+        ≡ begun (now map) (first .session .kind) (first .loader) (now flash))
+        ⌝ }
     ensures { λ r. ⌜
-        (let x = momentAt (now (image .entry)) (now (map .entry)) (lossAt (now (losses .entry))) (momentIn first (now (flash .entry)) (now (packet .entry))) (total (now (map .entry)) + 1) in
+        (let start = momentIn first (now (flash .entry)) (now (packet .entry)) in
+        let x = momentAt (now (image .entry)) (now (map .entry)) (lossAt (now (losses .entry))) start
+        (total (now (map .entry)) + 1) in
         (r .loader ≡ x .loader) × (r .session ≡ x .session) × (now (flash .exit) ≡ x .flash))
         ⌝ }
 {

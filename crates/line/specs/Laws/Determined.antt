@@ -13,7 +13,12 @@ rehearsed-one : (r s : Rehearsed) → paperRehearsed r ≡ paperRehearsed s → 
 rehearsed-one (Rehearsed.Ended x) (Rehearsed.Ended y) e = ap Rehearsed.Ended (given-one e)
 rehearsed-one (Rehearsed.Ended x) (Rehearsed.Refused y) e = absurd (apart (sym e))
 rehearsed-one (Rehearsed.Refused x) (Rehearsed.Ended y) e = absurd (apart e)
-rehearsed-one (Rehearsed.Refused x) (Rehearsed.Refused y) e = ap Rehearsed.Refused (refusal-one x y (refused-one e))
+rehearsed-one (Rehearsed.Refused x) (Rehearsed.Refused y) e =
+    ap Rehearsed.Refused (refusal-one x y (refused-one e))
 
-pub rehearse-determined : (a : Answer Moment) (before : List ℕ) (r s : Rehearsed) (f g : List ℕ) → Rehearses a before (paperRehearsed r) f → Rehearses a before (paperRehearsed s) g → (r ≡ s) × (f ≡ g)
-rehearse-determined a before r s f g p q = (determined paperRehearsed rehearsed-one r s (p .result-is) (q .result-is), p .flash-is ∙ sym (q .flash-is))
+pub rehearse-determined : (a : Answer Moment) (before : List ℕ) (r s : Rehearsed) (f g : List ℕ)
+    → Rehearses a before (paperRehearsed r) f → Rehearses a before (paperRehearsed s) g → (r ≡ s) × (f ≡ g)
+rehearse-determined a before r s f g p q = (
+  determined paperRehearsed rehearsed-one r s (p .result-is) (q .result-is),
+  p .flash-is ∙ sym (q .flash-is),
+)

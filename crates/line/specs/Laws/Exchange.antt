@@ -9,7 +9,7 @@ use Rattle.basis.specs.Board.{flashSize, mapSize, greeting}
 use Rattle.basis.specs.Choice.{pick}
 use Rattle.basis.specs.Laws.Choice.{true-false}
 use Rattle.basis.specs.Refusals.{Answer, refused, given, bare}
-use Rattle.line.specs.Line.{Moment, begun, loaderTakes, delivered, arrives, reply, eventIn, stepsOn, between, exchangeOf}
+use Rattle.line.specs.Line.{Moment, momentWith, begun, loaderTakes, delivered, arrives, reply, eventIn, stepsOn, between, exchangeOf}
 use Rattle.line.specs.declared.exchange.Loss.{Loss}
 use Rattle.loader.specs.Commands.{Effect}
 use Rattle.loader.specs.State.{resetOf}
@@ -45,66 +45,117 @@ refusal-heard n = go (quiet n)
     go false = ap isAck bel-heard
 
 -- an ACK comes from a loader that has let the packet through, and nothing was lost
-pub acked : (o : Loss) (l : Loader) (s f : List ℕ) → l .condition ≡ Serving → eventIn (arrives o l s f) ≡ Event.Ack → (o ≡ Loss.Whole) × (e : Effect) × (loaderTakes l s f ≡ given e)
-acked Loss.Whole l s f c h = go (loaderTakes l s f) refl (sym (ap isAck (sym (ap (λ (w : Bool). eventIn (tellOf w (bare (loaderTakes l s f)))) (ap waiting c)) ∙ h)))
+pub acked : (o : Loss) (l : Loader) (s f : List ℕ) → l .condition ≡ Serving
+    → eventIn (arrives o l s f) ≡ Event.Ack → (o ≡ Loss.Whole) × (e : Effect) × (loaderTakes l s f ≡ given e)
+acked Loss.Whole l s f c h =
+    let w = ap (λ (w : Bool). eventIn (tellOf w (bare (loaderTakes l s f)))) (ap waiting c) in
+    go (loaderTakes l s f) refl (sym (ap isAck (sym w ∙ h)))
   where
-    go : (x : Answer Effect) → loaderTakes l s f ≡ x → true ≡ isAck (eventIn (tellOf false (bare x))) → (Loss.Whole ≡ Loss.Whole) × (e : Effect) × (loaderTakes l s f ≡ given e)
+    go : (x : Answer Effect) → loaderTakes l s f ≡ x → true ≡ isAck (eventIn (tellOf false (bare x)))
+        → (Loss.Whole ≡ Loss.Whole) × (e : Effect) × (loaderTakes l s f ≡ given e)
     go (refused n) e t = absurd (true-false (t ∙ refusal-heard n))
     go (given y) e t = (refl, y, e)
 acked Loss.Lost l s f c h = absurd (true-false (sym (ap isAck (sym (silence-heard []) ∙ h))))
 acked Loss.Unanswered l s f c h = absurd (true-false (sym (ap isAck (sym (silence-heard []) ∙ h))))
 
 -- and what it lets through it acknowledges
-pub let-acked : (l : Loader) (s f : List ℕ) (e : Effect) → l .condition ≡ Serving → loaderTakes l s f ≡ given e → eventIn (arrives Loss.Whole l s f) ≡ Event.Ack
-let-acked l s f e c q = ap (λ (x : Answer Effect). eventIn (answerBytes l x)) q ∙ ap (λ (w : Bool). eventIn (pick w greeting (0x06 ∷ []))) (ap waiting c) ∙ ack-heard
+pub let-acked : (l : Loader) (s f : List ℕ) (e : Effect) → l .condition ≡ Serving
+    → loaderTakes l s f ≡ given e → eventIn (arrives Loss.Whole l s f) ≡ Event.Ack
+let-acked l s f e c q =
+    ap (λ (x : Answer Effect). eventIn (answerBytes l x)) q
+    ∙ ap (λ (w : Bool). eventIn (pick w greeting (0x06 ∷ []))) (ap waiting c) ∙ ack-heard
 
 -- ---- where the session stands then
 
-module _ (image m : List ℕ) (right : length image ≡ flashSize) (long : length m ≡ mapSize) (some : 0 < namedCount m) (kind : RunKind) where
+-- the packet that is out after k acknowledgements
+abbrev pub packetAt : List ℕ → List ℕ → RunKind → ℕ → List ℕ
+packetAt image m kind k = packetOut image m kind (phaseAt m k)
+
+-- loader and flash when the opening byte has arrived or is lost
+abbrev pub opened : Loss → Loader → List ℕ → Effect
+opened o l f = delivered o (resetOf l) (0x08 ∷ []) f
+
+-- the session has ended
+abbrev pub over : List ℕ → RunKind → Effect → Outcome → ℕ → Moment
+over m kind e u k = momentWith e (sessionIn m kind (Phase.Ended u) k) []
+
+module _ (image m : List ℕ) (kind : RunKind) where
+  -- k packets are acknowledged and the next is on the wire
+  abbrev pub standing : Effect → ℕ → Moment
+  standing e k = momentWith e (stateAt m kind k) (packetAt image m kind k)
+
+  -- loader and flash when that packet has arrived or is lost
+  abbrev pub served : Loss → Effect → ℕ → Effect
+  served o e k = delivered o (e .loader) (packetAt image m kind k) (e .flash)
+
+  -- the session has taken what it heard, and its next packet is on the wire
+  abbrev went : Effect → Session → Moment
+  went e s = momentWith e s (packetOut image m kind (s .phase))
+
+module _ (image m : List ℕ) (right : length image ≡ flashSize) (long : length m ≡ mapSize)
+    (some : 0 < namedCount m) (kind : RunKind) where
   right-sizes : rightSizes (length image) (length m) packetMost ≡ true
   right-sizes = rw (eq-eqb _ _ right, eq-eqb _ _ long)
 
-  -- k packets are acknowledged and the next is on the wire; or the session has ended
-  abbrev pub standing : Effect → ℕ → Moment
-  standing e k = record { loader = e .loader; flash = e .flash; session = stateAt m kind k; wire = packetOut image m kind (phaseAt m k) }
-
-  abbrev pub over : Effect → Outcome → ℕ → Moment
-  over e o k = record { loader = e .loader; flash = e .flash; session = sessionIn m kind (Phase.Ended o) k; wire = [] }
-
-  -- the session takes what it hears
-  abbrev pub went : Effect → Session → Moment
-  went e s = record { loader = e .loader; flash = e .flash; session = s; wire = packetOut image m kind (s .phase) }
-
+  -- a packet
   module _ (o : Loss) (e : Effect) (k : ℕ) (l : k < total m) where
-    abbrev pub served : Effect
-    served = delivered o (e .loader) (packetOut image m kind (phaseAt m k)) (e .flash)
+    abbrev here : Moment
+    here = standing image m kind e k
 
-    pub taken : exchangeOf image m o (standing e k) ≡ went served (tookOf m (stateAt m kind k) (eventIn (reply o (standing e k))))
+    abbrev heard : Event
+    heard = eventIn (reply o here)
+
+    abbrev next : Session → Moment
+    next = went image m kind (served image m kind o e k)
+
+    pub taken : exchangeOf image m o here ≡ next (tookOf m (stateAt m kind k) heard)
     unfolding exchangeOf
-    taken = ap (stepsOn (between o (standing e k))) (step-state image m packetMost kind right-sizes long some k (eventIn (reply o (standing e k))) l)
+    taken = ap (stepsOn (between o here)) (step-state image m packetMost kind right-sizes long some k heard l)
 
-    pub on-ack : k + 1 < total m → eventIn (reply o (standing e k)) ≡ Event.Ack → exchangeOf image m o (standing e k) ≡ standing served (k + 1)
-    on-ack n h = taken ∙ ap (λ (v : Event). went served (tookOf m (stateAt m kind k) v)) h ∙ ap (went served) (ack-next m long some kind k n)
+    pub on-ack : k + 1 < total m → heard ≡ Event.Ack
+        → exchangeOf image m o here ≡ standing image m kind (served image m kind o e k) (k + 1)
+    on-ack n h =
+        taken ∙ ap (λ (v : Event). next (tookOf m (stateAt m kind k) v)) h
+        ∙ ap next (ack-next m long some kind k n)
 
-    pub on-last : k + 1 ≡ total m → eventIn (reply o (standing e k)) ≡ Event.Ack → exchangeOf image m o (standing e k) ≡ over served Outcome.Valid (total m)
-    on-last n h = taken ∙ ap (λ (v : Event). went served (tookOf m (stateAt m kind k) v)) h ∙ ap (went served) (ack-last m long some kind k n)
+    pub on-last : k + 1 ≡ total m → heard ≡ Event.Ack
+        → exchangeOf image m o here ≡ over m kind (served image m kind o e k) Outcome.Valid (total m)
+    on-last n h =
+        taken ∙ ap (λ (v : Event). next (tookOf m (stateAt m kind k) v)) h
+        ∙ ap next (ack-last m long some kind k n)
 
-    pub on-else : isAck (eventIn (reply o (standing e k))) ≡ false → (u : Outcome) × (failing u k ≡ true) × (exchangeOf image m o (standing e k) ≡ over served u k)
-    on-else h = let f = not-ack m long some kind k (eventIn (reply o (standing e k))) h l in (f .0, f .1, taken ∙ ap (went served) (f .2))
+    pub on-else : isAck heard ≡ false
+        → (u : Outcome) × (failing u k ≡ true)
+        × (exchangeOf image m o here ≡ over m kind (served image m kind o e k) u k)
+    on-else h = let f = not-ack m long some kind k heard h l in (f .0, f .1, taken ∙ ap next (f .2))
 
   -- the opening byte
   module _ (o : Loss) (l : Loader) (f : List ℕ) where
-    abbrev pub opened : Effect
-    opened = delivered o (resetOf l) (0x08 ∷ []) f
+    abbrev start : Moment
+    start = begun m kind l f
 
-    pub taken-first : exchangeOf image m o (begun m kind l f) ≡ went opened (tookOf m (atGreeting m kind) (eventIn (reply o (begun m kind l f))))
+    abbrev first-heard : Event
+    first-heard = eventIn (reply o start)
+
+    abbrev first-next : Session → Moment
+    first-next = went image m kind (opened o l f)
+
+    pub taken-first : exchangeOf image m o start ≡ first-next (tookOf m (atGreeting m kind) first-heard)
     unfolding exchangeOf
     taken-first =
-        ap (stepsOn (between o (begun m kind l f)))
-        (step-taken image m packetMost (atGreeting m kind) (eventIn (reply o (begun m kind l f))) right-sizes refl (waiting-fits m long some kind))
+        ap (stepsOn (between o start))
+        (step-taken image m packetMost (atGreeting m kind) first-heard right-sizes refl
+        (waiting-fits m long some kind))
 
-    pub on-greeting : eventIn (reply o (begun m kind l f)) ≡ Event.Greeting → exchangeOf image m o (begun m kind l f) ≡ standing opened 0
-    on-greeting h = taken-first ∙ ap (λ (v : Event). went opened (tookOf m (atGreeting m kind) v)) h ∙ ap (went opened) (greeting-state m long some kind)
+    pub on-greeting : first-heard ≡ Event.Greeting
+        → exchangeOf image m o start ≡ standing image m kind (opened o l f) 0
+    on-greeting h =
+        taken-first
+        ∙ ap (λ (v : Event). first-next (tookOf m (atGreeting m kind) v)) h
+        ∙ ap first-next (greeting-state m long some kind)
 
-    pub on-silence : eventIn (reply o (begun m kind l f)) ≡ Event.Silence → (u : Outcome) × (failing u 0 ≡ true) × (exchangeOf image m o (begun m kind l f) ≡ over opened u 0)
-    on-silence h = let g = not-greeting m long some kind (eventIn (reply o (begun m kind l f))) (ap isGreeting h) in (g .0, g .1, taken-first ∙ ap (went opened) (g .2))
+    pub on-silence : first-heard ≡ Event.Silence
+        → (u : Outcome) × (failing u 0 ≡ true) × (exchangeOf image m o start ≡ over m kind (opened o l f) u 0)
+    on-silence h =
+        let g = not-greeting m long some kind first-heard (ap isGreeting h) in
+        (g .0, g .1, taken-first ∙ ap first-next (g .2))

@@ -2,7 +2,7 @@
 use Prim.Native.Nat.{ℕ, _+_, _<_}
 use mathlib.Core.Bool.{true, false}
 use mathlib.Core.List.{List}
-use mathlib.Core.Path.{_≡_, refl, sym, ap, _∙_}
+use mathlib.Core.Path.{_≡_, refl, sym, ap, subst, _∙_}
 use native.Mathlib.Omega.{arith}
 use borrow.Author.Tests.{eqb-true, eqb-false, not-false}
 use lib.Dec.{eqb}
@@ -13,9 +13,9 @@ use Rattle.basis.specs.Laws.Refusals.{passed, done, apart, given-one}
 use Rattle.basis.specs.Lists.{Bytes}
 use Rattle.basis.specs.Refusals.{Answer, refused, given}
 use Rattle.basis.specs.Units.{pageOf}
-use Rattle.line.specs.Demand.{Stands, Valid}
+use Rattle.line.specs.Demand.{Stands, Valid, Safe}
 use Rattle.line.specs.Laws.Demand.{safe, finite}
-use Rattle.line.specs.Line.{Moment, begun, momentAt, rehearseOf, loaded, leftFlash, Rehearses}
+use Rattle.line.specs.Line.{Moment, loadAt, rehearseOf, loaded, leftFlash, Rehearses}
 use Rattle.line.specs.declared.exchange.Loss.{Loss}
 use Rattle.line.specs.declared.rehearse.Load.{Load}
 use Rattle.loader.specs.declared.state.Loader.{Loader}
@@ -33,11 +33,11 @@ module _ (image m : List ℕ) (kind : RunKind) (l : Loader) (losses : ℕ → Lo
 
   -- a rehearsal that is not refused has what demand 3 asks for
   record Given (x : Moment) : Type 0 where
-    pub right : length image ≡ flashSize
-    pub long : length m ≡ mapSize
-    pub size : length before ≡ flashSize
+    pub image-size : length image ≡ flashSize
+    pub map-size : length m ≡ mapSize
+    pub flash-size : length before ≡ flashSize
     pub some : 0 < namedCount m
-    pub moment-is : x ≡ momentAt image m losses (begun m kind l before) (total m + 1)
+    pub moment-is : x ≡ loadAt image m kind l losses before (total m + 1)
 
   given-is : (x : Moment) → whole ≡ given x → Given x
   unfolding rehearseOf
@@ -48,12 +48,24 @@ module _ (image m : List ℕ) (kind : RunKind) (l : Loader) (losses : ℕ → Lo
       let c = both-true (eqb (length image) flashSize) _ (b .1) in
       let d = both-true (eqb (length m) mapSize) _ (c .1) in
       record {
-        right = eqb-true (length image) flashSize (c .0);
-        long = eqb-true (length m) mapSize (d .0);
-        size = eqb-true (length before) flashSize (b .0);
+        image-size = eqb-true (length image) flashSize (c .0);
+        map-size = eqb-true (length m) mapSize (d .0);
+        flash-size = eqb-true (length before) flashSize (b .0);
         some = omega (arith, eqb-false (namedCount m) 0 (q .0));
         moment-is = given-one (sym (q .1) ∙ done _);
       }
+
+  module _ (bytes : Bytes image) (x : Moment) (g : Given x) where
+    given-safe : Safe image m before x
+    given-safe =
+        subst (Safe image m before) (sym (g .moment-is))
+        (safe image m before (g .image-size) (g .map-size) (g .some) bytes kind l (g .flash-size) losses
+        (total m + 1))
+
+    given-ended : ended (x .session .phase) ≡ true
+    given-ended =
+        ap (λ (y : Moment). ended (y .session .phase)) (g .moment-is)
+        ∙ finite image m before (g .image-size) (g .map-size) (g .some) bytes kind l (g .flash-size) losses
 
   module _ (bytes : Bytes image) (r : Answer Load) (flash : List ℕ) (h : Rehearses whole before r flash) where
     -- whatever the verdict, flash differs from before only in touched pages
@@ -63,32 +75,30 @@ module _ (image m : List ℕ) (kind : RunKind) (l : Loader) (losses : ℕ → Lo
         go : (w : Answer Moment) → whole ≡ w → flash ≡ leftFlash before w → Stands flash before a
         go (refused n) e f = ap (λ (s : List ℕ). getD s a 0) f
         go (given x) e f =
-            let g = given-is x e in
-            ap (λ (s : List ℕ). getD s a 0) (f ∙ ap (λ (y : Moment). y .flash) (g .moment-is))
-            ∙ safe image m before (g .right) (g .long) (g .size) bytes (g .some) kind l losses (total m + 1) .untouched-stays a t
+            ap (λ (s : List ℕ). getD s a 0) f ∙ given-safe bytes x (given-is x e) .untouched-stays a t
 
     module _ (y : Load) (v : r ≡ given y) where
-      outcome : (x : Moment) × (Given x) × (flash ≡ x .flash) × (y .session ≡ x .session)
-      outcome = go whole refl (sym v ∙ h .result-is) (h .flash-is)
+      -- the last moment, and what the rehearsal shows of it
+      abbrev Last : Type 0
+      Last = (x : Moment) × (Given x) × (flash ≡ x .flash) × (y .session ≡ x .session)
+
+      last-moment : Last
+      last-moment = go whole refl (sym v ∙ h .result-is) (h .flash-is)
         where
-          go : (w : Answer Moment) → whole ≡ w → given y ≡ loaded w → flash ≡ leftFlash before w → (x : Moment) × (Given x) × (flash ≡ x .flash) × (y .session ≡ x .session)
+          go : (w : Answer Moment) → whole ≡ w → given y ≡ loaded w → flash ≡ leftFlash before w → Last
           go (refused n) e s f = absurd (apart (sym s))
           go (given x) e s f = (x, given-is x e, f, ap (λ (z : Load). z .session) (given-one s))
 
       -- it has ended
       pub rehearsal-ends : ended (y .session .phase) ≡ true
       rehearsal-ends =
-          let o = outcome in
-          let g = o .1 in
-          ap (λ (s : Session). ended (s .phase)) (o .3 ∙ ap (λ (x : Moment). x .session) (g .moment-is))
-          ∙ finite image m before (g .right) (g .long) (g .size) bytes (g .some) kind l losses
+          let o = last-moment in
+          ap (λ (s : Session). ended (s .phase)) (o .3) ∙ given-ended bytes (o .0) (o .1)
 
       -- and where it says valid, every named byte of flash is as in the file
       pub valid-stands : Valid (y .session) → (a : ℕ) → named m a ≡ true → Stands flash image a
       valid-stands t a n =
-          let o = outcome in
-          let g = o .1 in
-          let s = safe image m before (g .right) (g .long) (g .size) bytes (g .some) kind l losses (total m + 1) in
-          let e = o .3 ∙ ap (λ (x : Moment). x .session) (g .moment-is) in
-          ap (λ (f : List ℕ). getD f a 0) (o .2 ∙ ap (λ (x : Moment). x .flash) (g .moment-is))
-          ∙ s .proved-stands a (s .valid-proved (sym (ap (λ (x : Session). x .phase) e) ∙ t) a n)
+          let o = last-moment in
+          let s = given-safe bytes (o .0) (o .1) in
+          ap (λ (f : List ℕ). getD f a 0) (o .2)
+          ∙ s .proved-stands a (s .valid-proved (sym (ap (λ (x : Session). x .phase) (o .3)) ∙ t) a n)

@@ -1,4 +1,4 @@
--- A worked load: demand 3 is not empty. One byte at 0x0200, a loader from the factory, flash all 0, nothing lost.
+-- A worked load: demand 3 is not empty. One byte at 0x0200, a loader from the factory, flash all 0, no loss.
 use Prim.Native.Nat.{ℕ, _+_, _≤_}
 use mathlib.Core.Bool.{true, false}
 use mathlib.Core.List.{List}
@@ -15,7 +15,7 @@ use Rattle.basis.specs.Lists.{Bytes}
 use Rattle.basis.specs.Units.{pageGroupOf}
 use Rattle.line.specs.Demand.{Stands, Valid}
 use Rattle.line.specs.Laws.Demand.{valid}
-use Rattle.line.specs.Line.{begun, momentAt}
+use Rattle.line.specs.Line.{loadAt}
 use Rattle.line.specs.declared.exchange.Loss.{Loss}
 use Rattle.loader.specs.State.{factoryOf}
 use Rattle.runs.specs.Laws.Map.{name-length, name-same}
@@ -51,9 +51,12 @@ image-bytes k =
 no-group : (g : ℕ) → bit 0 g ≡ false
 no-group g = simp zero-div
 
-pub worked : (Valid (momentAt image map (λ i. Loss.Whole) (begun map RunKind.Reset factoryOf flash) (total map + 1) .session)) × (Stands (momentAt image map (λ i. Loss.Whole) (begun map RunKind.Reset factoryOf flash) (total map + 1) .flash) image 0x200)
+pub worked : let x = loadAt image map RunKind.Reset factoryOf (λ i. Loss.Whole) flash (total map + 1) in
+    (Valid (x .session)) × (Stands (x .flash) image 0x200)
 worked =
-    let v = valid image map flash (length-replicate {A = ℕ} flashSize 0x12) map-long (length-replicate {A = ℕ} flashSize 0x00) image-bytes
-    (omega (arith, rank-below (named map) flashSize 0x200 (omega arith) one-named)) RunKind.Reset factoryOf (λ i. Loss.Whole) (λ n. refl)
-    (record { unprotected = λ q t. no-group (pageGroupOf q); readable = refl }) (total map + 1) (omega arith) in
+    let v = valid image map flash (length-replicate {A = ℕ} flashSize 0x12) map-long
+    (omega (arith, rank-below (named map) flashSize 0x200 (omega arith) one-named)) image-bytes
+    RunKind.Reset factoryOf (length-replicate {A = ℕ} flashSize 0x00) (λ i. Loss.Whole) (λ n. refl)
+    (record { unprotected = λ q t. no-group (pageGroupOf q); readable = refl }) (total map + 1)
+    (omega arith) in
     (v .0, v .1 0x200 one-named)

@@ -26,7 +26,13 @@ same-length-2 : tie.Need-same-length-2
 same-length-2 c = search needs
 
 returns : tie.Need-returns
-returns c = let s = c .before .before .before .before .before .before .before .before .before .before .before .before .before .args in whole (s .loss) (s .loader) (s .packet .now) (s .flash .now) (s .answer .now) _ (c .before .before .before .before .before .before .before .before .before .before .before .before .before .pre) (c .before .before .before .before .before .take .ensures) (c .before .before .before .before .before .before .before .before .enum-told .given .1)
+returns c =
+    let t = c .before .before .before .before .before in
+    let e = t .before .before .before in
+    let s = e .before .before .before .before .before in
+    let a = s .args in
+    whole (a .loss) (a .loader) (a .packet .now) (a .flash .now) (a .answer .now) _
+    (s .pre) (t .take .ensures) (e .enum-told .given .1)
 
 returns-2 : tie.Need-returns-2
 returns-2 c = lost (c .enum-told2 .given .1)
@@ -38,7 +44,13 @@ same-length-4 : tie.Need-same-length-4
 same-length-4 c = search needs
 
 returns-3 : tie.Need-returns-3
-returns-3 c = let s = c .before .before .before .before .before .before .before .before .before .before .before .before .before .args in unanswered (s .loss) (s .loader) (s .packet .now) (s .flash .now) (s .answer .now) _ (c .before .before .before .before .before .before .before .before .before .before .before .before .before .pre) (c .before .before .before .before .before .take2 .ensures) (c .before .before .before .before .before .before .before .before .enum-told3 .given .1)
+returns-3 c =
+    let t = c .before .before .before .before .before in
+    let e = t .before .before .before in
+    let s = e .before .before .before .before .before in
+    let a = s .args in
+    unanswered (a .loss) (a .loader) (a .packet .now) (a .flash .now) (a .answer .now) _
+    (s .pre) (t .take2 .ensures) (e .enum-told3 .given .1)
 
 pub deliver-spec : {M : Type 1} → statement M
 deliver-spec =

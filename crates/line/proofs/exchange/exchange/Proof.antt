@@ -1,28 +1,49 @@
--- `exchange` meets its contract: what arrives stands at the start of the answer buffer, and the session steps on it.
-use mathlib.Core.Path.{ap, _∙_, sym}
+-- `exchange` meets its contract: what arrives stands at the start of the buffer, and the session steps on it.
+use Prim.Native.Nat.{_≤_}
+use mathlib.Core.Path.{_≡_, ap, _∙_, sym}
 use native.Mathlib.Omega.{arith}
 use borrow.Author.Needs.{needs}
+use lib.ListN.{length, take}
 use lib.Seq.{length-take-le}
 use Rattle.line.proofs.Delivering.{arrived-fits, goes, keeps}
-use Rattle.line.specs.Line.{momentIn}
+use Rattle.line.specs.Line.{Moment, momentIn}
 use Rattle.session.specs.Paper.{paperStepped}
 use Rattle.line.proofs.exchange.exchange.Statement.{statement}
 use Rattle.line.proofs.exchange.exchange.Tie as tie
 
+-- the places that the ways out look back to: the entry, and the loader's part
+abbrev entry : tie.After-session → tie.Start
+entry c = c .before .before .before .before .before .before .before
+
+abbrev delivered : tie.After-step → tie.After-deliver
+delivered c = c .before .before .before .before .before .before .before .before
+
+abbrev moment : tie.Start → Moment
+moment c = momentIn (c .args .link) (c .args .flash .now) (c .args .packet .now)
+
+-- the packet that is out lies within its buffer
+fits : (c : tie.Start) → c .args .link .len ≤ length (c .args .packet .now)
+fits c = omega (arith, c .pre .0 .packet-size, c .pre .1)
+
+wired : (c : tie.Start) → c .args .link .len ≡ length (take (c .args .link .len) (c .args .packet .now))
+wired c = sym (length-take-le (c .args .link .len) (c .args .packet .now) (fits c))
+
 slice-reshare-prefix-deliver : tie.Need-slice-reshare-prefix-deliver
-slice-reshare-prefix-deliver c = search needs
+slice-reshare-prefix-deliver c = fits (entry c)
 
 slice-aggregate-deliver : tie.Need-slice-aggregate-deliver
-slice-aggregate-deliver c = sym (length-take-le (c .before .before .before .before .before .before .before .before .args .link .len) (c .before .before .before .before .before .before .before .before .args .packet .now) (omega (arith, c .before .before .before .before .before .before .before .before .pre .3, c .before .before .before .before .before .before .before .before .pre .5)))
+slice-aggregate-deliver c = wired (entry (c .before))
 
 deliver-requires : tie.Need-deliver-requires
-deliver-requires c κs = search needs
+deliver-requires c κs = entry (c .before .before .before) .pre .0 .answer-size
 
 slice-reshare-prefix-step : tie.Need-slice-reshare-prefix-step
 slice-reshare-prefix-step c = arrived-fits (c .before .before .before .before .before .deliver .ensures)
 
 slice-aggregate-step : tie.Need-slice-aggregate-step
-slice-aggregate-step c = sym (length-take-le (c .before .before .before .before .before .before .deliver .result .arrived) (c .before .before .before .before .before .before .deliver .last .1 .1 .1 .1 .0) (arrived-fits (c .before .before .before .before .before .before .deliver .ensures)))
+slice-aggregate-step c =
+    let d = c .before .before .before .before .before .before .deliver in
+    sym (length-take-le (d .result .arrived) (d .last .1 .1 .1 .1 .0) (arrived-fits (d .ensures)))
 
 step-requires : tie.Need-step-requires
 step-requires c κs = search needs
@@ -43,7 +64,14 @@ same-length-3 : tie.Need-same-length-3
 same-length-3 c = search needs
 
 returns : tie.Need-returns
-returns c = let s = c .before .before .before .before .before .before .before .before .before .before .before .before .before .before .before .before .before .before .before .before .before .before .before .before .before .args in goes (s .image .now) (s .map .now) (s .loss) (momentIn (s .link) (s .flash .now) (s .packet .now)) (s .packet .now) _ (s .answer .now) _ _ _ _ _ (c .before .before .before .before .before .before .before .before .before .before .before .before .before .before .before .before .before .before .before .before .before .before .before .before .before .pre .3) (c .before .before .before .before .before .before .before .before .before .before .before .before .before .before .deliver .ensures) (c .before .before .before .before .before .before .step .ensures .1) _ (ap paperStepped (sym (c .before .before .next .given .1)) ∙ c .before .before .before .before .before .before .step .ensures .0)
+returns c =
+    let t = c .before .before .before .before .before .before in
+    let d = delivered t in
+    let s = entry (d .before .before .before .before) in
+    let a = s .args in
+    goes (a .image .now) (a .map .now) (a .loss) (moment s) (a .packet .now) _ (a .answer .now) _ _ _ _ _
+    (s .pre .0 .packet-size) (d .deliver .ensures) (t .step .ensures .1) _
+    (ap paperStepped (sym (c .before .before .next .given .1)) ∙ t .step .ensures .0)
 
 same-length-4 : tie.Need-same-length-4
 same-length-4 c = search needs
@@ -55,7 +83,14 @@ same-length-6 : tie.Need-same-length-6
 same-length-6 c = search needs
 
 returns-2 : tie.Need-returns-2
-returns-2 c = let s = c .before .before .before .before .before .before .before .before .before .before .before .before .before .before .before .before .before .before .before .before .before .before .before .args in keeps (s .image .now) (s .map .now) (s .loss) (momentIn (s .link) (s .flash .now) (s .packet .now)) (s .packet .now) _ (s .answer .now) _ _ _ _ _ (c .before .before .before .before .before .before .before .before .before .before .before .before .before .before .before .before .before .before .before .before .before .before .before .pre .3) (c .before .before .before .before .before .before .before .before .before .before .before .before .deliver .ensures) (c .before .before .before .before .step .ensures .1) _ (ap paperStepped (sym (c .enum-told .given .1)) ∙ c .before .before .before .before .step .ensures .0) (sym (length-take-le (s .link .len) (s .packet .now) (omega (arith, c .before .before .before .before .before .before .before .before .before .before .before .before .before .before .before .before .before .before .before .before .before .before .before .pre .3, c .before .before .before .before .before .before .before .before .before .before .before .before .before .before .before .before .before .before .before .before .before .before .before .pre .5))))
+returns-2 c =
+    let t = c .before .before .before .before in
+    let d = delivered t in
+    let s = entry (d .before .before .before .before) in
+    let a = s .args in
+    keeps (a .image .now) (a .map .now) (a .loss) (moment s) (a .packet .now) _ (a .answer .now) _ _ _ _ _
+    (s .pre .0 .packet-size) (d .deliver .ensures) (t .step .ensures .1) _
+    (ap paperStepped (sym (c .enum-told .given .1)) ∙ t .step .ensures .0) (wired s)
 
 pub exchange-spec : {M : Type 1} → statement M
 exchange-spec =

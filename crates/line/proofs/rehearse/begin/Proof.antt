@@ -9,6 +9,10 @@ use Rattle.session.specs.declared.session.Next.{Next}
 use Rattle.line.proofs.rehearse.begin.Statement.{statement}
 use Rattle.line.proofs.rehearse.begin.Tie as tie
 
+-- the entry, as the call of `start` looks back to it
+abbrev entry : tie.After-start → tie.Start
+entry c = c .before .before .before .before .before .before .before .before
+
 start-requires : tie.Need-start-requires
 start-requires c κs = search needs
 
@@ -22,15 +26,37 @@ reset-requires : tie.Need-reset-requires
 reset-requires c κs = search needs
 
 drive-requires : tie.Need-drive-requires
-drive-requires c κs = let s = c .before .before .before .before .before .before .before .before .before .before .before .before .before .before .before .before .before .before .args in
-    let b = starting (s .image .now) (s .map .now) (s .kind) _ _ (ap paperStepped (sym (c .before .before .before .before .before .before .next .given .1)) ∙ c .before .before .before .before .before .before .before .before .before .before .start .ensures .0) in
-    (b .image-long, b .map-long, c .before .before .before .before .before .before .before .before .before .before .before .before .before .before .before .before .before .before .pre .0, c .before .before .before .before .before .before .before .before .before .before .start .kept .1 .1 .1 .0 ∙ c .before .before .before .before .before .before .before .before .before .before .before .before .before .before .before .before .before .before .pre .1, c .before .before .before .before .before .before .before .before .before .before .before .before .before .before .before .before .before .before .pre .2, b .some, omega (arith, ap (λ (n : Next). n .len) (b .next-is)), begun-again b (s .loader) _ (c .before .before .before .reset .ensures) (s .flash .now) _ _ (c .before .before .before .before .before .before .before .before .before .before .start .ensures .1))
+drive-requires c κs =
+    let n = c .before .before .before .before .before .before in
+    let t = n .before .before .before .before in
+    let s = entry t in
+    let a = s .args in
+    let b = starting (a .image .now) (a .map .now) (a .kind) _ _
+    (ap paperStepped (sym (n .next .given .1)) ∙ t .start .ensures .0) in (
+      record {
+        image-size = b .image-size;
+        map-size = b .map-size;
+        flash-size = s .pre .0;
+        packet-size = t .start .kept .1 .1 .1 .0 ∙ s .pre .1;
+        answer-size = s .pre .2;
+      },
+      b .some,
+      omega (arith, ap (λ (x : Next). x .len) (b .next-is)),
+      begun-again b (a .loader) _ (c .before .before .before .reset .ensures) (a .flash .now) _ _
+          (t .start .ensures .1),
+    )
 
 same-length : tie.Need-same-length
 same-length c = search needs
 
 returns : tie.Need-returns
-returns c = let s = c .before .before .before .before .before .before .before .before .before .before .before .before .before .args in start-refused (s .image .now) (s .map .now) (s .kind) (s .loader) (lossAt (s .losses .now)) (s .flash .now) (c .before .before .before .before .before .before .before .before .before .before .before .before .before .pre .0) (c .before .before .before .before .before .before .before .before .before .before .before .before .before .pre .1) (ap paperStepped (sym (c .before .why .given .1)) ∙ c .before .before .before .before .before .start .ensures .0)
+returns c =
+    let t = c .before .before .before .before .before in
+    let s = entry t in
+    let a = s .args in
+    start-refused (a .image .now) (a .map .now) (a .kind) (a .loader) (lossAt (a .losses .now))
+    (a .flash .now) (s .pre .0) (s .pre .1)
+    (ap paperStepped (sym (c .before .why .given .1)) ∙ t .start .ensures .0)
 
 same-length-2 : tie.Need-same-length-2
 same-length-2 c = search needs
@@ -42,9 +68,19 @@ same-length-4 : tie.Need-same-length-4
 same-length-4 c = search needs
 
 returns-2 : tie.Need-returns-2
-returns-2 c = let s = c .before .before .before .before .before .before .before .before .before .before .before .before .before .before .before .before .before .before .before .before .before .before .before .before .before .before .before .args in
-    let b = starting (s .image .now) (s .map .now) (s .kind) _ _ (ap paperStepped (sym (c .before .before .before .before .before .before .before .before .before .before .before .before .before .before .before .next .given .1)) ∙ c .before .before .before .before .before .before .before .before .before .before .before .before .before .before .before .before .before .before .before .start .ensures .0) in
-    driven (s .image .now) (s .map .now) (s .kind) (s .loader) (lossAt (s .losses .now)) (s .flash .now) (c .before .before .before .before .before .before .before .before .before .before .before .before .before .before .before .before .before .before .before .before .before .before .before .before .before .before .before .pre .0) (c .before .before .before .before .before .before .before .before .before .before .before .before .before .before .before .before .before .before .before .before .before .before .before .before .before .before .before .pre .1) b _ _ _ (begun-moment b (s .loader) _ (c .before .before .before .before .before .before .before .before .before .before .before .before .reset .ensures) (s .flash .now) _ _ (c .before .before .before .before .before .before .before .before .before .before .before .before .before .before .before .before .before .before .before .start .ensures .1)) (c .before .before .before .before .before .before .before .before .drive .ensures)
+returns-2 c =
+    let d = c .before .before .before .before .before .before .before .before in
+    let r = d .before .before .before .before in
+    let n = r .before .before .before in
+    let t = n .before .before .before .before in
+    let s = entry t in
+    let a = s .args in
+    let b = starting (a .image .now) (a .map .now) (a .kind) _ _
+    (ap paperStepped (sym (n .next .given .1)) ∙ t .start .ensures .0) in
+    driven (a .image .now) (a .map .now) (a .kind) (a .loader) (lossAt (a .losses .now)) (a .flash .now)
+    (s .pre .0) (s .pre .1) b _ _ _
+    (begun-moment b (a .loader) _ (r .reset .ensures) (a .flash .now) _ _ (t .start .ensures .1))
+    (d .drive .ensures)
 
 pub begin-spec : {M : Type 1} → statement M
 begin-spec =

@@ -6,7 +6,10 @@ use Rattle.line.proofs.rehearse.rehearse.Statement.{statement}
 use Rattle.line.proofs.rehearse.rehearse.Tie as tie
 
 returns : tie.Need-returns
-returns c = let s = c .before .before .before .before .before .args in flash-refused (s .image .now) (s .map .now) (s .kind) (s .loader) (lossAt (s .losses .now)) (s .flash .now) (c .if1 .taken)
+returns c =
+    let a = c .before .before .before .before .before .args in
+    flash-refused (a .image .now) (a .map .now) (a .kind) (a .loader) (lossAt (a .losses .now))
+    (a .flash .now) (c .if1 .taken)
 
 slice-aggregate-begin : tie.Need-slice-aggregate-begin
 slice-aggregate-begin c = search needs
