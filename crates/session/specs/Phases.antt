@@ -1,5 +1,5 @@
 -- Where a session stands in the file, and what it does next.
-use Prim.Native.Nat.{ℕ, _+_, _-_, _*_}
+use Prim.Native.Nat.{ℕ, _+_, _-_}
 use mathlib.Core.Bool.{Bool, true, false}
 use mathlib.Core.List.{List, []}
 use lib.Dec.{eqb, leb, ltb}
@@ -10,7 +10,7 @@ use Rattle.runs.specs.Map.{named}
 use Rattle.runs.specs.Pages.{touched}
 use Rattle.runs.specs.Pieces.{pieceMost, pieceStarts, runStarts, runCount, pieceCount}
 use Rattle.runs.specs.Runs.{count, next, select, follow}
-use Rattle.session.specs.Plan.{erasePacket, writePacket, verifyPacket, runPacket}
+use Rattle.session.specs.Plan.{erasePacket, writePacket, verifyPacket, runPacket, beforeRun}
 use Rattle.session.specs.declared.phase.Outcome.{Outcome}
 use Rattle.session.specs.declared.phase.Phase.{Phase}
 use Rattle.session.specs.declared.phase.RunKind.{RunKind}
@@ -47,8 +47,12 @@ unfoldable pub phaseAt : List ℕ → ℕ → Phase
 phaseAt m k =
     pick (ltb k (runCount m)) (eraseAt (select (runStarts m) k pages))
     (pick (ltb k (runCount m + pieceCount m)) (writeAt (select (pieceStarts m) (k - runCount m) flashSize))
-    (pick (ltb k (runCount m + 2 * pieceCount m)) (verifyAt (select (pieceStarts m) (k - (runCount m + pieceCount m)) flashSize))
+    (pick (ltb k (beforeRun m)) (verifyAt (select (pieceStarts m) (k - (runCount m + pieceCount m)) flashSize))
     Phase.Run))
+
+-- that packet: the one that is out after k acknowledgements
+abbrev pub packetAt : List ℕ → List ℕ → RunKind → ℕ → List ℕ
+packetAt image m kind k = packetOut image m kind (phaseAt m k)
 
 -- the first touched page and the first named byte
 abbrev pub lowestRun : List ℕ → ℕ
@@ -92,7 +96,7 @@ standsIn m Phase.Greeting k = eqb k 0
 standsIn m (Phase.Erase p) k = ranked (runStarts m) 0 (p .0) k
 standsIn m (Phase.Write a) k = ranked (pieceStarts m) (runCount m) (a .0) k
 standsIn m (Phase.Verify a) k = ranked (pieceStarts m) (runCount m + pieceCount m) (a .0) k
-standsIn m Phase.Run k = eqb (runCount m + 2 * pieceCount m) k
+standsIn m Phase.Run k = eqb (beforeRun m) k
 standsIn m (Phase.Ended o) k = false
 
 -- the address that a phase's cursor names, or the board's end where it names none

@@ -50,6 +50,10 @@ plan image m kind =
     ++ (map (verifyPacket image m) (places (pieceStarts m) flashSize)
     ++ (runPacket kind ∷ [])))
 
--- with e erases and w pieces the total is e + 2w + 1
+-- the packets before R, with e erases and w pieces: e + 2w
+abbrev pub beforeRun : List ℕ → ℕ
+beforeRun m = runCount m + 2 * pieceCount m
+
+-- with R the total is e + 2w + 1
 abbrev pub total : List ℕ → ℕ
-total m = runCount m + 2 * pieceCount m + 1
+total m = beforeRun m + 1

@@ -1,5 +1,5 @@
 -- Laws of marks: a byte is marked by the ACK to the V that holds it, and R is out only when every named byte is.
-use Prim.Native.Nat.{ℕ, _+_, _*_, _≤_, _<_}
+use Prim.Native.Nat.{ℕ, _+_, _≤_, _<_}
 use mathlib.Core.Bool.{true, not}
 use mathlib.Core.List.{List}
 use mathlib.Core.Path.{_≡_, refl, sym, ap, subst, _∙_}
@@ -22,7 +22,7 @@ use Rattle.session.specs.Laws.Phases.{ranked-is, ranked-by, stands-below
 use Rattle.session.specs.Laws.Plan.{plan-at}
 use Rattle.session.specs.Laws.States.{stands-run}
 use Rattle.session.specs.Phases.{packetOut, verifyAt, phaseAt, standsIn}
-use Rattle.session.specs.Plan.{verifyPacket, plan, total}
+use Rattle.session.specs.Plan.{verifyPacket, plan, total, beforeRun}
 use Rattle.session.specs.Session.{fitsOf, marked, provedOf}
 use Rattle.session.specs.declared.phase.Phase.{Phase}
 use Rattle.session.specs.declared.phase.RunKind.{RunKind}
@@ -80,7 +80,7 @@ module _ (m : List ℕ) (long : length m ≡ mapSize) where
       (v .0, v .1, omega (arith, v .3, leb-true (runCount m + pieceCount m + count (pieceStarts m) (a + 1)) k (b .1)), v .2)
 
   -- once every V is acknowledged every named byte is marked
-  pub all-marked : (k a : ℕ) → runCount m + 2 * pieceCount m ≤ k → marked m k a ≡ named m a
+  pub all-marked : (k a : ℕ) → beforeRun m ≤ k → marked m k a ≡ named m a
   unfolding marked
   all-marked k a l =
       decide (named m a)

@@ -1,5 +1,5 @@
 -- Laws of phases: those that stand in a file are the phases after its acknowledgements, and each leads to the next.
-use Prim.Native.Nat.{ℕ, _+_, _-_, _*_, _≤_, _<_}
+use Prim.Native.Nat.{ℕ, _+_, _-_, _≤_, _<_}
 use mathlib.Core.Bool.{Bool, true, false}
 use mathlib.Core.List.{List}
 use mathlib.Core.Path.{_≡_, refl, sym, ap, subst, _∙_}
@@ -18,7 +18,7 @@ use Rattle.runs.specs.Pieces.{pieceMost, pieceStarts, runStarts, runCount, piec
 use Rattle.runs.specs.Runs.{count, starts, next, select, follow}
 use Rattle.session.specs.Laws.Starts.{run-below, piece-below, first-piece-below, first-run-below}
 use Rattle.session.specs.Phases.{eraseAt, writeAt, verifyAt, phaseAt, lowestPiece, nextRun, nextPiece, afterOf, atStart, ranked, standsIn}
-use Rattle.session.specs.Plan.{total}
+use Rattle.session.specs.Plan.{total, beforeRun}
 use Rattle.session.specs.declared.phase.Phase.{Phase}
 
 -- ---- ranks
@@ -67,7 +67,7 @@ module _ (m : List ℕ) (long : length m ≡ mapSize) where
   stands-below (Phase.Erase p) k h = omega (arith, run-rank (p .0) k h)
   stands-below (Phase.Write a) k h = omega (arith, piece-rank (runCount m) (a .0) k h)
   stands-below (Phase.Verify a) k h = omega (arith, piece-rank (runCount m + pieceCount m) (a .0) k h)
-  stands-below Phase.Run k h = omega (arith, eqb-true (runCount m + 2 * pieceCount m) k h)
+  stands-below Phase.Run k h = omega (arith, eqb-true (beforeRun m) k h)
   stands-below (Phase.Ended o) k h = absurd (true-false (sym h))
 
   -- the cursor stands at a start
@@ -108,16 +108,16 @@ module _ (m : List ℕ) (long : length m ≡ mapSize) where
   stands-at (Phase.Verify a) k g h =
       let t = ranked-is (pieceStarts m) (runCount m + pieceCount m) (a .0) k h in
       let c : count (pieceStarts m) (a .0) ≡ k - (runCount m + pieceCount m) = omega arith in
-      let b : k < runCount m + 2 * pieceCount m = omega (arith, piece-rank m long (runCount m + pieceCount m) (a .0) k h) in
+      let b : k < beforeRun m = omega (arith, piece-rank m long (runCount m + pieceCount m) (a .0) k h) in
       let d : runCount m ≤ k = omega arith in
       let f : runCount m + pieceCount m ≤ k = omega arith in
       rw (le-ltb _ _ d, le-ltb _ _ f, lt-ltb _ _ b)
       (ap verifyAt (sym (select-at (pieceStarts m) flashSize (a .0) (piece-below m long (a .0) (t .0)) (t .0)) ∙ ap (λ (x : ℕ). select (pieceStarts m) x flashSize) c))
   stands-at Phase.Run k g h =
-      let e : runCount m + 2 * pieceCount m ≡ k = eqb-true _ _ h in
+      let e : beforeRun m ≡ k = eqb-true _ _ h in
       let d : runCount m ≤ k = omega arith in
       let f : runCount m + pieceCount m ≤ k = omega arith in
-      let b : runCount m + 2 * pieceCount m ≤ k = omega arith in
+      let b : beforeRun m ≤ k = omega arith in
       rw (le-ltb _ _ d, le-ltb _ _ f, le-ltb _ _ b)
   stands-at (Phase.Ended o) k g h = absurd (true-false (sym h))
 
@@ -131,11 +131,11 @@ at-stands m k l =
     (λ f. let g : runCount m ≤ k = ltb-false _ _ d in
     let s = select-kth (pieceStarts m) flashSize (k - runCount m) (omega (arith, ltb-true k (runCount m + pieceCount m) f)) in
     rw (d, f) (ranked-by (pieceStarts m) (runCount m) _ k (s .passes) (omega (arith, s .rank))))
-    (λ f. decide (ltb k (runCount m + 2 * pieceCount m))
+    (λ f. decide (ltb k (beforeRun m))
     (λ b. let g : runCount m + pieceCount m ≤ k = ltb-false _ _ f in
-    let s = select-kth (pieceStarts m) flashSize (k - (runCount m + pieceCount m)) (omega (arith, ltb-true k (runCount m + 2 * pieceCount m) b)) in
+    let s = select-kth (pieceStarts m) flashSize (k - (runCount m + pieceCount m)) (omega (arith, ltb-true k (beforeRun m) b)) in
     rw (d, f, b) (ranked-by (pieceStarts m) (runCount m + pieceCount m) _ k (s .passes) (omega (arith, s .rank))))
-    (λ b. rw (d, f, b) (eq-eqb (runCount m + 2 * pieceCount m) k (omega (arith, ltb-false k (runCount m + 2 * pieceCount m) b))))))
+    (λ b. rw (d, f, b) (eq-eqb (beforeRun m) k (omega (arith, ltb-false k (beforeRun m) b))))))
 
 -- ---- from phase to phase
 
@@ -170,7 +170,7 @@ module _ (m : List ℕ) (long : length m ≡ mapSize) (some : 0 < namedCount m) 
   verify-stands a k h =
       decide (ltb (nextPiece m a) flashSize)
       (λ d. rw d (follow-ranked (named m) pieceMost flashSize (omega arith) (bytes-past m long) (runCount m + pieceCount m) a k h (ltb-true _ _ d)))
-      (λ d. rw d (eq-eqb (runCount m + 2 * pieceCount m) (k + 1)
+      (λ d. rw d (eq-eqb (beforeRun m) (k + 1)
       (omega (arith, follow-last (named m) pieceMost flashSize (omega arith) (bytes-past m long) (runCount m + pieceCount m) a k h (ltb-false _ _ d)))))
 
   -- a cursor that moves on stands at a start

@@ -1,5 +1,5 @@
 -- Laws of the plan: it has e + 2w + 1 packets, and the k-th is the one that is out after k acknowledgements.
-use Prim.Native.Nat.{ℕ, zero, suc, _+_, _-_, _*_, _≤_, _<_}
+use Prim.Native.Nat.{ℕ, zero, suc, _+_, _-_, _≤_, _<_}
 use mathlib.Core.Bool.{Bool}
 use mathlib.Core.List.{List, [], _∷_, _++_, map}
 use mathlib.Core.Path.{_≡_, refl, sym, ap, _∙_}
@@ -13,8 +13,8 @@ use Rattle.basis.specs.Laws.Choice.{decide}
 use Rattle.runs.specs.Laws.Runs.{count-zero, count-yes, count-no}
 use Rattle.runs.specs.Pieces.{pieceStarts, runStarts, runCount, pieceCount}
 use Rattle.runs.specs.Runs.{count, select}
-use Rattle.session.specs.Phases.{packetOut, phaseAt}
-use Rattle.session.specs.Plan.{erasePacket, writePacket, verifyPacket, places, plan, total}
+use Rattle.session.specs.Phases.{phaseAt, packetAt}
+use Rattle.session.specs.Plan.{erasePacket, writePacket, verifyPacket, places, plan, total, beforeRun}
 use Rattle.session.specs.declared.phase.RunKind.{RunKind}
 
 -- the places that pass are as many as are counted, and the k-th is the one of rank k
@@ -64,7 +64,7 @@ module _ (image m : List ℕ) (kind : RunKind) where
       (omega (arith, places-length (runStarts m) pages, places-length (pieceStarts m) flashSize))
 
   -- the k-th, counted from 0, is out after k acknowledgements
-  pub plan-at : (k : ℕ) (d : List ℕ) → k < total m → getD (plan image m kind) k d ≡ packetOut image m kind (phaseAt m k)
+  pub plan-at : (k : ℕ) (d : List ℕ) → k < total m → getD (plan image m kind) k d ≡ packetAt image m kind k
   unfolding phaseAt plan
   plan-at k d l =
       decide (ltb k (runCount m))
@@ -73,8 +73,8 @@ module _ (image m : List ℕ) (kind : RunKind) where
       (λ b. rw b (part-at (writePacket image m) (pieceStarts m) flashSize (k - runCount m) _ d (omega (arith, ltb-true k (runCount m + pieceCount m) b))))
       (λ b. let kb : pieceCount m ≤ k - runCount m = omega (arith, ltb-false k (runCount m + pieceCount m) b) in
       let e : k - runCount m - pieceCount m ≡ k - (runCount m + pieceCount m) = omega arith in
-      rw b (part-past (writePacket image m) (pieceStarts m) flashSize (k - runCount m) _ d kb ∙ rw e (decide (ltb k (runCount m + 2 * pieceCount m))
-      (λ c. rw c (part-at (verifyPacket image m) (pieceStarts m) flashSize (k - (runCount m + pieceCount m)) _ d (omega (arith, ltb-true k (runCount m + 2 * pieceCount m) c))))
-      (λ c. let kc : pieceCount m ≤ k - (runCount m + pieceCount m) = omega (arith, ltb-false k (runCount m + 2 * pieceCount m) c) in
+      rw b (part-past (writePacket image m) (pieceStarts m) flashSize (k - runCount m) _ d kb ∙ rw e (decide (ltb k (beforeRun m))
+      (λ c. rw c (part-at (verifyPacket image m) (pieceStarts m) flashSize (k - (runCount m + pieceCount m)) _ d (omega (arith, ltb-true k (beforeRun m) c))))
+      (λ c. let kc : pieceCount m ≤ k - (runCount m + pieceCount m) = omega (arith, ltb-false k (beforeRun m) c) in
       let z : k - (runCount m + pieceCount m) - pieceCount m ≡ 0 = omega arith in
       rw c (part-past (verifyPacket image m) (pieceStarts m) flashSize (k - (runCount m + pieceCount m)) _ d kc ∙ rw z)))))))

@@ -1,5 +1,5 @@
 -- Laws of whole sessions: every series of events from a start over one file.
-use Prim.Native.Nat.{ℕ, zero, suc, _+_, _*_, _≤_, _<_}
+use Prim.Native.Nat.{ℕ, zero, suc, _+_, _≤_, _<_}
 use native.Mathlib.Nat.{add-zero, zero-add}
 use mathlib.Core.Bool.{Bool, true, false}
 use mathlib.Core.List.{List, [], _∷_, _++_}
@@ -11,10 +11,10 @@ use lib.ListN.{length, replicate}
 use Rattle.basis.specs.Board.{mapSize}
 use Rattle.basis.specs.Choice.{pick}
 use Rattle.basis.specs.Laws.Choice.{decide, true-false}
-use Rattle.runs.specs.Pieces.{runCount, pieceCount, namedCount}
+use Rattle.runs.specs.Pieces.{namedCount}
 use Rattle.session.specs.Laws.States.{phase-open, phase-later, greeting-state, ack-next, ack-last}
 use Rattle.session.specs.Phases.{ended, phaseAt}
-use Rattle.session.specs.Plan.{total}
+use Rattle.session.specs.Plan.{total, beforeRun}
 use Rattle.session.specs.Session.{sessionIn, atGreeting, stateAt, valid, judgeOf, heardOf, tookOf, series}
 use Rattle.session.specs.declared.event.Event.{Event}
 use Rattle.session.specs.declared.phase.Outcome.{Outcome}
@@ -123,9 +123,6 @@ open-valid Phase.Run h = refl
 open-valid (Phase.Ended o) h = absurd (true-false h)
 
 -- e + 2w
-abbrev runsAndPieces : List ℕ → ℕ
-runsAndPieces m = runCount m + 2 * pieceCount m
-
 module _ (m : List ℕ) (long : length m ≡ mapSize) (some : 0 < namedCount m) (kind : RunKind) where
   -- ---- one event
 
@@ -248,7 +245,7 @@ module _ (m : List ℕ) (long : length m ≡ mapSize) (some : 0 < namedCount m) 
   verdict [] b = absurd (omega arith)
   verdict (e ∷ es) b =
       greeting-or e
-      (λ a. rw a (ap (λ (s : Session). ended (s .phase)) (series-first es) ∙ within (runsAndPieces m) 0 es (omega arith) (omega arith)))
+      (λ a. rw a (ap (λ (s : Session). ended (s .phase)) (series-first es) ∙ within (beforeRun m) 0 es (omega arith) (omega arith)))
       (λ a. over (first-fails e es a .2))
 
   -- ---- valid only after every acknowledgement
@@ -282,7 +279,7 @@ module _ (m : List ℕ) (long : length m ≡ mapSize) (some : 0 < namedCount m) 
   valid-only [] v = absurd (true-false (sym (ap isValid v) ∙ ap (λ (x : Session). isValid (x .phase)) (series-nil m (atGreeting m kind))))
   valid-only (e ∷ es) v =
       greeting-or e
-      (λ a. let r = valid-on (runsAndPieces m) 0 es (omega arith) (sym (ap (λ (s : Session). isValid (s .phase)) (series-first es)) ∙ ap isValid (rw a at v)) in
-      let n : suc (runsAndPieces m) ≡ total m = omega arith in
+      (λ a. let r = valid-on (beforeRun m) 0 es (omega arith) (sym (ap (λ (s : Session). isValid (s .phase)) (series-first es)) ∙ ap isValid (rw a at v)) in
+      let n : suc (beforeRun m) ≡ total m = omega arith in
       (r .0, rw a (ap (λ (x : List Event). Event.Greeting ∷ x) (r .1 ∙ ap (λ (j : ℕ). replicate j Event.Ack ++ r .0) n))))
       (λ a. let f = first-fails e es a in absurd (true-false (sym (ap isValid v) ∙ not-valid (f .1) (f .2))))

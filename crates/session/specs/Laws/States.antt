@@ -1,5 +1,5 @@
 -- Laws of states: the state after k acknowledgements, what leads from one to the next, and that exactly these fit a file.
-use Prim.Native.Nat.{ℕ, _+_, _*_, _≤_, _<_}
+use Prim.Native.Nat.{ℕ, _+_, _≤_, _<_}
 use mathlib.Core.Bool.{Bool, true, false}
 use mathlib.Core.List.{List, []}
 use mathlib.Core.Logic.{_⊎_, inl, inr}
@@ -18,7 +18,7 @@ use Rattle.session.specs.Laws.Phases.{greeted, stands-below, stands-at, 
 use Rattle.session.specs.Laws.Plan.{plan-at}
 use Rattle.session.specs.Laws.Steps.{step-taken}
 use Rattle.session.specs.Phases.{ended, packetOut, eraseAt, writeAt, verifyAt, phaseAt, nextRun, nextPiece, afterOf, standsIn}
-use Rattle.session.specs.Plan.{plan, total}
+use Rattle.session.specs.Plan.{plan, total, beforeRun}
 use Rattle.session.specs.Session.{sessionIn, atGreeting, stateAt, valid, Sent, rightSizes, judgeLaterOf, judgeOf, tookOf, sent, fitsOf, stepOf}
 use Rattle.session.specs.declared.event.Event.{Event}
 use Rattle.session.specs.declared.phase.Outcome.{Outcome}
@@ -33,7 +33,7 @@ module _ (m : List ℕ) (k : ℕ) where
   unfolding standsIn
   stands-greeting h = eqb-true k 0 h
 
-  pub stands-run : standsIn m Phase.Run k ≡ true → runCount m + 2 * pieceCount m ≡ k
+  pub stands-run : standsIn m Phase.Run k ≡ true → beforeRun m ≡ k
   unfolding standsIn
   stands-run h = eqb-true _ _ h
 
@@ -46,7 +46,7 @@ module _ (m : List ℕ) (k : ℕ) where
 -- what holds of each kind of phase that has a packet out holds of the one after k
 phase-cases : (P : Phase → Type 0) → ((q : ℕ) → P (eraseAt q)) → ((a : ℕ) → P (writeAt a)) → ((a : ℕ) → P (verifyAt a)) → P Phase.Run → (m : List ℕ) (k : ℕ) → P (phaseAt m k)
 unfolding phaseAt
-phase-cases P e w v r m k = go (ltb k (runCount m)) (ltb k (runCount m + pieceCount m)) (ltb k (runCount m + 2 * pieceCount m)) _ _ _
+phase-cases P e w v r m k = go (ltb k (runCount m)) (ltb k (runCount m + pieceCount m)) (ltb k (beforeRun m)) _ _ _
   where
     go : (a b c : Bool) (x y z : ℕ) → P (pick a (eraseAt x) (pick b (writeAt y) (pick c (verifyAt z) Phase.Run)))
     go true b c x y z = e x
@@ -65,7 +65,7 @@ module _ (m : List ℕ) (k : ℕ) where
   phase-later e = phase-cases (λ (ph : Phase). judgeOf ph e ≡ judgeLaterOf e) (λ q. refl) (λ a. refl) (λ a. refl) refl m k
 
   -- R is out exactly after all else is acknowledged
-  pub run-after : runCount m + 2 * pieceCount m ≤ k → phaseAt m k ≡ Phase.Run
+  pub run-after : beforeRun m ≤ k → phaseAt m k ≡ Phase.Run
   unfolding phaseAt
   run-after b =
       let d : runCount m ≤ k = omega arith in
