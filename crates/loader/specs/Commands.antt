@@ -22,12 +22,12 @@ pub record Effect : Type 0 where
   pub loader : Loader
   pub flash : List ℕ
 
--- a group of the pages p to q - 1, or of the bytes a to e - 1, is protected
+-- a group of the pages i to j - 1, or of the bytes a to e - 1, is protected
 abbrev pub protectedPages : Protection → ℕ → ℕ → Bool
-protectedPages s p q = anyOf (s .groups) (pageGroupOf p) (pageGroupOf (q + 3) - pageGroupOf p)
+protectedPages p i j = anyOf (p .groups) (pageGroupOf i) (pageGroupOf (j + 3) - pageGroupOf i)
 
 abbrev pub protectedBytes : Protection → ℕ → ℕ → Bool
-protectedBytes s a e = anyOf (s .groups) (groupOf a) (groupOf (e + (groupSize - 1)) - groupOf a)
+protectedBytes p a e = anyOf (p .groups) (groupOf a) (groupOf (e + (groupSize - 1)) - groupOf a)
 
 -- E: count 0 with address exactly 0 is the mass erase
 abbrev pub massErase : ℕ → ℕ → Bool
@@ -84,6 +84,7 @@ adding k l a =
 unfoldable pub closing : Loader → ℕ → Answer Loader
 closing l a = first (9 when not (l .sequence .opened) ∷ []) (given (joinedOf l a))
 
+-- the command table has let no other type through (6)
 unfoldable pub protecting : ℕ → Loader → ℕ → ℕ → Answer Loader
 protecting k l a t = pick (eqb t 0x00) (opening l) (pick (eqb t 0x0F) (adding k l a) (closing l a))
 
@@ -96,7 +97,7 @@ abbrev pub keeping : List ℕ → Answer Loader → Answer Effect
 keeping f (refused n) = refused n
 keeping f (given l) = given (record { loader = l; flash = f })
 
--- the command c with its address and the bytes d after it
+-- the command c with its address and the bytes d after it; the command table has let no other through (5)
 unfoldable pub obeyOf : ℕ → Loader → ℕ → ℕ → List ℕ → List ℕ → Answer Effect
 obeyOf k l c a d f =
     pick (eqb c 0x45) (erasing k l a (getD d 0 0) f)
@@ -105,7 +106,8 @@ obeyOf k l c a d f =
     (pick (eqb c 0x50) (keeping f (protecting k l a (getD d 0 0)))
     (keeping f (running l a)))))
 
--- what a function that obeys shows: verdict, next loader and flash are those of x, or of a refusal
+-- what a function that obeys shows: verdict, next loader and flash are those of x;
+-- where x is a refusal, loader and flash are as they were
 abbrev pub loaderAfter : Loader → Answer Loader → Loader
 loaderAfter l (refused n) = l
 loaderAfter l (given m) = m

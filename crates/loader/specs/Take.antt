@@ -46,6 +46,7 @@ hearOf k l s f =
     first (11 when either (left (l .condition)) (both (waiting (l .condition)) (not (opens s))) ∷ [])
     (pick (waiting (l .condition)) (given (record { loader = withCondition l Serving; flash = f })) (serveOf k l s f))
 
+-- in the paper's order: 20 here, 11 in hearOf, 1 to 6 in the packet's readOf, then 9, 7, 8, 10 of the command
 -- 20: flash not its size, or answer buffer under 24
 unfoldable pub takeOf : ℕ → Loader → List ℕ → List ℕ → ℕ → Answer Effect
 takeOf k l s f room =

@@ -7,7 +7,6 @@ ghost use Rattle.loader.specs.Commands.{Does, massErase, eraseRows, eras
 ghost use Rattle.loader.specs.Paper.{paperVerdict};
 ghost use Rattle.loader.specs.State.{clearedOf};
 ghost use Rattle.image.specs.Flash.{eraseOf};
-use crate::protection::Protection;
 use crate::state::Loader;
 use crate::verdict::Acted;
 use crate::verdict::Refusal;

@@ -18,6 +18,7 @@ pub fn protect(loader: Loader, address: Address, kind: u8) -> Acted
     match kind {
         0x00 => open(loader),
         0x0F => add(loader, address),
+        // 0x01: the command table has let no other type through.
         _ => close(loader, address),
     }
 }

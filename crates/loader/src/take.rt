@@ -152,7 +152,7 @@ fn is_quiet(why: Refusal) -> bool
     match why {
         Refusal::Size => true,
         Refusal::Unheard => true,
-        Refusal::Unread(unread) => is_no_frame(unread),
+        Refusal::Unread(unread) => is_quiet_unread(unread),
         Refusal::Sequence => false,
         Refusal::Address => false,
         Refusal::Protected => false,
@@ -160,7 +160,7 @@ fn is_quiet(why: Refusal) -> bool
     }
 }
 
-fn is_no_frame(unread: packet::table::Refusal) -> bool
+fn is_quiet_unread(unread: packet::table::Refusal) -> bool
     ensures { λ r. ⌜ r ≡ quiet (paperUnread unread) ⌝ }
 {
     match unread {

@@ -7,7 +7,6 @@ ghost use Rattle.basis.specs.Board.{pages, flashSize};
 ghost use Rattle.basis.specs.Refusals.{given, first};
 ghost use Rattle.loader.specs.Commands.{Does, writeRows, writing};
 ghost use Rattle.loader.specs.Paper.{paperVerdict};
-use crate::protection::Protection;
 use crate::state::Loader;
 use crate::verdict::Acted;
 use crate::verdict::Refusal;

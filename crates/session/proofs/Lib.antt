@@ -1,3 +1,4 @@
+-- Lemmas that serve the proofs of this crate's functions.
 pub mod Building
 pub mod Surveys
 pub mod Fits

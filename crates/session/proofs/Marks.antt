@@ -64,7 +64,7 @@ module _ (m : List ℕ) (s : Session) (a : ℕ) where
           mark-given (both-second _ _ h ∙ le-leb _ _ u)
 
 -- the counts fit
-pub few : (m : List ℕ) (a : ℕ) {f : Surveyed} {n : ℕ} → f ≡ surveyOf m a → n ≡ pick (f .piece) 1 0 → a < flashSize → f .below .pieces + n ≤ flashSize
-few m a {f} {n} e g l =
+pub rank-few : (m : List ℕ) (a : ℕ) {f : Surveyed} {n : ℕ} → f ≡ surveyOf m a → n ≡ pick (f .piece) 1 0 → a < flashSize → f .below .pieces + n ≤ flashSize
+rank-few m a {f} {n} e g l =
     let k = told m a e .below-few in
     decide (f .piece) (λ d. omega (arith, g ∙ ap (λ (b : Bool). pick b 1 0) d)) (λ d. omega (arith, g ∙ ap (λ (b : Bool). pick b 1 0) d))

@@ -83,6 +83,7 @@ judgeOf (Phase.Erase p) e = judgeLaterOf e
 judgeOf (Phase.Write a) e = judgeLaterOf e
 judgeOf (Phase.Verify a) e = judgeLaterOf e
 judgeOf Phase.Run e = judgeLaterOf e
+-- never asked: 44 comes first
 judgeOf (Phase.Ended o) e = judgeLaterOf e
 
 -- the session in another phase, with so many more acknowledged

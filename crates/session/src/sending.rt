@@ -1,7 +1,7 @@
 // The packet of a phase, built into the caller's buffer.
 ghost use mathlib.Core.Path.{_≡_};
 ghost use mathlib.Core.Bool.{true};
-ghost use Prim.Native.Nat.{_+_, _<_, _≤_};
+ghost use Prim.Native.Nat.{_+_, _≤_};
 ghost use lib.ListN.{length, getD};
 ghost use Rattle.basis.specs.Board.{flashSize, mapSize};
 ghost use Rattle.basis.specs.Lists.{overlay};

@@ -258,6 +258,7 @@ fn judge(phase: Phase, event: Event) -> Meaning
         Phase::Write(_) => judge_later(event),
         Phase::Verify(_) => judge_later(event),
         Phase::Run => judge_later(event),
+        // Never asked: 44 comes first.
         Phase::Ended(_) => judge_later(event),
     }
 }

@@ -16,7 +16,7 @@ use Rattle.loader.specs.State.{factoryOf, withCondition}
 use Rattle.loader.specs.Verify.{equalsOf}
 use Rattle.loader.specs.declared.state.Condition.the-variants.{Serving}
 use Rattle.loader.specs.declared.state.Loader.{Loader}
-use Rattle.packet.specs.Packet.{packet, rows, tabledOf, Parts, readOf}
+use Rattle.packet.specs.Packet.{packet, rows, tabledOf, readOf}
 use Rattle.packet.specs.Turn.{turnedOf}
 
 abbrev serving : Loader

@@ -52,7 +52,7 @@ pub kept : (l : Loader) (f : List ℕ) (x : Answer Loader) → effectAfter l f (
 kept l f (refused n) = refl
 kept l f (given m) = refl
 
-pub flash-kept : (k : ℕ) (l : Loader) (c a : ℕ) (d f : List ℕ) → (c ≡ 0x45 → ⊥) → (c ≡ 0x57 → ⊥) → effectAfter l f (obeyOf k l c a d f) .flash ≡ f
+flash-kept : (k : ℕ) (l : Loader) (c a : ℕ) (d f : List ℕ) → (c ≡ 0x45 → ⊥) → (c ≡ 0x57 → ⊥) → effectAfter l f (obeyOf k l c a d f) .flash ≡ f
 unfolding obeyOf
 flash-kept k l c a d f e w = rw (ne-eqb c 0x45 e, ne-eqb c 0x57 w) (go (eqb c 0x56) (eqb c 0x50))
   where

@@ -33,7 +33,7 @@ any-none s g (suc n) e (suc j) h =
     let q : g + 1 + j ≡ g + suc j = omega arith in
     subst (λ (x : ℕ). bit s x ≡ false) q (any-none s (g + 1) n (either-none (bit s g) (anyOf s (g + 1) n) e .1) j (omega arith))
 
-pub none-any : (s g n : ℕ) → ((j : ℕ) → j < n → bit s (g + j) ≡ false) → anyOf s g n ≡ false
+none-any : (s g n : ℕ) → ((j : ℕ) → j < n → bit s (g + j) ≡ false) → anyOf s g n ≡ false
 unfolding anyOf
 none-any s g zero h = refl
 none-any s g (suc n) h =
@@ -57,7 +57,7 @@ module _ (p : Protection) where
       (λ t. subst (λ (x : ℕ). bit (p .groups) x ≡ false) (omega (arith, leb-false a (groupSize * (groupOf a + n)) t)) (free a (omega arith) h)))
 
 -- what a join protects
-pub join-groups : (p q : Protection) (g : ℕ) → bit (joinOf p q .groups) g ≡ either (bit (p .groups) g) (bit (q .groups) g)
+join-groups : (p q : Protection) (g : ℕ) → bit (joinOf p q .groups) g ≡ either (bit (p .groups) g) (bit (q .groups) g)
 join-groups p q g = bit-or (p .groups) (q .groups) g
 
 -- ---- the protection in force

@@ -58,7 +58,7 @@ module _ (m : List ℕ) where
 
 module _ (m : List ℕ) (long : length m ≡ mapSize) where
   -- every named byte is in the piece of one V of the plan, behind every E and W
-  pub named-held : (a : ℕ) → named m a ≡ true → (j : ℕ) × (s : ℕ) × (Held m j s a) × (j + 1 ≡ runCount m + pieceCount m + count (pieceStarts m) (a + 1))
+  named-held : (a : ℕ) → named m a ≡ true → (j : ℕ) × (s : ℕ) × (Held m j s a) × (j + 1 ≡ runCount m + pieceCount m + count (pieceStarts m) (a + 1))
   unfolding standsIn
   named-held a t =
       let i = in-piece (named m) pieceMost (omega arith) a t in

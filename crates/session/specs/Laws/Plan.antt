@@ -18,7 +18,7 @@ use Rattle.session.specs.Plan.{erasePacket, writePacket, verifyPacket, p
 use Rattle.session.specs.declared.phase.RunKind.{RunKind}
 
 -- the places that pass are as many as are counted, and the k-th is the one of rank k
-pub places-length : (p : ℕ → Bool) (n : ℕ) → length (places p n) ≡ count p n
+places-length : (p : ℕ → Bool) (n : ℕ) → length (places p n) ≡ count p n
 unfolding places
 places-length p zero = sym (count-zero p)
 places-length p (suc n) =
@@ -26,7 +26,7 @@ places-length p (suc n) =
     (λ t. rw t (length-append (places p n) (n ∷ []) ∙ omega (arith, places-length p n, count-yes p n t)))
     (λ t. rw t (places-length p n ∙ sym (count-no p n t)))
 
-pub places-at : (p : ℕ → Bool) (n k d : ℕ) → k < count p n → getD (places p n) k d ≡ select p k n
+places-at : (p : ℕ → Bool) (n k d : ℕ) → k < count p n → getD (places p n) k d ≡ select p k n
 unfolding places select
 places-at p zero k d l = absurd (omega (arith, count-zero p))
 places-at p (suc n) k d l =

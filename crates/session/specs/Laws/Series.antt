@@ -1,4 +1,4 @@
--- Laws of whole sessions: every series of events from a start over one file.
+-- Laws of whole sessions: every series of events from a start is-over one file.
 use Prim.Native.Nat.{ℕ, zero, suc, _+_, _≤_, _<_}
 use native.Mathlib.Nat.{add-zero, zero-add}
 use mathlib.Core.Bool.{Bool, true, false}
@@ -23,7 +23,7 @@ use Rattle.session.specs.declared.phase.RunKind.{RunKind}
 use Rattle.session.specs.declared.session.Session.{Session}
 
 -- after the end nothing changes
-pub series-ended : (m : List ℕ) (s : Session) (es : List Event) → ended (s .phase) ≡ true → series m s es ≡ s
+series-ended : (m : List ℕ) (s : Session) (es : List Event) → ended (s .phase) ≡ true → series m s es ≡ s
 unfolding series
 series-ended m s [] h = refl
 series-ended m s (e ∷ es) h = rw h (series-ended m s es h)
@@ -103,7 +103,7 @@ isGreeting Event.Bel = false
 isGreeting Event.Other = false
 isGreeting Event.Silence = false
 
-pub greeting-or : {R : Type 0} (e : Event) → (e ≡ Event.Greeting → R) → (isGreeting e ≡ false → R) → R
+greeting-or : {R : Type 0} (e : Event) → (e ≡ Event.Greeting → R) → (isGreeting e ≡ false → R) → R
 greeting-or Event.Greeting f g = f refl
 greeting-or Event.Ack f g = g refl
 greeting-or Event.Bel f g = g refl
@@ -122,7 +122,6 @@ open-valid (Phase.Verify a) h = refl
 open-valid Phase.Run h = refl
 open-valid (Phase.Ended o) h = absurd (true-false h)
 
--- e + 2w
 module _ (m : List ℕ) (long : length m ≡ mapSize) (some : 0 < namedCount m) (kind : RunKind) where
   -- ---- one event
 
@@ -171,7 +170,7 @@ module _ (m : List ℕ) (long : length m ≡ mapSize) (some : 0 < namedCount m) 
 
   -- ---- every series
 
-  pub series-came : (es : List Event) (s : Session) → Came m kind s → Came m kind (series m s es)
+  series-came : (es : List Event) (s : Session) → Came m kind s → Came m kind (series m s es)
   unfolding series
   series-came [] s c = c
   series-came (e ∷ es) s c = series-came es (pick (ended (s .phase)) s (tookOf m s e)) (event-came s e c)
@@ -180,24 +179,24 @@ module _ (m : List ℕ) (long : length m ≡ mapSize) (some : 0 < namedCount m) 
   came es = series-came es (atGreeting m kind) (waits refl)
 
   -- an event taken
-  taken : (s : Session) (e : Event) (es : List Event) {t : Session} → ended (s .phase) ≡ false → tookOf m s e ≡ t → series m s (e ∷ es) ≡ series m t es
+  event-taken : (s : Session) (e : Event) (es : List Event) {t : Session} → ended (s .phase) ≡ false → tookOf m s e ≡ t → series m s (e ∷ es) ≡ series m t es
   unfolding series
-  taken s e es h q = rw h (ap (λ (x : Session). series m x es) q)
+  event-taken s e es h q = rw h (ap (λ (x : Session). series m x es) q)
 
   series-ack : (k : ℕ) (es : List Event) → k + 1 < total m → series m (stateAt m kind k) (Event.Ack ∷ es) ≡ series m (stateAt m kind (k + 1)) es
-  series-ack k es l = taken (stateAt m kind k) Event.Ack es (phase-open m k) (ack-next m long some kind k l)
+  series-ack k es l = event-taken (stateAt m kind k) Event.Ack es (phase-open m k) (ack-next m long some kind k l)
 
   series-last : (k : ℕ) (es : List Event) → k + 1 ≡ total m → series m (stateAt m kind k) (Event.Ack ∷ es) ≡ valid m kind
-  series-last k es l = taken (stateAt m kind k) Event.Ack es (phase-open m k) (ack-last m long some kind k l) ∙ series-ended m (valid m kind) es refl
+  series-last k es l = event-taken (stateAt m kind k) Event.Ack es (phase-open m k) (ack-last m long some kind k l) ∙ series-ended m (valid m kind) es refl
 
   series-fails : (k : ℕ) (e : Event) (es : List Event) → isAck e ≡ false → k < total m
       → (o : Outcome) × (failing o k ≡ true) × (series m (stateAt m kind k) (e ∷ es) ≡ sessionIn m kind (Phase.Ended o) k)
   series-fails k e es a l =
       let f = not-ack k e a l in
-      (f .0, f .1, taken (stateAt m kind k) e es (phase-open m k) (f .2) ∙ series-ended m (sessionIn m kind (Phase.Ended (f .0)) k) es refl)
+      (f .0, f .1, event-taken (stateAt m kind k) e es (phase-open m k) (f .2) ∙ series-ended m (sessionIn m kind (Phase.Ended (f .0)) k) es refl)
 
   series-first : (es : List Event) → series m (atGreeting m kind) (Event.Greeting ∷ es) ≡ series m (stateAt m kind 0) es
-  series-first es = taken (atGreeting m kind) Event.Greeting es refl (greeting-state m long some kind)
+  series-first es = event-taken (atGreeting m kind) Event.Greeting es refl (greeting-state m long some kind)
 
   -- ---- the greeting and k acknowledgements lead to the state after k
 
@@ -222,31 +221,31 @@ module _ (m : List ℕ) (long : length m ≡ mapSize) (some : 0 < namedCount m) 
 
   -- ---- a verdict within e + 2w + 2 events
 
-  over : {s : Session} {o : Outcome} {k : ℕ} → s ≡ sessionIn m kind (Phase.Ended o) k → ended (s .phase) ≡ true
-  over e = ap (λ (x : Session). ended (x .phase)) e
+  is-over : {s : Session} {o : Outcome} {k : ℕ} → s ≡ sessionIn m kind (Phase.Ended o) k → ended (s .phase) ≡ true
+  is-over e = ap (λ (x : Session). ended (x .phase)) e
 
   within : (n k : ℕ) (es : List Event) → k + suc n ≡ total m → suc n ≤ length es → ended (series m (stateAt m kind k) es .phase) ≡ true
   within n k [] l b = absurd (omega arith)
   within zero k (e ∷ es) l b =
       ack-or e
-      (λ a. rw a (over (series-last k es (omega arith))))
-      (λ a. over (series-fails k e es a (omega arith) .2))
+      (λ a. rw a (is-over (series-last k es (omega arith))))
+      (λ a. is-over (series-fails k e es a (omega arith) .2))
   within (suc n) k (e ∷ es) l b =
       ack-or e
       (λ a. rw a (ap (λ (s : Session). ended (s .phase)) (series-ack k es (omega arith)) ∙ within n (k + 1) es (omega arith) (omega arith)))
-      (λ a. over (series-fails k e es a (omega arith) .2))
+      (λ a. is-over (series-fails k e es a (omega arith) .2))
 
   first-fails : (e : Event) (es : List Event) → isGreeting e ≡ false → (o : Outcome) × (failing o 0 ≡ true) × (series m (atGreeting m kind) (e ∷ es) ≡ sessionIn m kind (Phase.Ended o) 0)
   first-fails e es a =
       let f = not-greeting e a in
-      (f .0, f .1, taken (atGreeting m kind) e es refl (f .2) ∙ series-ended m (sessionIn m kind (Phase.Ended (f .0)) 0) es refl)
+      (f .0, f .1, event-taken (atGreeting m kind) e es refl (f .2) ∙ series-ended m (sessionIn m kind (Phase.Ended (f .0)) 0) es refl)
 
   pub verdict : (es : List Event) → total m + 1 ≤ length es → ended (series m (atGreeting m kind) es .phase) ≡ true
   verdict [] b = absurd (omega arith)
   verdict (e ∷ es) b =
       greeting-or e
       (λ a. rw a (ap (λ (s : Session). ended (s .phase)) (series-first es) ∙ within (beforeRun m) 0 es (omega arith) (omega arith)))
-      (λ a. over (first-fails e es a .2))
+      (λ a. is-over (first-fails e es a .2))
 
   -- ---- valid only after every acknowledgement
 

@@ -1,5 +1,5 @@
 -- Where runs and pieces start on the board, and what their packets carry.
-use Prim.Native.Nat.{ℕ, _+_, _/_, _≤_, _<_}
+use Prim.Native.Nat.{ℕ, _+_, _≤_, _<_}
 use mathlib.Core.Bool.{true, false}
 use mathlib.Core.List.{List}
 use mathlib.Core.Path.{_≡_, sym, _∙_}
@@ -17,18 +17,15 @@ use Rattle.runs.specs.Laws.Pieces.{starts-below, piece-some, piece-most}
 use Rattle.runs.specs.Laws.Runs.{count-zero, count-le, count-skip, next-pass, next-skip}
 use Rattle.runs.specs.Map.{named}
 use Rattle.runs.specs.Pages.{touched}
-use Rattle.runs.specs.Pieces.{pieceMost, pieceStarts, pieceLen, runStarts, runCount, pieceCount, namedCount}
+use Rattle.runs.specs.Pieces.{pieceMost, pieceStarts, pieceLen, runStarts, runCount, namedCount}
 use Rattle.runs.specs.Runs.{count}
 use Rattle.session.specs.Phases.{lowestRun, lowestPiece}
 use Rattle.session.specs.Plan.{carriesPiece, pieceBytes}
 use Rattle.basis.specs.Units.{pageOf}
 
--- e and w are small
+-- e is small; so is w, by pieces-half of Totals
 pub runs-most : (m : List ℕ) → runCount m ≤ pages
 runs-most m = count-le (runStarts m) pages
-
-pub pieces-most : (m : List ℕ) → pieceCount m ≤ flashSize
-pieces-most m = count-le (pieceStarts m) flashSize
 
 module _ (m : List ℕ) (long : length m ≡ mapSize) where
   -- runs and pieces start on the board

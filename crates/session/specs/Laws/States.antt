@@ -65,7 +65,7 @@ module _ (m : List ℕ) (k : ℕ) where
   phase-later e = phase-cases (λ (ph : Phase). judgeOf ph e ≡ judgeLaterOf e) (λ q. refl) (λ a. refl) (λ a. refl) refl m k
 
   -- R is out exactly after all else is acknowledged
-  pub run-after : beforeRun m ≤ k → phaseAt m k ≡ Phase.Run
+  run-after : beforeRun m ≤ k → phaseAt m k ≡ Phase.Run
   unfolding phaseAt
   run-after b =
       let d : runCount m ≤ k = omega arith in

@@ -6,7 +6,7 @@ use lib.ListN.{length}
 use Rattle.basis.specs.Lists.{overlay}
 use Rattle.session.specs.Laws.Fits.{fitting, took-start}
 use Rattle.session.specs.Laws.Phases.{stands-below, stands-start}
-use Rattle.session.specs.Laws.Starts.{runs-most, pieces-most}
+use Rattle.session.specs.Laws.Totals.{total-fits}
 use Rattle.session.specs.Phases.{atStart, packetOut}
 use Rattle.session.specs.declared.session.Session.{Session}
 use Rattle.session.proofs.session.Session.take.Statement.{statement}
@@ -17,7 +17,7 @@ took-requires c κs = let s = c .before .before .before in
     let m = s .args .map .now in
     let x = s .args .self in
     let f = fitting m x (s .pre .3) in
-    (s .pre .1, stands-start m (s .pre .1) (x .phase) (x .acknowledged) (f .stands), omega (arith, stands-below m (s .pre .1) (x .phase) (x .acknowledged) (f .stands), runs-most m, pieces-most m))
+    (s .pre .1, stands-start m (s .pre .1) (x .phase) (x .acknowledged) (f .stands), omega (arith, stands-below m (s .pre .1) (x .phase) (x .acknowledged) (f .stands), total-fits m))
 
 send-requires : tie.Need-send-requires
 send-requires c κs = let s = c .before .before .before .before .before in
