@@ -130,5 +130,5 @@ module _ (image m : List ℕ) (right : length image ≡ flashSize) (long : lengt
           let v = told _ (sym (takes-verify s h) ∙ q) in
           let w = verify-let pages l s (map turnedOf d) f (given l) (v .1) in
           ap (λ (i : ℕ). take i (drop s f)) (sym n)
-          ∙ same-stands f s (map turnedOf d) (omega (arith, w .0, size)) (w .1)
+          ∙ same-stands f s (map turnedOf d) (omega (arith, w .1, size)) (w .3)
           ∙ undone restoredOf turnedOf restored-turned d (bytes-take (pieceLen m s) (drop s image) (bytes-drop s image bytes))

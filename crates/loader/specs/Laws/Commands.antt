@@ -3,7 +3,7 @@ use Prim.Native.Nat.{ℕ, _+_, _*_, _≤_, _<_}
 use mathlib.Core.Bool.{Bool, true, false, not}
 use mathlib.Core.List.{List, [], _∷_}
 use mathlib.Core.Path.{_≡_, refl, ap, _∙_}
-use borrow.Author.Tests.{lt-ltb, le-ltb, le-leb, lt-leb, eq-eqb, ne-eqb, ltb-false, leb-false, not-false}
+use borrow.Author.Tests.{lt-ltb, le-ltb, le-leb, lt-leb, eq-eqb, ne-eqb, ltb-false, leb-false, eqb-false, not-false}
 use lib.Dec.{leb, eqb}
 use lib.ListN.{length, getD}
 use Rattle.basis.specs.Choice.{pick}
@@ -69,14 +69,15 @@ module _ {A : Type 0} (k : ℕ) (l : Loader) (a n : ℕ) (r : Answer A) where
     pub erase-passes : protectedPages (l .protection) (pageOf a) (pageOf a + n) ≡ false → first (eraseRows k l a n) r ≡ r
     erase-passes t = erase-inside p q s ∙ skip 8 _ _ r t ∙ done r
 
--- what is let through lies in flash, and is not protected
-pub erase-let : {A : Type 0} {y : A} (k : ℕ) (l : Loader) (a n : ℕ) (r : Answer A) → first (eraseRows k l a n) r ≡ given y → (a < startOf k) × (pageOf a + n ≤ k) × (protectedPages (l .protection) (pageOf a) (pageOf a + n) ≡ false)
+-- what is let through has pages, lies in flash, and is not protected
+pub erase-let : {A : Type 0} {y : A} (k : ℕ) (l : Loader) (a n : ℕ) (r : Answer A) → first (eraseRows k l a n) r ≡ given y
+    → (n ≡ 0 → ⊥) × (a < startOf k) × (pageOf a + n ≤ k) × (protectedPages (l .protection) (pageOf a) (pageOf a + n) ≡ false)
 unfolding eraseRows
 erase-let k l a n r e =
     let p = passed 7 _ _ _ e in
     let q = either-none (eqb n 0) _ (p .0) in
     let s = either-none (leb (startOf k) a) _ (q .1) in
-    (leb-false _ _ (s .0), ltb-false _ _ (s .1), passed 8 _ _ _ (p .1) .0)
+    (eqb-false n 0 (q .0), leb-false _ _ (s .0), ltb-false _ _ (s .1), passed 8 _ _ _ (p .1) .0)
 
 module _ (k : ℕ) (l : Loader) (a n : ℕ) (f : List ℕ) where
   pub erasing-open : l .sequence .opened ≡ true → erasing k l a n f ≡ refused 9
@@ -167,13 +168,14 @@ module _ {A : Type 0} (k : ℕ) (l : Loader) (a : ℕ) (d f : List ℕ) (r : Ans
   unfolding verifyRows
   verify-passes p q s t = skip 9 _ _ r p ∙ skip 7 _ _ r (le-ltb _ _ q) ∙ skip 8 _ _ r s ∙ skip 10 _ _ r (ap not t) ∙ done r
 
-  pub verify-let : {y : A} → first (verifyRows k l a d f) r ≡ given y → (a + length d ≤ startOf k) × (equalsOf f a d ≡ true)
+  pub verify-let : {y : A} → first (verifyRows k l a d f) r ≡ given y
+      → (l .sequence .opened ≡ false) × (a + length d ≤ startOf k) × (l .protection .read ≡ false) × (equalsOf f a d ≡ true)
   unfolding verifyRows
   verify-let e =
       let p = passed 9 _ _ _ e in
       let q = passed 7 _ _ _ (p .1) in
       let s = passed 8 _ _ _ (q .1) in
-      (ltb-false _ _ (q .0), not-false _ (passed 10 _ _ _ (s .1) .0))
+      (p .0, ltb-false _ _ (q .0), s .0, not-false _ (passed 10 _ _ _ (s .1) .0))
 
 -- ---- R
 

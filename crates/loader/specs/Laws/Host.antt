@@ -1,19 +1,19 @@
 -- The packets of the host, as a serving loader takes them.
 use Prim.Native.Nat.{ℕ, _^_, _≤_, _<_}
-use mathlib.Core.Bool.{Bool, true, false, not}
+use mathlib.Core.Bool.{Bool, true, false}
 use mathlib.Core.List.{List, [], _∷_, map}
 use mathlib.Core.Path.{_≡_, refl, ap, _∙_}
 use borrow.Author.Tests.{ne-eqb}
-use lib.Dec.{ltb, eqb}
-use lib.ListN.{length, getD, take, drop}
-use Rattle.basis.specs.Choice.{pick, both, either}
+use lib.Dec.{eqb}
+use lib.ListN.{length, getD}
+use Rattle.basis.specs.Choice.{pick}
 use Rattle.basis.specs.Refusals.{Answer, refused, given, first}
 use Rattle.basis.specs.Units.{startOf}
-use Rattle.loader.specs.Commands.{effectAfter, keeping, erasing, writing, verifyRows, protecting, running, obeyOf}
+use Rattle.loader.specs.Commands.{effectAfter, keeping, erasing, writing, verifyRows, protecting, running, obeyOf, Effect}
 use Rattle.loader.specs.Laws.Commands.{obey-erase, obey-write, obey-verify, obey-run}
-use Rattle.loader.specs.Laws.Take.{heard-waiting, heard-serving, served-packet, take-heard}
+use Rattle.loader.specs.Laws.Take.{heard-waiting, heard-serving, served-packet, take-heard, any-input}
 use Rattle.loader.specs.State.{withCondition}
-use Rattle.loader.specs.Take.{waiting, left, opens, obeyed, serveOf, hearOf, takeOf}
+use Rattle.loader.specs.Take.{takeOf, dataIn}
 use Rattle.loader.specs.declared.state.Condition.the-variants.{Waiting, Serving}
 use Rattle.loader.specs.declared.state.Loader.{Loader}
 use Rattle.packet.specs.Laws.Packet.{packet-data, carried-plainly, read-erase, read-write, read-verify, read-run}
@@ -62,13 +62,9 @@ flash-kept k l c a d f e w = rw (ne-eqb c 0x45 e, ne-eqb c 0x57 w) (go (eqb c 0x
     go false false = kept l f (running l a)
 
 -- so only a packet of E or W changes it
-pub flash-by : (k : ℕ) (l : Loader) (s f : List ℕ) (room : ℕ) → ((p : Parts) → readOf s ≡ given p → (p .command ≡ 0x45 → ⊥) × (p .command ≡ 0x57 → ⊥)) → effectAfter l f (takeOf k l s f room) .flash ≡ f
-unfolding takeOf hearOf serveOf first
-flash-by k l s f room h = go (either (not (eqb (length f) (startOf k))) (ltb room answerMost)) (either (left (l .condition)) (both (waiting (l .condition)) (not (opens s)))) (waiting (l .condition)) (readOf s) refl
-  where
-    go : (a b w : Bool) (r : Answer Parts) → readOf s ≡ r → effectAfter l f (pick a (refused 20) (pick b (refused 11) (pick w (given (record { loader = withCondition l Serving; flash = f })) (obeyed k l s f r)))) .flash ≡ f
-    go true b w r e = refl
-    go false true w r e = refl
-    go false false true r e = refl
-    go false false false (refused n) e = refl
-    go false false false (given p) e = let q = h p e in flash-kept k l (p .command) (p .address) (take (p .size) (drop (p .place) s)) f (q .0) (q .1)
+pub flash-by : (k : ℕ) (l : Loader) (s f : List ℕ) (room : ℕ)
+    → ((p : Parts) → readOf s ≡ given p → (p .command ≡ 0x45 → ⊥) × (p .command ≡ 0x57 → ⊥))
+    → effectAfter l f (takeOf k l s f room) .flash ≡ f
+flash-by k l s f room h =
+    any-input (λ (e : Effect). e .flash ≡ f) k l s f room refl refl
+    (λ p e. let q = h p e in flash-kept k l (p .command) (p .address) (dataIn s p) f (q .0) (q .1))

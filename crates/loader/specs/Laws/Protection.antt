@@ -11,7 +11,7 @@ use lib.ListN.{length, getD}
 use Rattle.basis.specs.Bits.{bit}
 use Rattle.basis.specs.Choice.{pick, either}
 use Rattle.basis.specs.Laws.Bits.{bit-or}
-use Rattle.basis.specs.Laws.Choice.{decide, true-false, either-first, either-false, either-none}
+use Rattle.basis.specs.Laws.Choice.{decide, true-false, either-first, either-false}
 use Rattle.basis.specs.Laws.Refusals.{skip, stop, done}
 use Rattle.basis.specs.Refusals.{Answer, refused, given, Rule, first}
 use Rattle.basis.specs.Units.{groupOf, pageGroupOf}
@@ -23,16 +23,11 @@ use Rattle.loader.specs.declared.protection.Protection.{Protection}
 use Rattle.loader.specs.declared.state.Condition.the-variants.{Left}
 use Rattle.loader.specs.declared.state.Loader.{Loader}
 use Rattle.basis.specs.Board.{groupSize}
+use Rattle.loader.specs.Take.{dataIn, takeOf}
+use Rattle.loader.specs.Laws.Take.{any-input}
+use Rattle.packet.specs.Packet.{Parts, readOf}
 
 -- none of n groups from g on is protected
-pub any-none : (s g n : ℕ) → anyOf s g n ≡ false → (j : ℕ) → j < n → bit s (g + j) ≡ false
-unfolding anyOf
-any-none s g zero e j h = absurd (omega arith)
-any-none s g (suc n) e zero h = subst (λ (x : ℕ). bit s x ≡ false) (sym (add-zero g)) (either-none (bit s g) (anyOf s (g + 1) n) e .0)
-any-none s g (suc n) e (suc j) h =
-    let q : g + 1 + j ≡ g + suc j = omega arith in
-    subst (λ (x : ℕ). bit s x ≡ false) q (any-none s (g + 1) n (either-none (bit s g) (anyOf s (g + 1) n) e .1) j (omega arith))
-
 none-any : (s g n : ℕ) → ((j : ℕ) → j < n → bit s (g + j) ≡ false) → anyOf s g n ≡ false
 unfolding anyOf
 none-any s g zero h = refl
@@ -40,7 +35,7 @@ none-any s g (suc n) h =
     either-false (bit s g) (anyOf s (g + 1) n) (subst (λ (x : ℕ). bit s x ≡ false) (add-zero g) (h 0 (omega arith)))
     (none-any s (g + 1) n (λ j l. let q : g + suc j ≡ g + 1 + j = omega arith in subst (λ (x : ℕ). bit s x ≡ false) q (h (suc j) (omega arith))))
 
--- pages and bytes are free exactly when each of their groups is
+-- pages and bytes are free when each of their groups is
 module _ (p : Protection) where
   pub free-pages : (i j : ℕ) → i < j → ((q : ℕ) → i ≤ q → q < j → bit (p .groups) (pageGroupOf q) ≡ false) → protectedPages p i j ≡ false
   free-pages i j h free =
@@ -95,7 +90,7 @@ module _ (k : ℕ) (l : Loader) (a : ℕ) where
       go false true e = held force l (withAdded l (addedOf k (l .sequence .added) a)) _ refl
       go false false e = absurd (true-false (sym e))
 
-  -- it changes by a mass erase and by a P of type 0x01, and by nothing else
+  -- of the commands, a mass erase and a P of type 0x01 change it, and no other
   pub force-kept : (c : ℕ) (d f : List ℕ) → (c ≡ 0x45 → massErase a (getD d 0 0) ≡ false) → (c ≡ 0x50 → either (eqb (getD d 0 0) 0x00) (eqb (getD d 0 0) 0x0F) ≡ true)
       → force (effectAfter l f (obeyOf k l c a d f) .loader) ≡ force l
   unfolding obeyOf writing running
@@ -105,6 +100,16 @@ module _ (k : ℕ) (l : Loader) (a : ℕ) where
       (λ u. decide (eqb c 0x56) (λ v. rw (t, u, v, kept l f (first (verifyRows k l a d f) (given l))) (held force l l (verifyRows k l a d f) refl))
       (λ v. decide (eqb c 0x50) (λ w. rw (t, u, v, w, kept l f (protecting k l a (getD d 0 0))) (protect-keeps (getD d 0 0) (p (eqb-true c 0x50 w))))
       (λ w. rw (t, u, v, w, kept l f (running l a)) (held force l (withCondition l Left) _ refl)))))
+
+-- so of all inputs only a packet of these two changes it
+pub force-by : (k : ℕ) (l : Loader) (s f : List ℕ) (room : ℕ)
+    → ((p : Parts) → readOf s ≡ given p
+    → (p .command ≡ 0x45 → massErase (p .address) (getD (dataIn s p) 0 0) ≡ false)
+    × (p .command ≡ 0x50 → either (eqb (getD (dataIn s p) 0 0) 0x00) (eqb (getD (dataIn s p) 0 0) 0x0F) ≡ true))
+    → force (effectAfter l f (takeOf k l s f room) .loader) ≡ force l
+force-by k l s f room h =
+    any-input (λ (e : Effect). force (e .loader) ≡ force l) k l s f room refl refl
+    (λ p e. let q = h p e in force-kept k l (p .address) (p .command) (dataIn s p) f (q .0) (q .1))
 
 -- and by the latter it grows: no group and no read protection is lost
 pub close-grows : (l : Loader) (a g : ℕ) → bit (l .protection .groups) g ≡ true → bit (loaderAfter l (closing l a) .protection .groups) g ≡ true

@@ -55,7 +55,7 @@ mul-erase c = search needs
 erase-requires : tie.Need-erase-requires
 erase-requires c κs = let a = c .before .before .before .before .before .before .before .before .before .before .before .args in
     let e = erase-let pages (a .loader) (a .address .0) (a .count) (given tt) (sym (c .before .before .before .before .before .before .judge .ensures) ∙ ap paperVerdict (c .before .before .before .before .enum-told .given .1)) in
-    omega (arith, e .0, e .1, c .before .before .before .before .before .before .before .before .before .before .before .pre, c .before .start .ensures, c .before .before .page .ensures)
+    omega (arith, e .1, e .2, c .before .before .before .before .before .before .before .before .before .before .before .pre, c .before .start .ensures, c .before .before .page .ensures)
 
 returns-3 : tie.Need-returns-3
 returns-3 c = let a = c .before .before .before .before .before .before .before .before .args in leaves-all _ _ (erasing-pages pages (a .loader) (a .address .0) (a .count) (a .flash .now) (c .before .before .before .before .before .before .if1 .left) (sym (c .before .before .before .before .before .is-mass .ensures) ∙ c .before .before .before .before .if2 .left) ∙ alike _ _ _ (sym (c .before .before .before .judge .ensures) ∙ ap paperVerdict (c .before .why .given .1)))
