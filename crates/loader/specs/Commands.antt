@@ -7,7 +7,7 @@ use lib.Dec.{leb, ltb, eqb}
 use lib.ListN.{length, getD}
 use Rattle.basis.specs.Choice.{pick, both, either}
 use Rattle.basis.specs.Refusals.{Answer, refused, given, Rule, _when_, first, bare}
-use Rattle.basis.specs.Units.{pageOf, groupOf, pageGroupOf, startOf}
+use Rattle.basis.specs.Units.{pageOf, groupOf, startOf}
 use Rattle.image.specs.Flash.{eraseOf, storeOf}
 use Rattle.loader.specs.Protection.{none, withGroup, withRead, anyOf}
 use Rattle.loader.specs.State.{withCondition, withAdded, joinedOf, clearedOf}
@@ -22,12 +22,12 @@ pub record Effect : Type 0 where
   pub loader : Loader
   pub flash : List ℕ
 
--- a group of the pages i to j - 1, or of the bytes a to e - 1, is protected
-abbrev pub protectedPages : Protection → ℕ → ℕ → Bool
-protectedPages p i j = anyOf (p .groups) (pageGroupOf i) (pageGroupOf (j + 3) - pageGroupOf i)
-
+-- a group of the bytes a to e - 1, or of the pages i to j - 1, is protected
 abbrev pub protectedBytes : Protection → ℕ → ℕ → Bool
 protectedBytes p a e = anyOf (p .groups) (groupOf a) (groupOf (e + (groupSize - 1)) - groupOf a)
+
+abbrev pub protectedPages : Protection → ℕ → ℕ → Bool
+protectedPages p i j = protectedBytes p (startOf i) (startOf j)
 
 -- E: count 0 with address exactly 0 is the mass erase
 abbrev pub massErase : ℕ → ℕ → Bool

@@ -12,9 +12,12 @@ use Rattle.loader.specs.declared.state.Sequence.{Sequence}
 abbrev pub closed : Sequence
 closed = record { opened = false; added = none }
 
--- the cleared key is 0xFFFFFFFF
+abbrev pub clearedKey : ℕ
+clearedKey = 0xFFFFFFFF
+
+-- as it leaves the factory
 abbrev pub factoryOf : Loader
-factoryOf = record { condition = Waiting; sequence = closed; protection = none; key = 0xFFFFFFFF }
+factoryOf = record { condition = Waiting; sequence = closed; protection = none; key = clearedKey }
 
 -- reset gives waiting, drops an open protect sequence, and keeps protection and key
 abbrev pub resetOf : Loader → Loader
@@ -33,4 +36,4 @@ joinedOf l key = record { condition = l .condition; sequence = closed; protectio
 
 -- all protection and the key are cleared
 abbrev pub clearedOf : Loader → Loader
-clearedOf l = record { condition = l .condition; sequence = l .sequence; protection = none; key = 0xFFFFFFFF }
+clearedOf l = record { condition = l .condition; sequence = l .sequence; protection = none; key = clearedKey }

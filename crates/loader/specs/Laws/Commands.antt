@@ -12,7 +12,7 @@ use Rattle.basis.specs.Laws.Refusals.{skip, stop, done, passed}
 use Rattle.basis.specs.Refusals.{Answer, refused, given, Rule, _when_, first}
 use Rattle.basis.specs.Units.{pageOf, startOf}
 use Rattle.image.specs.Flash.{eraseOf}
-use Rattle.loader.specs.Commands.{Effect, effectAfter, Changes, Does, protectedPages, protectedBytes, massErase, eraseRows, erasing, writeRows, writing, verifyRows, protecting, running, keeping, obeyOf}
+use Rattle.loader.specs.Commands.{Effect, effectAfter, Changes, Does, protectedPages, protectedBytes, massErase, eraseRows, erasing, writeRows, writing, verifyRows, protecting, running, keeping, obeyOf, loaderAfter}
 use Rattle.loader.specs.State.{withCondition, clearedOf}
 use Rattle.loader.specs.Verify.{equalsOf}
 use Rattle.loader.specs.declared.state.Condition.the-variants.{Left}
@@ -123,12 +123,16 @@ write-let k l a x r e =
 -- ---- V, P and R leave flash as it was
 
 module _ (l : Loader) (f : List ℕ) where
-  -- what turns the loader alone
+  pub keeping-is : (x : Answer Loader) → effectAfter l f (keeping f x) ≡ record { loader = loaderAfter l x; flash = f }
+  keeping-is (refused n) = refl
+  keeping-is (given m) = refl
+
+  -- what changes the loader alone
   pub changed-does : (x : Answer Loader) {v : Answer (Unit {0})} {next : Loader} → Changes x l v next → Does (keeping f x) l f v next f
   changed-does (refused n) t = record { verdict-is = t .verdict-is; loader-is = t .loader-is; flash-is = refl }
   changed-does (given m) t = record { verdict-is = t .verdict-is; loader-is = t .loader-is; flash-is = refl }
 
-  -- what turns nothing: the table decides
+  -- what changes nothing: the table decides
   pub judged-does : (t : List Rule) {v : Answer (Unit {0})} → v ≡ first t (given tt) → Does (keeping f (first t (given l))) l f v l f
   unfolding first
   judged-does [] e = record { verdict-is = e; loader-is = refl; flash-is = refl }

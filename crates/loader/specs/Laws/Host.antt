@@ -7,10 +7,10 @@ use borrow.Author.Tests.{ne-eqb}
 use lib.Dec.{eqb}
 use lib.ListN.{length, getD}
 use Rattle.basis.specs.Choice.{pick}
-use Rattle.basis.specs.Refusals.{Answer, refused, given, first}
+use Rattle.basis.specs.Refusals.{Answer, given, first}
 use Rattle.basis.specs.Units.{startOf}
 use Rattle.loader.specs.Commands.{effectAfter, keeping, erasing, writing, verifyRows, protecting, running, obeyOf, Effect}
-use Rattle.loader.specs.Laws.Commands.{obey-erase, obey-write, obey-verify, obey-run}
+use Rattle.loader.specs.Laws.Commands.{obey-erase, obey-write, obey-verify, obey-run, keeping-is}
 use Rattle.loader.specs.Laws.Take.{heard-waiting, heard-serving, served-packet, take-heard, any-input}
 use Rattle.loader.specs.State.{withCondition}
 use Rattle.loader.specs.Take.{takeOf, dataIn}
@@ -49,8 +49,7 @@ module _ (k : ℕ) (l : Loader) (f : List ℕ) (room : ℕ) (size : length f ≡
 
 -- V, P and R never change flash
 pub kept : (l : Loader) (f : List ℕ) (x : Answer Loader) → effectAfter l f (keeping f x) .flash ≡ f
-kept l f (refused n) = refl
-kept l f (given m) = refl
+kept l f x = ap (λ (e : Effect). e .flash) (keeping-is l f x)
 
 flash-kept : (k : ℕ) (l : Loader) (c a : ℕ) (d f : List ℕ) → (c ≡ 0x45 → ⊥) → (c ≡ 0x57 → ⊥) → effectAfter l f (obeyOf k l c a d f) .flash ≡ f
 unfolding obeyOf

@@ -13,10 +13,10 @@ use Rattle.basis.specs.Choice.{pick, either}
 use Rattle.basis.specs.Laws.Bits.{bit-or}
 use Rattle.basis.specs.Laws.Choice.{decide, true-false, either-first, either-false}
 use Rattle.basis.specs.Laws.Refusals.{skip, stop, done}
-use Rattle.basis.specs.Refusals.{Answer, refused, given, Rule, first}
-use Rattle.basis.specs.Units.{groupOf, pageGroupOf}
-use Rattle.loader.specs.Commands.{Effect, protectedPages, protectedBytes, massErase, eraseRows, erasing, writeRows, writing, verifyRows, opening, addedOf, adding, closing, protecting, running, keeping, obeyOf, loaderAfter, effectAfter}
-use Rattle.loader.specs.Laws.Commands.{either-way, erasing-open, erasing-pages}
+use Rattle.basis.specs.Refusals.{refused, given, Rule, first}
+use Rattle.basis.specs.Units.{groupOf, pageGroupOf, pageOf, startOf}
+use Rattle.loader.specs.Commands.{Effect, protectedPages, protectedBytes, massErase, eraseRows, erasing, writeRows, writing, verifyRows, opening, addedOf, adding, closing, protecting, running, obeyOf, loaderAfter, effectAfter}
+use Rattle.loader.specs.Laws.Commands.{either-way, erasing-open, erasing-pages, keeping-is}
 use Rattle.loader.specs.Protection.{none, joinOf, anyOf}
 use Rattle.loader.specs.State.{withCondition, withAdded, joinedOf}
 use Rattle.loader.specs.declared.protection.Protection.{Protection}
@@ -35,21 +35,25 @@ none-any s g (suc n) h =
     either-false (bit s g) (anyOf s (g + 1) n) (subst (λ (x : ℕ). bit s x ≡ false) (add-zero g) (h 0 (omega arith)))
     (none-any s (g + 1) n (λ j l. let q : g + suc j ≡ g + 1 + j = omega arith in subst (λ (x : ℕ). bit s x ≡ false) q (h (suc j) (omega arith))))
 
--- pages and bytes are free when each of their groups is
+-- bytes and pages are free when each of their groups is
 module _ (p : Protection) where
-  pub free-pages : (i j : ℕ) → i < j → ((q : ℕ) → i ≤ q → q < j → bit (p .groups) (pageGroupOf q) ≡ false) → protectedPages p i j ≡ false
-  free-pages i j h free =
-      none-any (p .groups) (pageGroupOf i) (pageGroupOf (j + 3) - pageGroupOf i)
-      (λ n l. decide (leb i (4 * (pageGroupOf i + n)))
-      (λ t. subst (λ (x : ℕ). bit (p .groups) x ≡ false) (omega (arith, leb-true i (4 * (pageGroupOf i + n)) t)) (free (4 * (pageGroupOf i + n)) (leb-true i (4 * (pageGroupOf i + n)) t) (omega arith)))
-      (λ t. subst (λ (x : ℕ). bit (p .groups) x ≡ false) (omega (arith, leb-false i (4 * (pageGroupOf i + n)) t)) (free i (omega arith) h)))
+  Free : ℕ → Type 0
+  Free g = bit (p .groups) g ≡ false
 
   pub free-bytes : (a e : ℕ) → a < e → ((b : ℕ) → a ≤ b → b < e → bit (p .groups) (groupOf b) ≡ false) → protectedBytes p a e ≡ false
+  unfolding Free
   free-bytes a e h free =
       none-any (p .groups) (groupOf a) (groupOf (e + (groupSize - 1)) - groupOf a)
-      (λ n l. decide (leb a (groupSize * (groupOf a + n)))
-      (λ t. subst (λ (x : ℕ). bit (p .groups) x ≡ false) (omega (arith, leb-true a (groupSize * (groupOf a + n)) t)) (free (groupSize * (groupOf a + n)) (leb-true a (groupSize * (groupOf a + n)) t) (omega arith)))
-      (λ t. subst (λ (x : ℕ). bit (p .groups) x ≡ false) (omega (arith, leb-false a (groupSize * (groupOf a + n)) t)) (free a (omega arith) h)))
+      (λ n l. let g : ℕ = groupOf a + n in
+      decide (leb a (groupSize * g))
+      (λ t. let u = leb-true a (groupSize * g) t in subst Free (omega arith) (free (groupSize * g) u (omega arith)))
+      (λ t. let u = leb-false a (groupSize * g) t in subst Free (omega arith) (free a (omega arith) h)))
+
+  pub free-pages : (i j : ℕ) → i < j → ((q : ℕ) → i ≤ q → q < j → bit (p .groups) (pageGroupOf q) ≡ false) → protectedPages p i j ≡ false
+  unfolding Free
+  free-pages i j h free =
+      free-bytes (startOf i) (startOf j) (omega arith)
+      (λ b u v. let e : pageGroupOf (pageOf b) ≡ groupOf b = omega arith in subst Free e (free (pageOf b) (omega arith) (omega arith)))
 
 -- what a join protects
 join-groups : (p q : Protection) (g : ℕ) → bit (joinOf p q .groups) g ≡ either (bit (p .groups) g) (bit (q .groups) g)
@@ -66,10 +70,6 @@ held see l m (r ∷ t) e = go (r .holds) (held see l m t e)
     go : (b : Bool) → see (loaderAfter l (first t (given m))) ≡ see l → see (loaderAfter l (pick b (refused (r .number)) (first t (given m)))) ≡ see l
     go true h = refl
     go false h = h
-
-kept : (l : Loader) (f : List ℕ) (x : Answer Loader) → effectAfter l f (keeping f x) .loader ≡ loaderAfter l x
-kept l f (refused n) = refl
-kept l f (given m) = refl
 
 abbrev force : Loader → Protection
 force l = l .protection
@@ -97,9 +97,9 @@ module _ (k : ℕ) (l : Loader) (a : ℕ) where
   force-kept c d f e p =
       decide (eqb c 0x45) (λ t. rw t (erase-keeps (getD d 0 0) f (e (eqb-true c 0x45 t))))
       (λ t. decide (eqb c 0x57) (λ u. rw (t, u) (either-way (λ (x : Effect). force (x .loader) ≡ force l) l f _ (writeRows k l a (length d)) refl refl))
-      (λ u. decide (eqb c 0x56) (λ v. rw (t, u, v, kept l f (first (verifyRows k l a d f) (given l))) (held force l l (verifyRows k l a d f) refl))
-      (λ v. decide (eqb c 0x50) (λ w. rw (t, u, v, w, kept l f (protecting k l a (getD d 0 0))) (protect-keeps (getD d 0 0) (p (eqb-true c 0x50 w))))
-      (λ w. rw (t, u, v, w, kept l f (running l a)) (held force l (withCondition l Left) _ refl)))))
+      (λ u. decide (eqb c 0x56) (λ v. rw (t, u, v, keeping-is l f (first (verifyRows k l a d f) (given l))) (held force l l (verifyRows k l a d f) refl))
+      (λ v. decide (eqb c 0x50) (λ w. rw (t, u, v, w, keeping-is l f (protecting k l a (getD d 0 0))) (protect-keeps (getD d 0 0) (p (eqb-true c 0x50 w))))
+      (λ w. rw (t, u, v, w, keeping-is l f (running l a)) (held force l (withCondition l Left) _ refl)))))
 
 -- so of all inputs only a packet of these two changes it
 pub force-by : (k : ℕ) (l : Loader) (s f : List ℕ) (room : ℕ)

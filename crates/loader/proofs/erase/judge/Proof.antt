@@ -3,24 +3,31 @@ use Prim.Native.Nat.{ℕ, _+_, _-_}
 use mathlib.Core.Path.{_≡_, ap, ap₂, sym, _∙_}
 use native.Mathlib.Omega.{arith}
 use borrow.Author.Needs.{needs}
-use Rattle.basis.specs.Board.{pages}
+use Rattle.basis.specs.Board.{pages, groupSize}
 use Rattle.basis.specs.Refusals.{given}
-use Rattle.basis.specs.Units.{pageOf, pageGroupOf}
+use Rattle.basis.specs.Units.{pageOf, pageGroupOf, groupOf, startOf}
 use Rattle.loader.specs.Commands.{protectedPages}
 use Rattle.loader.specs.Laws.Commands.{erase-none, erase-past, erase-over, erase-protected, erase-passes}
 use Rattle.loader.specs.Protection.{anyOf}
 use Rattle.loader.proofs.erase.judge.Statement.{statement}
 use Rattle.loader.proofs.erase.judge.Tie as tie
 
--- the groups asked for are those of the pages
+-- the group of a page is that of its first byte, and 3 pages more are a group less one byte
+group-from : (i : ℕ) → pageGroupOf i ≡ groupOf (startOf i)
+group-from i = omega arith
+
+group-to : (j : ℕ) → pageGroupOf (j + 3) ≡ groupOf (startOf j + (groupSize - 1))
+group-to j = omega arith
+
+-- so the groups asked for are those of the pages
 spanned : (c : tie.After-any) → let a = c .before .before .before .before .before .before .before .before .before .args in c .any .result ≡ protectedPages (a .loader .protection) (pageOf (a .address .0)) (pageOf (a .address .0) + a .count)
 spanned c =
     let a = c .before .before .before .before .before .before .before .before .before .args in
     let p = c .before .before .before .before .before .before .before .before .page .ensures in
     c .any .ensures
     ∙ ap₂ (λ (g h : ℕ). anyOf (a .loader .protection .groups) g (h - g))
-    (c .before .before .group .ensures ∙ ap pageGroupOf p)
-    (c .before .group2 .ensures ∙ ap (λ (x : ℕ). pageGroupOf (x + a .count + 3)) p)
+    (c .before .before .group .ensures ∙ ap pageGroupOf p ∙ group-from _)
+    (c .before .group2 .ensures ∙ ap (λ (x : ℕ). pageGroupOf (x + a .count + 3)) p ∙ group-to _)
 
 page-requires : tie.Need-page-requires
 page-requires c κs = search needs

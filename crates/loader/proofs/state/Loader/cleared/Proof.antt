@@ -2,12 +2,13 @@
 use borrow.Author.Needs.{needs}
 use Rattle.loader.proofs.state.Loader.cleared.Statement.{statement}
 use Rattle.loader.proofs.state.Loader.cleared.Tie as tie
+use Rattle.loader.specs.State.{clearedKey}
 
 none-requires : tie.Need-none-requires
 none-requires c κs = search needs
 
 returns : tie.Need-returns
-returns c = λ i. record { condition = c .before .before .args .self .condition; sequence = c .before .before .args .self .sequence; protection = c .none .ensures i; key = 0xFFFFFFFF }
+returns c = λ i. record { condition = c .before .before .args .self .condition; sequence = c .before .before .args .self .sequence; protection = c .none .ensures i; key = clearedKey }
 
 pub cleared-spec : {M : Type 1} → statement M
 cleared-spec = tie.close (tie.spec none-requires returns)
