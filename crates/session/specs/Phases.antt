@@ -23,6 +23,19 @@ ended (Phase.Verify a) = false
 ended Phase.Run = false
 ended (Phase.Ended o) = true
 
+-- ended valid
+abbrev pub isValid : Phase → Bool
+isValid Phase.Greeting = false
+isValid (Phase.Erase p) = false
+isValid (Phase.Write a) = false
+isValid (Phase.Verify a) = false
+isValid Phase.Run = false
+isValid (Phase.Ended Outcome.Valid) = true
+isValid (Phase.Ended Outcome.Silence) = false
+isValid (Phase.Ended Outcome.Bel) = false
+isValid (Phase.Ended Outcome.NoGreeting) = false
+isValid (Phase.Ended Outcome.Other) = false
+
 -- the packet that is out for its answer; an ending has none
 abbrev pub packetOut : List ℕ → List ℕ → RunKind → Phase → List ℕ
 packetOut image m kind Phase.Greeting = []

@@ -1,6 +1,6 @@
 -- The session: its start, its steps, and what they have proved.
-use Prim.Native.Nat.{ℕ, _+_}
-use mathlib.Core.Bool.{Bool, not}
+use Prim.Native.Nat.{ℕ, _+_, _≤_, _<_}
+use mathlib.Core.Bool.{Bool, not, true, false}
 use mathlib.Core.List.{List, [], _∷_}
 use lib.Dec.{eqb, leb, ltb}
 use lib.ListN.{length}
@@ -8,9 +8,9 @@ use Rattle.basis.specs.Board.{flashSize, mapSize}
 use Rattle.basis.specs.Choice.{pick, both}
 use Rattle.basis.specs.Refusals.{Answer, refused, given, _when_, first}
 use Rattle.runs.specs.Map.{named}
-use Rattle.runs.specs.Pieces.{pieceStarts, runCount, pieceCount, namedCount}
+use Rattle.runs.specs.Pieces.{pieceStarts, runCount, pieceCount, namedCount, pieceLen}
 use Rattle.runs.specs.Runs.{count}
-use Rattle.session.specs.Phases.{ended, packetOut, phaseAt, afterOf, standsIn}
+use Rattle.session.specs.Phases.{ended, packetOut, phaseAt, afterOf, standsIn, verifyAt}
 use Rattle.session.specs.Plan.{total}
 use Rattle.session.specs.declared.event.Event.{Event}
 use Rattle.session.specs.declared.phase.Outcome.{Outcome}
@@ -20,6 +20,8 @@ use Rattle.session.specs.declared.session.Next.{Next}
 use Rattle.session.specs.declared.session.Session.{Session}
 use Rattle.session.specs.declared.session.Meaning.{Meaning}
 use Rattle.packet.specs.Packet.{packetMost}
+use mathlib.Core.Path.{_≡_}
+use mathlib.Core.Logic.{_⊎_}
 
 -- a session over a file, in a phase and with so many packets acknowledged
 abbrev pub sessionIn : List ℕ → RunKind → Phase → ℕ → Session
@@ -132,3 +134,33 @@ marked m k a = both (named m a) (leb (runCount m + pieceCount m + count (pieceSt
 -- asking for a mark: 20 for a map of another size
 unfoldable pub provedOf : List ℕ → Session → ℕ → Answer Bool
 provedOf m s a = first (20 when not (eqb (length m) mapSize) ∷ []) (given (marked m (s .acknowledged) a))
+
+-- ---- what the laws speak by
+
+-- a record that fits a file waits for its greeting, or is the state after the acknowledgements that it counts
+abbrev pub Reached : List ℕ → Session → Type 0
+Reached m s =
+    (s ≡ atGreeting m (s .kind))
+    ⊎ ((s .acknowledged < total m) × (s ≡ stateAt m (s .kind) (s .acknowledged)))
+
+-- an outcome that k acknowledgements allow, other than valid: 42 only before the first packet
+abbrev pub failing : Outcome → ℕ → Bool
+failing Outcome.Valid k = false
+failing Outcome.Silence k = true
+failing Outcome.Bel k = true
+failing Outcome.NoGreeting k = eqb k 0
+failing Outcome.Other k = true
+
+-- what a start and events lead to: it waits for the greeting, has k acknowledged, has failed with k acknowledged, or is valid
+pub data Came (m : List ℕ) (kind : RunKind) (s : Session) : Type 0 where
+  waits : s ≡ atGreeting m kind → Came m kind s
+  stands : (k : ℕ) → k < total m → s ≡ stateAt m kind k → Came m kind s
+  fails : (o : Outcome) (k : ℕ) → k < total m → failing o k ≡ true → s ≡ sessionIn m kind (Phase.Ended o) k → Came m kind s
+  ends : s ≡ valid m kind → Came m kind s
+
+-- the packet after j acknowledgements is the V of the piece at s, which holds the byte at a
+pub record Held (m : List ℕ) (j s a : ℕ) : Type 0 where
+  pub planned : j < total m
+  pub phase : phaseAt m j ≡ verifyAt s
+  pub from : s ≤ a
+  pub below : a < s + pieceLen m s

@@ -36,12 +36,12 @@ use Rattle.runs.specs.Pages.{touched}
 use Rattle.runs.specs.Pieces.{pieceMost, runLen, runCount, pieceCount, namedCount}
 use Rattle.session.specs.Laws.Events.{greeting-heard}
 use Rattle.session.specs.Laws.Marks.{proved-is, all-marked}
-use Rattle.session.specs.Laws.Series.{failing, silence-ends}
+use Rattle.session.specs.Laws.Series.{silence-ends}
 use Rattle.session.specs.Laws.States.{phase-open}
 use Rattle.session.specs.Laws.Out.{Out, erases, writes, verifies, runs, out-after}
 use Rattle.session.specs.Phases.{ended, packetOut, phaseAt}
 use Rattle.session.specs.Plan.{pieceBytes, total}
-use Rattle.session.specs.Session.{atGreeting, stateAt, marked, tookOf}
+use Rattle.session.specs.Session.{atGreeting, stateAt, marked, tookOf, failing}
 use Rattle.session.specs.declared.event.Event.{Event}
 use Rattle.session.specs.declared.phase.Outcome.{Outcome}
 use Rattle.session.specs.declared.phase.Phase.{Phase}

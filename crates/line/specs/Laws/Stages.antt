@@ -29,13 +29,13 @@ use Rattle.packet.specs.Turn.{turnedOf}
 use Rattle.runs.specs.Pieces.{runLen, runCount, pieceCount, namedCount}
 use Rattle.session.specs.Laws.Events.{greeting-heard}
 use Rattle.session.specs.Laws.Marks.{marked-late, marked-more, all-marked}
-use Rattle.session.specs.Laws.Series.{failing, isAck, ack-or}
+use Rattle.session.specs.Laws.Series.{isAck, ack-or}
 use Rattle.session.specs.Laws.Starts.{piece-carried}
 use Rattle.session.specs.Laws.States.{phase-open}
 use Rattle.session.specs.Laws.Out.{Out, erases, writes, verifies, runs, out-after}
 use Rattle.session.specs.Phases.{ended, packetOut, verifyAt, phaseAt, placeOf}
 use Rattle.session.specs.Plan.{total, pieceBytes}
-use Rattle.session.specs.Session.{marked}
+use Rattle.session.specs.Session.{marked, failing}
 use Rattle.session.specs.declared.event.Event.{Event}
 use Rattle.session.specs.declared.phase.Outcome.{Outcome}
 use Rattle.session.specs.declared.phase.Phase.{Phase}

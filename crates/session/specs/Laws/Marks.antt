@@ -21,19 +21,12 @@ use Rattle.session.specs.Laws.Fits.{fitting}
 use Rattle.session.specs.Laws.Phases.{ranked-is, ranked-by, stands-below, stands-at, at-stands}
 use Rattle.session.specs.Laws.Plan.{plan-at}
 use Rattle.session.specs.Laws.States.{stands-run}
-use Rattle.session.specs.Phases.{packetOut, verifyAt, phaseAt, standsIn}
+use Rattle.session.specs.Phases.{packetOut, verifyAt, standsIn}
 use Rattle.session.specs.Plan.{verifyPacket, plan, total, beforeRun}
-use Rattle.session.specs.Session.{fitsOf, marked, provedOf}
+use Rattle.session.specs.Session.{fitsOf, marked, provedOf, Held}
 use Rattle.session.specs.declared.phase.Phase.{Phase}
 use Rattle.session.specs.declared.phase.RunKind.{RunKind}
 use Rattle.session.specs.declared.session.Session.{Session}
-
--- the packet after j acknowledgements is the V of the piece at s, which holds the byte at a
-pub record Held (m : List ℕ) (j s a : ℕ) : Type 0 where
-  pub planned : j < total m
-  pub phase : phaseAt m j ≡ verifyAt s
-  pub from : s ≤ a
-  pub below : a < s + pieceLen m s
 
 module _ (m : List ℕ) where
   -- the ACK to it marks the byte

@@ -6,16 +6,16 @@ use mathlib.Core.List.{List, [], _∷_, _++_}
 use mathlib.Core.Path.{_≡_, refl, sym, ap, subst, _∙_}
 use native.Mathlib.Omega.{arith}
 use borrow.Author.Tests.{ltb-true, ltb-false}
-use lib.Dec.{eqb, ltb}
+use lib.Dec.{ltb}
 use lib.ListN.{length, replicate}
 use Rattle.basis.specs.Board.{mapSize}
 use Rattle.basis.specs.Choice.{pick}
 use Rattle.basis.specs.Laws.Choice.{decide, true-false}
 use Rattle.runs.specs.Pieces.{namedCount}
 use Rattle.session.specs.Laws.States.{phase-open, phase-later, greeting-state, ack-next, ack-last}
-use Rattle.session.specs.Phases.{ended, phaseAt}
+use Rattle.session.specs.Phases.{ended, phaseAt, isValid}
 use Rattle.session.specs.Plan.{total, beforeRun}
-use Rattle.session.specs.Session.{sessionIn, atGreeting, stateAt, valid, judgeOf, heardOf, tookOf, series}
+use Rattle.session.specs.Session.{sessionIn, atGreeting, stateAt, valid, judgeOf, heardOf, tookOf, series, Came, waits, stands, fails, ends, failing}
 use Rattle.session.specs.declared.event.Event.{Event}
 use Rattle.session.specs.declared.phase.Outcome.{Outcome}
 use Rattle.session.specs.declared.phase.Phase.{Phase}
@@ -41,34 +41,19 @@ silence-ends m s = go (s .phase)
     go Phase.Run = refl
     go (Phase.Ended o) = refl
 
--- an outcome that k acknowledgements allow, other than valid: 42 only before the first packet
-abbrev pub failing : Outcome → ℕ → Bool
-failing Outcome.Valid k = false
-failing Outcome.Silence k = true
-failing Outcome.Bel k = true
-failing Outcome.NoGreeting k = eqb k 0
-failing Outcome.Other k = true
-
--- what a start and events lead to: it waits for the greeting, has k acknowledged, has failed with k acknowledged, or is valid
-pub data Came (m : List ℕ) (kind : RunKind) (s : Session) : Type 0 where
-  waits : s ≡ atGreeting m kind → Came m kind s
-  stands : (k : ℕ) → k < total m → s ≡ stateAt m kind k → Came m kind s
-  fails : (o : Outcome) (k : ℕ) → k < total m → failing o k ≡ true → s ≡ sessionIn m kind (Phase.Ended o) k → Came m kind s
-  ends : s ≡ valid m kind → Came m kind s
-
 -- its counts are the file's: no total is invented
 module _ (m : List ℕ) (kind : RunKind) (s : Session) where
+  came-in : Came m kind s → (ph : Phase) × (k : ℕ) × (s ≡ sessionIn m kind ph k)
+  came-in (waits e) = (Phase.Greeting, 0, e)
+  came-in (stands k l e) = (phaseAt m k, k, e)
+  came-in (fails o k l f e) = (Phase.Ended o, k, e)
+  came-in (ends e) = (Phase.Ended Outcome.Valid, total m, e)
+
   pub came-total : Came m kind s → s .total ≡ total m
-  came-total (waits e) = ap (λ (x : Session). x .total) e
-  came-total (stands k l e) = ap (λ (x : Session). x .total) e
-  came-total (fails o k l f e) = ap (λ (x : Session). x .total) e
-  came-total (ends e) = ap (λ (x : Session). x .total) e
+  came-total c = ap (λ (x : Session). x .total) (came-in c .2)
 
   pub came-named : Came m kind s → s .named ≡ namedCount m
-  came-named (waits e) = ap (λ (x : Session). x .named) e
-  came-named (stands k l e) = ap (λ (x : Session). x .named) e
-  came-named (fails o k l f e) = ap (λ (x : Session). x .named) e
-  came-named (ends e) = ap (λ (x : Session). x .named) e
+  came-named c = ap (λ (x : Session). x .named) (came-in c .2)
 
 abbrev pub isAck : Event → Bool
 isAck Event.Greeting = false
@@ -76,18 +61,6 @@ isAck Event.Ack = true
 isAck Event.Bel = false
 isAck Event.Other = false
 isAck Event.Silence = false
-
-abbrev isValid : Phase → Bool
-isValid Phase.Greeting = false
-isValid (Phase.Erase p) = false
-isValid (Phase.Write a) = false
-isValid (Phase.Verify a) = false
-isValid Phase.Run = false
-isValid (Phase.Ended Outcome.Valid) = true
-isValid (Phase.Ended Outcome.Silence) = false
-isValid (Phase.Ended Outcome.Bel) = false
-isValid (Phase.Ended Outcome.NoGreeting) = false
-isValid (Phase.Ended Outcome.Other) = false
 
 pub ack-or : {R : Type 0} (e : Event) → (e ≡ Event.Ack → R) → (isAck e ≡ false → R) → R
 ack-or Event.Greeting f g = g refl

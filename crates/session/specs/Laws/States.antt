@@ -2,7 +2,7 @@
 use Prim.Native.Nat.{ℕ, _+_, _≤_, _<_}
 use mathlib.Core.Bool.{Bool, true, false}
 use mathlib.Core.List.{List, []}
-use mathlib.Core.Logic.{_⊎_, inl, inr}
+use mathlib.Core.Logic.{inl, inr}
 use mathlib.Core.Path.{_≡_, refl, sym, ap, _∙_}
 use native.Mathlib.Omega.{arith}
 use borrow.Author.Tests.{eqb-true, le-ltb}
@@ -19,7 +19,7 @@ use Rattle.session.specs.Laws.Plan.{plan-at}
 use Rattle.session.specs.Laws.Steps.{step-taken}
 use Rattle.session.specs.Phases.{ended, packetOut, eraseAt, writeAt, verifyAt, phaseAt, nextRun, nextPiece, afterOf, standsIn}
 use Rattle.session.specs.Plan.{plan, total, beforeRun}
-use Rattle.session.specs.Session.{sessionIn, atGreeting, stateAt, valid, Sent, rightSizes, judgeLaterOf, judgeOf, tookOf, sent, fitsOf, stepOf}
+use Rattle.session.specs.Session.{sessionIn, atGreeting, stateAt, valid, Sent, rightSizes, judgeLaterOf, judgeOf, tookOf, sent, fitsOf, stepOf, Reached}
 use Rattle.session.specs.declared.event.Event.{Event}
 use Rattle.session.specs.declared.phase.Outcome.{Outcome}
 use Rattle.session.specs.declared.phase.Phase.{Phase}
@@ -121,10 +121,7 @@ module _ (m : List ℕ) (long : length m ≡ mapSize) (some : 0 < namedCount m) 
     pub state-fits : (k : ℕ) → k < total m → fitsOf m (stateAt m kind k) ≡ true
     state-fits k l = fits-by m (stateAt m kind k) (record { some = some; named-is = refl; total-is = refl; stands = at-stands m k l })
 
--- and no other: a record that fits a file waits for its greeting, or is the state after the acknowledgements that it counts
-abbrev pub Reached : List ℕ → Session → Type 0
-Reached m s = (s ≡ atGreeting m (s .kind)) ⊎ ((s .acknowledged < total m) × (s ≡ stateAt m (s .kind) (s .acknowledged)))
-
+-- and no other
 pub fits-reached : (m : List ℕ) → length m ≡ mapSize → (s : Session) → fitsOf m s ≡ true → (0 < namedCount m) × Reached m s
 fits-reached m long s h = (f .some, go (s .phase) refl)
   where
@@ -152,20 +149,25 @@ module _ (image m : List ℕ) (room : ℕ) (kind : RunKind) (right : rightSizes 
   pub step-state : (k : ℕ) (e : Event) → k < total m → stepOf image m room (stateAt m kind k) e ≡ given (sent image m (stateAt m kind k) e)
   step-state k e l = step-taken image m room (stateAt m kind k) e right (phase-open m k) (state-fits m long some kind k l)
 
+  -- the k-th state sends the k-th packet of the plan
+  packet-sent : (k : ℕ) → k < total m → {s : Session} → s ≡ stateAt m kind k
+      → _≡_ {A = Sent} (record { session = s; packet = packetOut image m kind (s .phase) })
+      (record { session = stateAt m kind k; packet = getD (plan image m kind) k [] })
+  packet-sent k l e =
+      ap (λ (s : Session). record { session = s; packet = packetOut image m kind (s .phase) }) e
+      ∙ ap (λ (p : List ℕ). record { session = stateAt m kind k; packet = p }) (sym (plan-at image m kind k [] l))
+
   -- the greeting brings the first packet of the plan, each ACK the next, and the last none
-  pub step-greeting : stepOf image m room (atGreeting m kind) Event.Greeting ≡ given (record { session = stateAt m kind 0; packet = getD (plan image m kind) 0 [] })
+  pub step-greeting : stepOf image m room (atGreeting m kind) Event.Greeting
+      ≡ given (record { session = stateAt m kind 0; packet = getD (plan image m kind) 0 [] })
   step-greeting =
       step-taken image m room (atGreeting m kind) Event.Greeting right refl (waiting-fits m long some kind)
-      ∙ ap given (sending 0 (omega arith) (greeting-state m long some kind))
-    where
-      sending : (k : ℕ) → k < total m → {s : Session} → s ≡ stateAt m kind k → _≡_ {A = Sent} (record { session = s; packet = packetOut image m kind (s .phase) }) (record { session = stateAt m kind k; packet = getD (plan image m kind) k [] })
-      sending k l e = ap (λ (s : Session). record { session = s; packet = packetOut image m kind (s .phase) }) e ∙ ap (λ (p : List ℕ). record { session = stateAt m kind k; packet = p }) (sym (plan-at image m kind k [] l))
+      ∙ ap given (packet-sent 0 (omega arith) (greeting-state m long some kind))
 
-  pub step-ack : (k : ℕ) → k + 1 < total m → stepOf image m room (stateAt m kind k) Event.Ack ≡ given (record { session = stateAt m kind (k + 1); packet = getD (plan image m kind) (k + 1) [] })
+  pub step-ack : (k : ℕ) → k + 1 < total m → stepOf image m room (stateAt m kind k) Event.Ack
+      ≡ given (record { session = stateAt m kind (k + 1); packet = getD (plan image m kind) (k + 1) [] })
   step-ack k l =
-      step-state k Event.Ack (omega arith)
-      ∙ ap (λ (s : Session). given (record { session = s; packet = packetOut image m kind (s .phase) })) (ack-next m long some kind k l)
-      ∙ ap (λ (p : List ℕ). given (record { session = stateAt m kind (k + 1); packet = p })) (sym (plan-at image m kind (k + 1) [] l))
+      step-state k Event.Ack (omega arith) ∙ ap given (packet-sent (k + 1) l (ack-next m long some kind k l))
 
   pub step-last : (k : ℕ) → k + 1 ≡ total m → stepOf image m room (stateAt m kind k) Event.Ack ≡ given (record { session = valid m kind; packet = [] })
   step-last k l =
