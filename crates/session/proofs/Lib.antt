@@ -1,5 +1,5 @@
 -- Lemmas that serve the proofs of this crate's functions.
-pub mod Building
+pub mod Turns
 pub mod Surveys
 pub mod Fits
 pub mod Marks

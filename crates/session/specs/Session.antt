@@ -102,8 +102,8 @@ heardOf m s (Meaning.Over o) = movedOf s (Phase.Ended o) 0
 unfoldable pub tookOf : List ℕ → Session → Event → Session
 tookOf m s e = heardOf m s (judgeOf (s .phase) e)
 
-abbrev pub sent : List ℕ → List ℕ → Session → Event → Sent
-sent image m s e = record { session = tookOf m s e; packet = packetOut image m (s .kind) (tookOf m s e .phase) }
+abbrev pub sentOf : List ℕ → List ℕ → Session → Event → Sent
+sentOf image m s e = record { session = tookOf m s e; packet = packetOut image m (s .kind) (tookOf m s e .phase) }
 
 -- some start and acknowledgements over this file lead to such a session: its counts are the file's, and its cursor stands where they lead
 unfoldable pub fitsOf : List ℕ → Session → Bool
@@ -120,7 +120,7 @@ stepOf image m room s e =
     (20 when not (rightSizes (length image) (length m) room)
     ∷ 44 when ended (s .phase)
     ∷ 46 when not (fitsOf m s) ∷ [])
-    (given (sent image m s e))
+    (given (sentOf image m s e))
 
 -- a series of events over one file; one after the end changes nothing
 unfoldable pub series : List ℕ → Session → List Event → Session

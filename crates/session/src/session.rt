@@ -11,7 +11,7 @@ ghost use Rattle.packet.specs.Packet.{packetMost};
 ghost use Rattle.session.specs.Events.{classifyOf};
 ghost use Rattle.session.specs.Paper.{paperRefusal, paperStepped, paperMark};
 ghost use Rattle.session.specs.Phases.{atStart};
-ghost use Rattle.session.specs.Session.{measured, sentBytes, rightSizes, started, judgeFirstOf, judgeLaterOf, judgeOf, movedOf, heardOf, tookOf, sent, fitsOf, stepOf, provedOf};
+ghost use Rattle.session.specs.Session.{measured, sentBytes, rightSizes, started, judgeFirstOf, judgeLaterOf, judgeOf, movedOf, heardOf, tookOf, sentOf, fitsOf, stepOf, provedOf};
 use crate::cursor::after;
 use crate::cursor::place;
 use crate::event::Event;
@@ -138,7 +138,7 @@ impl Session {
             return Stepped::Refused(Refusal::Foreign);
         }
         let event = classify(silent, answer);
-        Stepped::Next(self.take(event, image, map, buffer))
+        Stepped::Next(self.sent(event, image, map, buffer))
     }
 
     // Whether the byte is marked: the V of its piece is among the packets acknowledged.
@@ -198,10 +198,10 @@ impl Session {
     }
 
     // An event that is not refused.
-    fn take(self, event: Event, image: &[u8], map: &[u8], buffer: &mut [u8]) -> Next
+    fn sent(self, event: Event, image: &[u8], map: &[u8], buffer: &mut [u8]) -> Next
         requires { ⌜ (length (now image) ≡ flashSize) × (length (now map) ≡ mapSize) × (packetMost ≤ length (now buffer)) × (fitsOf (now map) self ≡ true) ⌝ }
         ensures { λ r. ⌜
-            (let a = sent (now (image .entry)) (now (map .entry)) self event in
+            (let a = sentOf (now (image .entry)) (now (map .entry)) self event in
             (r .session ≡ a .session) × (r .len ≡ length (a .packet)) × (now (buffer .exit) ≡ overlay (a .packet) (now (buffer .entry))))
             ⌝ }
     {

@@ -1,29 +1,21 @@
 -- Laws of 46: what it is that a session fits a file.
-use Prim.Native.Nat.{ℕ, _≤_, _<_}
+use Prim.Native.Nat.{ℕ, _<_}
 use mathlib.Core.Bool.{true}
 use mathlib.Core.List.{List}
 use mathlib.Core.Path.{_≡_, refl}
-use borrow.Author.Tests.{eq-eqb, eqb-true, ltb-true, lt-ltb, leb-true}
-use lib.Dec.{eqb, leb, ltb}
+use borrow.Author.Tests.{eq-eqb, eqb-true, ltb-true, lt-ltb}
+use lib.Dec.{eqb, ltb}
 use lib.ListN.{length}
-use Rattle.basis.specs.Board.{flashSize, mapSize}
+use Rattle.basis.specs.Board.{mapSize}
 use Rattle.basis.specs.Laws.Choice.{both-true}
 use Rattle.runs.specs.Pieces.{namedCount}
 use Rattle.session.specs.Laws.Phases.{after-start}
 use Rattle.session.specs.Phases.{atStart, standsIn}
 use Rattle.session.specs.Plan.{total}
-use Rattle.session.specs.Session.{rightSizes, judgeOf, heardOf, tookOf, fitsOf}
+use Rattle.session.specs.Session.{judgeOf, heardOf, tookOf, fitsOf}
 use Rattle.session.specs.declared.event.Event.{Event}
 use Rattle.session.specs.declared.session.Session.{Session}
 use Rattle.session.specs.declared.session.Meaning.{Meaning}
-use Rattle.packet.specs.Packet.{packetMost}
-
--- what right sizes are
-pub sizes-right : (i m p : ℕ) → rightSizes i m p ≡ true → (i ≡ flashSize) × (m ≡ mapSize) × (packetMost ≤ p)
-sizes-right i m p e =
-    let a = both-true (eqb i flashSize) _ e in
-    let b = both-true (eqb m mapSize) (leb packetMost p) (a .1) in
-    (eqb-true i flashSize (a .0), eqb-true m mapSize (b .0), leb-true packetMost p (b .1))
 
 -- the file has a named byte, the session's counts are the file's, and its phase stands in the file
 pub record Fitting (m : List ℕ) (s : Session) : Type 0 where

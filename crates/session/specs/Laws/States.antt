@@ -19,7 +19,7 @@ use Rattle.session.specs.Laws.Plan.{plan-at}
 use Rattle.session.specs.Laws.Steps.{step-taken}
 use Rattle.session.specs.Phases.{ended, packetOut, eraseAt, writeAt, verifyAt, phaseAt, nextRun, nextPiece, afterOf, standsIn}
 use Rattle.session.specs.Plan.{plan, total, beforeRun}
-use Rattle.session.specs.Session.{sessionIn, atGreeting, stateAt, valid, Sent, rightSizes, judgeLaterOf, judgeOf, tookOf, sent, fitsOf, stepOf, Reached}
+use Rattle.session.specs.Session.{sessionIn, atGreeting, stateAt, valid, Sent, rightSizes, judgeLaterOf, judgeOf, tookOf, sentOf, fitsOf, stepOf, Reached}
 use Rattle.session.specs.declared.event.Event.{Event}
 use Rattle.session.specs.declared.phase.Outcome.{Outcome}
 use Rattle.session.specs.declared.phase.Phase.{Phase}
@@ -146,7 +146,7 @@ fits-reached m long s h = (f .some, go (s .phase) refl)
 
 module _ (image m : List ℕ) (room : ℕ) (kind : RunKind) (right : rightSizes (length image) (length m) room ≡ true) (long : length m ≡ mapSize) (some : 0 < namedCount m) where
   -- no event is refused
-  pub step-state : (k : ℕ) (e : Event) → k < total m → stepOf image m room (stateAt m kind k) e ≡ given (sent image m (stateAt m kind k) e)
+  pub step-state : (k : ℕ) (e : Event) → k < total m → stepOf image m room (stateAt m kind k) e ≡ given (sentOf image m (stateAt m kind k) e)
   step-state k e l = step-taken image m room (stateAt m kind k) e right (phase-open m k) (state-fits m long some kind k l)
 
   -- the k-th state sends the k-th packet of the plan

@@ -1,16 +1,32 @@
 -- `start` meets its contract: each test is a row of the table, in its order.
-use mathlib.Core.Path.{refl, sym, _∙_}
+use mathlib.Core.Path.{refl, sym, _∙_, _≡_}
 use native.Mathlib.Omega.{arith}
 use borrow.Author.Needs.{needs}
 use borrow.Author.Tests.{not-true, not-false}
 use lib.ListN.{length}
 use lib.Seq.{set-split}
-use Rattle.session.specs.Laws.Fits.{sizes-right}
-use Rattle.session.specs.Laws.Steps.{start-size, start-empty, start-given}
-use Rattle.session.proofs.Handing.{kept, handed, opened}
+use Rattle.session.specs.Laws.Steps.{start-size, start-empty, start-given, sizes-right}
+use Rattle.session.proofs.Handing.{kept, handed}
 use Rattle.session.proofs.Surveys.{told}
 use Rattle.session.proofs.session.Session.start.Statement.{statement}
 use Rattle.session.proofs.session.Session.start.Tie as tie
+use Prim.Native.Nat.{ℕ, _+_, _*_}
+use mathlib.Core.List.{List}
+use Rattle.runs.specs.Survey.{surveyOf}
+use Rattle.runs.specs.declared.survey.Surveyed.{Surveyed}
+use Rattle.session.specs.Plan.{total}
+use Rattle.session.specs.Session.{atGreeting}
+use Rattle.session.specs.declared.phase.Phase.{Phase}
+use Rattle.session.specs.declared.phase.RunKind.{RunKind}
+
+-- what a start makes of a survey is the session that waits
+opened : (m : List ℕ) (kind : RunKind) {f : Surveyed} {n : ℕ} → f ≡ surveyOf m 0 → n ≡ f .all .runs + 2 * f .all .pieces + 1
+    → record { kind = kind; phase = Phase.Greeting; acknowledged = 0; total = n; named = f .all .named } ≡ atGreeting m kind
+opened m kind {f} {n} e g =
+    let t = told m 0 e in
+    let p : n ≡ total m = omega (arith, t .runs, t .pieces) in
+    let q = t .bytes in
+    λ i. record { kind = kind; phase = Phase.Greeting; acknowledged = 0; total = p i; named = q i }
 
 right-sizes-requires : tie.Need-right-sizes-requires
 right-sizes-requires c κs = search needs

@@ -3,8 +3,7 @@ use mathlib.Core.Path.{sym, ap, _∙_}
 use borrow.Author.Needs.{needs}
 use borrow.Author.Tests.{not-true, not-false}
 use lib.ListN.{length}
-use Rattle.session.specs.Laws.Fits.{sizes-right}
-use Rattle.session.specs.Laws.Steps.{step-size, step-ended, step-foreign, step-taken}
+use Rattle.session.specs.Laws.Steps.{step-size, step-ended, step-foreign, step-taken, sizes-right}
 use Rattle.session.specs.Session.{stepOf}
 use Rattle.session.proofs.Handing.{kept, handed}
 use Rattle.session.proofs.session.Session.step.Statement.{statement}
@@ -31,8 +30,8 @@ returns-3 c = kept _ (step-foreign _ _ _ _ _ (sym (c .before .before .before .be
 classify-requires : tie.Need-classify-requires
 classify-requires c κs = search needs
 
-take-requires : tie.Need-take-requires
-take-requires c κs = let s = c .before .before .before .before .before .before .before .before .before .before .before .before .args in
+sent-requires : tie.Need-sent-requires
+sent-requires c κs = let s = c .before .before .before .before .before .before .before .before .before .before .before .before .args in
     let z = sizes-right (length (s .image .now)) (length (s .map .now)) (length (s .buffer .now)) (sym (c .before .before .before .before .before .before .before .right-sizes .ensures) ∙ not-false _ (c .before .before .before .before .before .before .if1 .left)) in
     (z .0, z .1, z .2, sym (c .before .before .before .fits2 .ensures) ∙ not-false _ (c .before .before .if3 .left))
 
@@ -41,7 +40,7 @@ same-length c = search needs
 
 returns-4 : tie.Need-returns-4
 returns-4 c = let s = c .before .before .before .before .before .before .before .before .before .before .before .before .before .before .before .args in
-    let t = c .before .before .take .ensures in
+    let t = c .before .before .sent .ensures in
     handed _ _ _
     (sym (ap (stepOf (s .image .now) (s .map .now) (length (s .buffer .now)) (s .self)) (c .before .before .before .before .classify .ensures))
     ∙ step-taken _ _ _ _ _ (sym (c .before .before .before .before .before .before .before .before .before .before .right-sizes .ensures) ∙ not-false _ (c .before .before .before .before .before .before .before .before .before .if1 .left)) (sym (c .before .before .before .before .before .before .before .before .ended .ensures) ∙ c .before .before .before .before .before .before .before .if2 .left) (sym (c .before .before .before .before .before .before .fits2 .ensures) ∙ not-false _ (c .before .before .before .before .before .if3 .left)))
@@ -58,6 +57,6 @@ step-spec =
     fits-requires
     returns-3
     classify-requires
-    take-requires
+    sent-requires
     same-length
     returns-4)

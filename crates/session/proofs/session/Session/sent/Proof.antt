@@ -1,4 +1,4 @@
--- `take` meets its contract: a session that fits has its cursor at a start, before and after the event.
+-- `sent` meets its contract: a session that fits has its cursor at a start, before and after the event.
 use mathlib.Core.Path.{ap, _∙_}
 use native.Mathlib.Omega.{arith}
 use borrow.Author.Needs.{needs}
@@ -9,8 +9,8 @@ use Rattle.session.specs.Laws.Phases.{stands-below, stands-start}
 use Rattle.session.specs.Laws.Totals.{total-fits}
 use Rattle.session.specs.Phases.{atStart, packetOut}
 use Rattle.session.specs.declared.session.Session.{Session}
-use Rattle.session.proofs.session.Session.take.Statement.{statement}
-use Rattle.session.proofs.session.Session.take.Tie as tie
+use Rattle.session.proofs.session.Session.sent.Statement.{statement}
+use Rattle.session.proofs.session.Session.sent.Tie as tie
 
 took-requires : tie.Need-took-requires
 took-requires c κs = let s = c .before .before .before in
@@ -35,5 +35,5 @@ returns c = let s = c .before .before .before .before .before .before .before .b
       c .before .before .send .ensures .1 ∙ ap (λ (x : Session). overlay (packetOut (s .image .now) (s .map .now) (s .self .kind) (x .phase)) (s .buffer .now)) e,
     )
 
-pub take-spec : {M : Type 1} → statement M
-take-spec = tie.close (tie.spec took-requires send-requires same-length returns)
+pub sent-spec : {M : Type 1} → statement M
+sent-spec = tie.close (tie.spec took-requires send-requires same-length returns)
