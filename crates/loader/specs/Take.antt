@@ -29,8 +29,8 @@ left Serving = false
 left Left = true
 
 -- the one-byte input 08
-abbrev pub opens : List ℕ → Bool
-opens s = both (eqb (length s) 1) (eqb (getD s 0 0) 0x08)
+abbrev pub opensBoard : List ℕ → Bool
+opensBoard s = both (eqb (length s) 1) (eqb (getD s 0 0) 0x08)
 
 -- the bytes after a packet's address, as they were sent
 abbrev pub dataIn : List ℕ → Parts → List ℕ
@@ -46,7 +46,7 @@ serveOf k l s f = obeyed k l s f (readOf s)
 
 -- 11: left, or waiting and the input is not the single 08
 abbrev pub unheard : Condition → List ℕ → Bool
-unheard c s = either (left c) (both (waiting c) (not (opens s)))
+unheard c s = either (left c) (both (waiting c) (not (opensBoard s)))
 
 -- waiting takes that byte and serves
 unfoldable pub hearOf : ℕ → Loader → List ℕ → List ℕ → Answer Effect

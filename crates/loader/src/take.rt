@@ -6,7 +6,7 @@ ghost use Rattle.basis.specs.Board.{pages, flashSize, answerMost};
 ghost use Rattle.basis.specs.Lists.{overlay};
 ghost use Rattle.loader.specs.Commands.{Does};
 ghost use Rattle.loader.specs.Paper.{paperRefusal, paperVerdict};
-ghost use Rattle.loader.specs.Take.{waiting, opens, serveOf, hearOf, takeOf, quiet, tellOf, Takes};
+ghost use Rattle.loader.specs.Take.{waiting, opensBoard, serveOf, hearOf, takeOf, quiet, tellOf, Takes};
 ghost use Rattle.packet.specs.Paper.{paperRefusal as paperUnread};
 use crate::obey::obey;
 use crate::state::Condition;
@@ -74,7 +74,7 @@ fn hear(loader: Loader, input: &[u8], flash: &mut [u8]) -> Acted
     let condition = loader.condition;
     match condition {
         Condition::Waiting => {
-            if !is_opening(input) {
+            if !opens_board(input) {
                 return Acted {
                     loader,
                     verdict: Verdict::Refused(Refusal::Unheard),
@@ -93,8 +93,8 @@ fn hear(loader: Loader, input: &[u8], flash: &mut [u8]) -> Acted
     }
 }
 
-fn is_opening(input: &[u8]) -> bool
-    ensures { λ r. ⌜ r ≡ opens (now (input .entry)) ⌝ }
+fn opens_board(input: &[u8]) -> bool
+    ensures { λ r. ⌜ r ≡ opensBoard (now (input .entry)) ⌝ }
 {
     if input.len() != 1 {
         return false;

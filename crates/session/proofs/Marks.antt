@@ -49,9 +49,9 @@ module _ (m : List ℕ) (s : Session) (a : ℕ) where
           (λ d. omega (arith, t .pieces-below, g ∙ ap (λ (b : Bool). pick b 1 0) (t .piece ∙ d), count-yes (pieceStarts m) a d))
           (λ d. omega (arith, t .pieces-below, g ∙ ap (λ (b : Bool). pick b 1 0) (t .piece ∙ d), count-no (pieceStarts m) a d)))
 
-      pub mark-open : named m a ≡ true → s .acknowledged < f .all .runs + f .all .pieces + (f .below .pieces + n) → given false ≡ provedOf m s a
+      pub mark-unproved : named m a ≡ true → s .acknowledged < f .all .runs + f .all .pieces + (f .below .pieces + n) → given false ≡ provedOf m s a
       unfolding marked
-      mark-open h l =
+      mark-unproved h l =
           let t = told m a e in
           let u : s .acknowledged < runCount m + pieceCount m + count (pieceStarts m) (a + 1) = omega (arith, t .runs, t .pieces, rank) in
           mark-given (both-second _ _ h ∙ lt-leb _ _ u)

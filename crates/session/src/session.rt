@@ -74,7 +74,7 @@ pub enum Stepped {
 
 pub enum Mark {
     Proved,
-    Open,
+    Unproved,
     // The map has the wrong size.
     Size,
 }
@@ -149,17 +149,17 @@ impl Session {
             return Mark::Size;
         }
         if END <= address.0 {
-            return Mark::Open;
+            return Mark::Unproved;
         }
         if !named(map, address) {
-            return Mark::Open;
+            return Mark::Unproved;
         }
         let found = survey(map, address);
         let all = found.all;
         let below = found.below;
         let pieces = below.pieces + one(found.piece);
         if self.acknowledged < all.runs + all.pieces + pieces {
-            return Mark::Open;
+            return Mark::Unproved;
         }
         Mark::Proved
     }

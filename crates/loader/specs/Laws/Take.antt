@@ -12,7 +12,7 @@ use Rattle.basis.specs.Refusals.{refused, given, Answer, first}
 use Rattle.basis.specs.Units.{startOf}
 use Rattle.loader.specs.Commands.{obeyOf, Effect, effectAfter}
 use Rattle.loader.specs.State.{withCondition}
-use Rattle.loader.specs.Take.{opens, serveOf, hearOf, takeOf, waiting, obeyed, dataIn, unheard, sizesWrong}
+use Rattle.loader.specs.Take.{opensBoard, serveOf, hearOf, takeOf, waiting, obeyed, dataIn, unheard, sizesWrong}
 use Rattle.loader.specs.declared.state.Condition.the-variants.{Waiting, Serving, Left}
 use Rattle.loader.specs.declared.state.Loader.{Loader}
 use Rattle.packet.specs.Packet.{Parts, readOf}
@@ -21,21 +21,21 @@ use Rattle.basis.specs.Choice.{pick}
 
 module _ (k : ℕ) (l : Loader) (s f : List ℕ) where
   -- ---- by condition
-  pub heard-waiting : l .condition ≡ Waiting → opens s ≡ true → hearOf k l s f ≡ given (record { loader = withCondition l Serving; flash = f })
+  pub heard-waiting : l .condition ≡ Waiting → opensBoard s ≡ true → hearOf k l s f ≡ given (record { loader = withCondition l Serving; flash = f })
   unfolding hearOf
   heard-waiting c o = rw c (skip 11 _ _ _ (ap not o) ∙ done _)
 
-  pub heard-closed : l .condition ≡ Waiting → opens s ≡ false → hearOf k l s f ≡ refused 11
+  pub waiting-unheard : l .condition ≡ Waiting → opensBoard s ≡ false → hearOf k l s f ≡ refused 11
   unfolding hearOf
-  heard-closed c o = rw c (stop 11 _ _ _ (ap not o))
+  waiting-unheard c o = rw c (stop 11 _ _ _ (ap not o))
 
   pub heard-serving : l .condition ≡ Serving → hearOf k l s f ≡ serveOf k l s f
   unfolding hearOf
   heard-serving c = rw c (skip 11 _ _ _ refl ∙ done _)
 
-  pub heard-left : l .condition ≡ Left → hearOf k l s f ≡ refused 11
+  pub left-unheard : l .condition ≡ Left → hearOf k l s f ≡ refused 11
   unfolding hearOf
-  heard-left c = rw c (stop 11 _ _ _ refl)
+  left-unheard c = rw c (stop 11 _ _ _ refl)
 
   -- ---- by what is read
   pub served-unread : {n : ℕ} → readOf s ≡ refused n → serveOf k l s f ≡ refused n

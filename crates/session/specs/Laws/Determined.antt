@@ -43,13 +43,13 @@ step-determined a r s x y old p q = (determined paperStepped stepped-one r s (p 
 -- asking for a mark
 mark-one : (r s : Mark) → paperMark r ≡ paperMark s → r ≡ s
 mark-one Mark.Proved Mark.Proved e = refl
-mark-one Mark.Proved Mark.Open e = absurd (true-false (given-one e))
+mark-one Mark.Proved Mark.Unproved e = absurd (true-false (given-one e))
 mark-one Mark.Proved Mark.Size e = absurd (apart (sym e))
-mark-one Mark.Open Mark.Proved e = absurd (true-false (sym (given-one e)))
-mark-one Mark.Open Mark.Open e = refl
-mark-one Mark.Open Mark.Size e = absurd (apart (sym e))
+mark-one Mark.Unproved Mark.Proved e = absurd (true-false (sym (given-one e)))
+mark-one Mark.Unproved Mark.Unproved e = refl
+mark-one Mark.Unproved Mark.Size e = absurd (apart (sym e))
 mark-one Mark.Size Mark.Proved e = absurd (apart e)
-mark-one Mark.Size Mark.Open e = absurd (apart e)
+mark-one Mark.Size Mark.Unproved e = absurd (apart e)
 mark-one Mark.Size Mark.Size e = refl
 
 pub proved-determined : {a : Answer Bool} (r s : Mark) → paperMark r ≡ a → paperMark s ≡ a → r ≡ s

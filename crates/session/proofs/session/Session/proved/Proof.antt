@@ -3,7 +3,7 @@ use mathlib.Core.Path.{sym, _∙_}
 use native.Mathlib.Omega.{arith}
 use borrow.Author.Needs.{needs}
 use borrow.Author.Tests.{not-true, not-false}
-use Rattle.session.proofs.Marks.{mark-size, mark-past, mark-unnamed, mark-open, mark-proved, rank-few}
+use Rattle.session.proofs.Marks.{mark-size, mark-past, mark-unnamed, mark-unproved, mark-proved, rank-few}
 use Rattle.session.proofs.Surveys.{told}
 use Rattle.session.proofs.session.Session.proved.Statement.{statement}
 use Rattle.session.proofs.session.Session.proved.Tie as tie
@@ -36,7 +36,7 @@ add-if4-2 : tie.Need-add-if4-2
 add-if4-2 c = let s = c .before .before .before .before .before .before .before .before .before .before .before .before .args in omega (arith, told (s .map .now) (s .address .0) (c .before .before .before .before .before .survey .ensures), rank-few (s .map .now) (s .address .0) (c .before .before .before .before .before .survey .ensures) (c .before .before .one .ensures) (c .before .before .before .before .before .before .before .before .if2 .left))
 
 returns-4 : tie.Need-returns-4
-returns-4 c = mark-open _ _ _ (c .before .before .before .before .before .before .before .before .before .before .before .before .if1 .left) (c .before .before .before .before .before .before .before .survey .ensures) (c .before .before .before .before .one .ensures) (sym (c .before .before .before .before .before .before .before .before .before .named .ensures) ∙ not-false _ (c .before .before .before .before .before .before .before .before .if3 .left)) (c .if4 .taken)
+returns-4 c = mark-unproved _ _ _ (c .before .before .before .before .before .before .before .before .before .before .before .before .if1 .left) (c .before .before .before .before .before .before .before .survey .ensures) (c .before .before .before .before .one .ensures) (sym (c .before .before .before .before .before .before .before .before .before .named .ensures) ∙ not-false _ (c .before .before .before .before .before .before .before .before .if3 .left)) (c .if4 .taken)
 
 returns-5 : tie.Need-returns-5
 returns-5 c = mark-proved _ _ _ (c .before .before .before .before .before .before .before .before .before .before .before .before .if1 .left) (c .before .before .before .before .before .before .before .survey .ensures) (c .before .before .before .before .one .ensures) (sym (c .before .before .before .before .before .before .before .before .before .named .ensures) ∙ not-false _ (c .before .before .before .before .before .before .before .before .if3 .left)) (c .if4 .left)

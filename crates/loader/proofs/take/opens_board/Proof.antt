@@ -1,12 +1,12 @@
--- `is_opening` meets its contract: one byte, and that is 08.
+-- `opens_board` meets its contract: one byte, and that is 08.
 use mathlib.Core.Path.{sym}
 use borrow.Author.Needs.{needs}
 use borrow.Author.Tests.{eq-eqb, ne-eqb}
 use lib.Dec.{eqb}
 use lib.ListN.{length, getD}
 use Rattle.basis.specs.Laws.Choice.{both-second, both-false}
-use Rattle.loader.proofs.take.is_opening.Statement.{statement}
-use Rattle.loader.proofs.take.is_opening.Tie as tie
+use Rattle.loader.proofs.take.opens_board.Statement.{statement}
+use Rattle.loader.proofs.take.opens_board.Tie as tie
 
 returns : tie.Need-returns
 returns c = let s = c .before .args .input .now in sym (both-false (eqb (length s) 1) (eqb (getD s 0 0) 0x08) (ne-eqb _ _ (c .if1 .taken)))
@@ -17,5 +17,5 @@ shared-slice-read-result c = search needs
 returns-2 : tie.Need-returns-2
 returns-2 c = let s = c .before .before .args .input .now in sym (both-second (eqb (length s) 1) (eqb (getD s 0 0) 0x08) (eq-eqb _ _ (c .before .if1 .left)))
 
-pub is-opening-spec : {M : Type 1} → statement M
-is-opening-spec = tie.close (tie.spec returns shared-slice-read-result returns-2)
+pub opens-board-spec : {M : Type 1} → statement M
+opens-board-spec = tie.close (tie.spec returns shared-slice-read-result returns-2)
