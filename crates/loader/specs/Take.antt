@@ -5,7 +5,7 @@ use mathlib.Core.List.{List, [], _∷_}
 use mathlib.Core.Path.{_≡_}
 use lib.Dec.{ltb, eqb}
 use lib.ListN.{length, getD, take, drop}
-use Rattle.basis.specs.Board.{greeting, answerMost}
+use Rattle.basis.specs.Board.{greeting, answerMost, openingByte}
 use Rattle.basis.specs.Choice.{pick, both, either}
 use Rattle.basis.specs.Lists.{overlay}
 use Rattle.basis.specs.Refusals.{Answer, refused, given, _when_, first, bare}
@@ -30,7 +30,7 @@ left Left = true
 
 -- the one-byte input 08
 abbrev pub opensBoard : List ℕ → Bool
-opensBoard s = both (eqb (length s) 1) (eqb (getD s 0 0) 0x08)
+opensBoard s = both (eqb (length s) 1) (eqb (getD s 0 0) openingByte)
 
 -- the bytes after a packet's address, as they were sent
 abbrev pub dataIn : List ℕ → Parts → List ℕ

@@ -16,6 +16,7 @@ use crate::verdict::Refusal;
 use crate::verdict::Verdict;
 use basis::board::ANSWER;
 use basis::board::GREETING;
+use basis::board::OPENING;
 use basis::board::SIZE;
 use basis::buffers::write;
 use packet::read::Reading;
@@ -99,7 +100,7 @@ fn opens_board(input: &[u8]) -> bool
     if input.len() != 1 {
         return false;
     }
-    input[0] == 0x08
+    input[0] == OPENING
 }
 
 fn serve(loader: Loader, input: &[u8], flash: &mut [u8]) -> Acted

@@ -4,7 +4,7 @@ use mathlib.Core.Bool.{Bool, not, true, false}
 use mathlib.Core.List.{List, [], _∷_}
 use lib.Dec.{eqb, leb, ltb}
 use lib.ListN.{length}
-use Rattle.basis.specs.Board.{flashSize, mapSize}
+use Rattle.basis.specs.Board.{flashSize, mapSize, openingByte}
 use Rattle.basis.specs.Choice.{pick, both}
 use Rattle.basis.specs.Refusals.{Answer, refused, given, _when_, first}
 use Rattle.runs.specs.Map.{named}
@@ -61,7 +61,7 @@ started image m room kind =
     first
     (20 when not (rightSizes (length image) (length m) room)
     ∷ 32 when eqb (namedCount m) 0 ∷ [])
-    (given (record { session = atGreeting m kind; packet = 0x08 ∷ [] }))
+    (given (record { session = atGreeting m kind; packet = openingByte ∷ [] }))
 
 -- first the greeting, else 42; silence is 40 everywhere
 abbrev pub judgeFirstOf : Event → Meaning

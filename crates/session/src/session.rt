@@ -22,6 +22,7 @@ use crate::phase::RunKind;
 use crate::sending::send;
 use basis::board::END;
 use basis::board::MAP;
+use basis::board::OPENING;
 use basis::board::SIZE;
 use basis::units::Address;
 use packet::build::PACKET;
@@ -102,7 +103,7 @@ impl Session {
         if all.named == 0 {
             return Stepped::Refused(Refusal::Empty);
         }
-        buffer[0] = 0x08;
+        buffer[0] = OPENING;
         let session = Session {
             kind,
             phase: Phase::Greeting,

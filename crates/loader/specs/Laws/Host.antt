@@ -19,12 +19,12 @@ use Rattle.loader.specs.declared.state.Loader.{Loader}
 use Rattle.packet.specs.Laws.Packet.{packet-data, carried-plainly, read-erase, read-write, read-verify, read-run}
 use Rattle.packet.specs.Packet.{carriedOf, packet, Parts, said, readOf, dataMost}
 use Rattle.packet.specs.Turn.{turnedOf}
-use Rattle.basis.specs.Board.{answerMost}
+use Rattle.basis.specs.Board.{answerMost, openingByte}
 
 module _ (k : ℕ) (l : Loader) (f : List ℕ) (room : ℕ) (size : length f ≡ startOf k) (fits : answerMost ≤ room) where
   -- the opening byte
-  pub sent-opening : l .condition ≡ Waiting → takeOf k l (0x08 ∷ []) f room ≡ given (record { loader = withCondition l Serving; flash = f })
-  sent-opening c = take-heard k l (0x08 ∷ []) f room size fits ∙ heard-waiting k l (0x08 ∷ []) f c refl
+  pub sent-opening : l .condition ≡ Waiting → takeOf k l (openingByte ∷ []) f room ≡ given (record { loader = withCondition l Serving; flash = f })
+  sent-opening c = take-heard k l (openingByte ∷ []) f room size fits ∙ heard-waiting k l (openingByte ∷ []) f c refl
 
   module _ (c : l .condition ≡ Serving) where
     sent : (b a : ℕ) (d : List ℕ) → readOf (packet b a d) ≡ given (said b a d) → takeOf k l (packet b a d) f room ≡ obeyOf k l b a (map (carriedOf b) d) f

@@ -14,7 +14,7 @@ use Rattle.session.specs.declared.event.Event.{Event}
 use Rattle.session.specs.declared.phase.RunKind.{RunKind}
 use Rattle.session.specs.declared.session.Session.{Session}
 use lib.Dec.{eqb, leb}
-use Rattle.basis.specs.Board.{flashSize, mapSize}
+use Rattle.basis.specs.Board.{flashSize, mapSize, openingByte}
 use Rattle.basis.specs.Laws.Choice.{both-true}
 use Rattle.packet.specs.Packet.{packetMost}
 
@@ -35,7 +35,7 @@ module _ (image m : List ℕ) (room : ℕ) (kind : RunKind) where
     unfolding started
     start-empty e = skip 20 _ _ _ (ap not h) ∙ stop 32 _ _ _ (eq-eqb _ _ e)
 
-    pub start-given : (namedCount m ≡ 0 → ⊥) → started image m room kind ≡ given (record { session = atGreeting m kind; packet = 0x08 ∷ [] })
+    pub start-given : (namedCount m ≡ 0 → ⊥) → started image m room kind ≡ given (record { session = atGreeting m kind; packet = openingByte ∷ [] })
     unfolding started
     start-given n = skip 20 _ _ _ (ap not h) ∙ skip 32 _ _ _ (ne-eqb _ _ n) ∙ done _
 
