@@ -30,7 +30,11 @@ pub struct Taken {
 }
 
 pub fn take(loader: Loader, input: &[u8], flash: &mut [u8], answer: &mut [u8]) -> Taken
-    ensures { λ r. ⌜ Takes (takeOf pages loader (now (input .entry)) (now (flash .entry)) (length (now (answer .entry)))) loader (now (flash .entry)) (now (answer .entry)) (paperVerdict (r .verdict)) (r .loader) (r .answered) (now (flash .exit)) (now (answer .exit)) ⌝ }
+    ensures { λ r. ⌜
+        (let x = takeOf pages loader (now (input .entry)) (now (flash .entry)) (length (now (answer .entry))) in
+        Takes x loader (now (flash .entry)) (now (answer .entry)) (paperVerdict (r .verdict)) (r .loader)
+        (r .answered) (now (flash .exit)) (now (answer .exit)))
+        ⌝ }
 {
     if flash.len() != SIZE {
         return Taken {
@@ -70,7 +74,10 @@ fn is_waiting(loader: Loader) -> bool
 // What the condition lets in.
 fn hear(loader: Loader, input: &[u8], flash: &mut [u8]) -> Acted
     requires { ⌜ length (now flash) ≡ flashSize ⌝ }
-    ensures { λ r. ⌜ Does (hearOf pages loader (now (input .entry)) (now (flash .entry))) loader (now (flash .entry)) (paperVerdict (r .verdict)) (r .loader) (now (flash .exit)) ⌝ }
+    ensures { λ r. ⌜
+        (let x = hearOf pages loader (now (input .entry)) (now (flash .entry)) in
+        Does x loader (now (flash .entry)) (paperVerdict (r .verdict)) (r .loader) (now (flash .exit)))
+        ⌝ }
 {
     let condition = loader.condition;
     match condition {
@@ -105,7 +112,10 @@ fn opens_board(input: &[u8]) -> bool
 
 fn serve(loader: Loader, input: &[u8], flash: &mut [u8]) -> Acted
     requires { ⌜ length (now flash) ≡ flashSize ⌝ }
-    ensures { λ r. ⌜ Does (serveOf pages loader (now (input .entry)) (now (flash .entry))) loader (now (flash .entry)) (paperVerdict (r .verdict)) (r .loader) (now (flash .exit)) ⌝ }
+    ensures { λ r. ⌜
+        (let x = serveOf pages loader (now (input .entry)) (now (flash .entry)) in
+        Does x loader (now (flash .entry)) (paperVerdict (r .verdict)) (r .loader) (now (flash .exit)))
+        ⌝ }
 {
     match read(input) {
         Reading::Refused(why) => Acted {
@@ -125,7 +135,10 @@ fn serve(loader: Loader, input: &[u8], flash: &mut [u8]) -> Acted
 // The answer bytes of a verdict, and how many.
 fn tell(waiting: bool, verdict: Verdict, answer: &mut [u8]) -> usize
     requires { ⌜ answerMost ≤ length (now answer) ⌝ }
-    ensures { λ r. ⌜ (r ≡ length (tellOf waiting (paperVerdict verdict))) × (now (answer .exit) ≡ overlay (tellOf waiting (paperVerdict verdict)) (now (answer .entry))) ⌝ }
+    ensures { λ r. ⌜
+        (r ≡ length (tellOf waiting (paperVerdict verdict)))
+        × (now (answer .exit) ≡ overlay (tellOf waiting (paperVerdict verdict)) (now (answer .entry)))
+        ⌝ }
 {
     match verdict {
         Verdict::Accepted => {

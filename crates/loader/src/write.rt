@@ -17,7 +17,10 @@ use basis::units::Address;
 
 pub fn write(loader: Loader, address: Address, bytes: &[u8], flash: &mut [u8]) -> Acted
     requires { ⌜ length (now flash) ≡ flashSize ⌝ }
-    ensures { λ r. ⌜ Does (writing pages loader (address .0) (now (bytes .entry)) (now (flash .entry))) loader (now (flash .entry)) (paperVerdict (r .verdict)) (r .loader) (now (flash .exit)) ⌝ }
+    ensures { λ r. ⌜
+        (let x = writing pages loader (address .0) (now (bytes .entry)) (now (flash .entry)) in
+        Does x loader (now (flash .entry)) (paperVerdict (r .verdict)) (r .loader) (now (flash .exit)))
+        ⌝ }
 {
     match judge(loader, address, bytes.len()) {
         Verdict::Refused(why) => Acted {

@@ -112,7 +112,7 @@ standsIn m (Phase.Verify a) k = ranked (pieceStarts m) (runCount m + pieceCount 
 standsIn m Phase.Run k = eqb (beforeRun m) k
 standsIn m (Phase.Ended o) k = false
 
--- the address that a phase's cursor names: 0 where it has none, the board's end for a page that the board has not
+-- the address that a phase's cursor names: 0 where it has none, the board's end for a page past the board
 unfoldable pub placeOf : Phase → ℕ
 placeOf Phase.Greeting = 0
 placeOf (Phase.Erase p) = pick (leb pages (p .0)) flashSize (startOf (p .0))

@@ -92,7 +92,8 @@ impl Session {
     pub fn start(kind: RunKind, image: &[u8], map: &[u8], buffer: &mut [u8]) -> Stepped
         ensures { λ r. ⌜
             (let a = started (now (image .entry)) (now (map .entry)) (length (now (buffer .entry))) kind in
-            (paperStepped r ≡ measured a) × (now (buffer .exit) ≡ overlay (sentBytes a) (now (buffer .entry))))
+            (paperStepped r ≡ measured a)
+            × (now (buffer .exit) ≡ overlay (sentBytes a) (now (buffer .entry))))
             ⌝ }
     {
         if !right_sizes(image.len(), map.len(), buffer.len()) {
@@ -124,8 +125,10 @@ impl Session {
         buffer: &mut [u8],
     ) -> Stepped
         ensures { λ r. ⌜
-            (let a = stepOf (now (image .entry)) (now (map .entry)) (length (now (buffer .entry))) self (classifyOf silent (now (answer .entry))) in
-            (paperStepped r ≡ measured a) × (now (buffer .exit) ≡ overlay (sentBytes a) (now (buffer .entry))))
+            (let e = classifyOf silent (now (answer .entry)) in
+            let a = stepOf (now (image .entry)) (now (map .entry)) (length (now (buffer .entry))) self e in
+            (paperStepped r ≡ measured a)
+            × (now (buffer .exit) ≡ overlay (sentBytes a) (now (buffer .entry))))
             ⌝ }
     {
         if !right_sizes(image.len(), map.len(), buffer.len()) {
@@ -200,10 +203,14 @@ impl Session {
 
     // An event that is not refused.
     fn sent(self, event: Event, image: &[u8], map: &[u8], buffer: &mut [u8]) -> Next
-        requires { ⌜ (length (now image) ≡ flashSize) × (length (now map) ≡ mapSize) × (packetMost ≤ length (now buffer)) × (fitsOf (now map) self ≡ true) ⌝ }
+        requires { ⌜
+            (length (now image) ≡ flashSize) × (length (now map) ≡ mapSize)
+            × (packetMost ≤ length (now buffer)) × (fitsOf (now map) self ≡ true)
+            ⌝ }
         ensures { λ r. ⌜
             (let a = sentOf (now (image .entry)) (now (map .entry)) self event in
-            (r .session ≡ a .session) × (r .len ≡ length (a .packet)) × (now (buffer .exit) ≡ overlay (a .packet) (now (buffer .entry))))
+            (r .session ≡ a .session) × (r .len ≡ length (a .packet))
+            × (now (buffer .exit) ≡ overlay (a .packet) (now (buffer .entry))))
             ⌝ }
     {
         let session = self.took(event, map);
@@ -214,7 +221,10 @@ impl Session {
     }
 
     fn took(self, event: Event, map: &[u8]) -> Session
-        requires { ⌜ (length (now map) ≡ mapSize) × (atStart (now map) (self .phase) ≡ true) × (self .acknowledged < 2 ^ 31) ⌝ }
+        requires { ⌜
+            (length (now map) ≡ mapSize) × (atStart (now map) (self .phase) ≡ true)
+            × (self .acknowledged < 2 ^ 31)
+            ⌝ }
         ensures { λ r. ⌜ r ≡ tookOf (now (map .entry)) self event ⌝ }
     {
         let phase = self.phase;
@@ -224,7 +234,10 @@ impl Session {
 
     // On along the file, or over.
     fn heard(self, meaning: Meaning, map: &[u8]) -> Session
-        requires { ⌜ (length (now map) ≡ mapSize) × (atStart (now map) (self .phase) ≡ true) × (self .acknowledged < 2 ^ 31) ⌝ }
+        requires { ⌜
+            (length (now map) ≡ mapSize) × (atStart (now map) (self .phase) ≡ true)
+            × (self .acknowledged < 2 ^ 31)
+            ⌝ }
         ensures { λ r. ⌜ r ≡ heardOf (now (map .entry)) self meaning ⌝ }
     {
         let phase = self.phase;
