@@ -84,9 +84,12 @@ nextPiece m a = follow (named m) pieceMost flashSize a
 -- the phase that follows when the answer is the right one
 unfoldable pub afterOf : List ℕ → Phase → Phase
 afterOf m Phase.Greeting = eraseAt (lowestRun m)
-afterOf m (Phase.Erase p) = pick (ltb (nextRun m (p .0)) pages) (eraseAt (nextRun m (p .0))) (writeAt (lowestPiece m))
-afterOf m (Phase.Write a) = pick (ltb (nextPiece m (a .0)) flashSize) (writeAt (nextPiece m (a .0))) (verifyAt (lowestPiece m))
-afterOf m (Phase.Verify a) = pick (ltb (nextPiece m (a .0)) flashSize) (verifyAt (nextPiece m (a .0))) Phase.Run
+afterOf m (Phase.Erase p) =
+    pick (ltb (nextRun m (p .0)) pages) (eraseAt (nextRun m (p .0))) (writeAt (lowestPiece m))
+afterOf m (Phase.Write a) =
+    pick (ltb (nextPiece m (a .0)) flashSize) (writeAt (nextPiece m (a .0))) (verifyAt (lowestPiece m))
+afterOf m (Phase.Verify a) =
+    pick (ltb (nextPiece m (a .0)) flashSize) (verifyAt (nextPiece m (a .0))) Phase.Run
 afterOf m Phase.Run = Phase.Ended Outcome.Valid
 afterOf m (Phase.Ended o) = Phase.Ended o
 

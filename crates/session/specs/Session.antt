@@ -25,7 +25,8 @@ use mathlib.Core.Logic.{_⊎_}
 
 -- a session over a file, in a phase and with so many packets acknowledged
 abbrev pub sessionIn : List ℕ → RunKind → Phase → ℕ → Session
-sessionIn m kind phase k = record { kind = kind; phase = phase; acknowledged = k; total = total m; named = namedCount m }
+sessionIn m kind phase k =
+    record { kind = kind; phase = phase; acknowledged = k; total = total m; named = namedCount m }
 
 -- it waits for the greeting; or k packets are acknowledged; or all are
 abbrev pub atGreeting : List ℕ → RunKind → Session
@@ -103,7 +104,8 @@ unfoldable pub tookOf : List ℕ → Session → Event → Session
 tookOf m s e = heardOf m s (judgeOf (s .phase) e)
 
 abbrev pub sentOf : List ℕ → List ℕ → Session → Event → Sent
-sentOf image m s e = record { session = tookOf m s e; packet = packetOut image m (s .kind) (tookOf m s e .phase) }
+sentOf image m s e =
+    record { session = tookOf m s e; packet = packetOut image m (s .kind) (tookOf m s e .phase) }
 
 -- some start and acknowledgements over this file lead to such a session: its counts are the file's, and its cursor stands where they lead
 unfoldable pub fitsOf : List ℕ → Session → Bool
@@ -155,7 +157,8 @@ failing Outcome.Other k = true
 pub data Came (m : List ℕ) (kind : RunKind) (s : Session) : Type 0 where
   waits : s ≡ atGreeting m kind → Came m kind s
   stands : (k : ℕ) → k < total m → s ≡ stateAt m kind k → Came m kind s
-  fails : (o : Outcome) (k : ℕ) → k < total m → failing o k ≡ true → s ≡ sessionIn m kind (Phase.Ended o) k → Came m kind s
+  fails : (o : Outcome) (k : ℕ) → k < total m → failing o k ≡ true → s ≡ sessionIn m kind (Phase.Ended o) k
+      → Came m kind s
   ends : s ≡ valid m kind → Came m kind s
 
 -- the packet after j acknowledgements is the V of the piece at s, which holds the byte at a

@@ -23,11 +23,14 @@ use Rattle.basis.specs.Board.{answerMost, openingByte}
 
 module _ (k : ℕ) (l : Loader) (f : List ℕ) (room : ℕ) (size : length f ≡ startOf k) (fits : answerMost ≤ room) where
   -- the opening byte
-  pub sent-opening : l .condition ≡ Waiting → takeOf k l (openingByte ∷ []) f room ≡ given (record { loader = withCondition l Serving; flash = f })
-  sent-opening c = take-heard k l (openingByte ∷ []) f room size fits ∙ heard-waiting k l (openingByte ∷ []) f c refl
+  pub sent-opening : l .condition ≡ Waiting
+      → takeOf k l (openingByte ∷ []) f room ≡ given (record { loader = withCondition l Serving; flash = f })
+  sent-opening c =
+      take-heard k l (openingByte ∷ []) f room size fits ∙ heard-waiting k l (openingByte ∷ []) f c refl
 
   module _ (c : l .condition ≡ Serving) where
-    sent : (b a : ℕ) (d : List ℕ) → readOf (packet b a d) ≡ given (said b a d) → takeOf k l (packet b a d) f room ≡ obeyOf k l b a (map (carriedOf b) d) f
+    sent : (b a : ℕ) (d : List ℕ) → readOf (packet b a d) ≡ given (said b a d)
+        → takeOf k l (packet b a d) f room ≡ obeyOf k l b a (map (carriedOf b) d) f
     sent b a d e =
         take-heard k l (packet b a d) f room size fits
         ∙ heard-serving k l (packet b a d) f c
@@ -38,10 +41,16 @@ module _ (k : ℕ) (l : Loader) (f : List ℕ) (room : ℕ) (size : length f ≡
       pub sent-erase : (n : ℕ) → takeOf k l (packet 0x45 a (n ∷ [])) f room ≡ erasing k l a n f
       sent-erase n = sent 0x45 a (n ∷ []) (read-erase a h n) ∙ obey-erase k l a (n ∷ []) f
 
-      pub sent-write : (d : List ℕ) → 0 < length d → length d ≤ dataMost → takeOf k l (packet 0x57 a d) f room ≡ writing k l a d f
-      sent-write d p q = sent 0x57 a d (read-write a h d p q) ∙ obey-write k l a (map (carriedOf 0x57) d) f ∙ ap (λ (s : List ℕ). writing k l a s f) (carried-plainly 0x57 d refl)
+      pub sent-write : (d : List ℕ) → 0 < length d → length d ≤ dataMost
+          → takeOf k l (packet 0x57 a d) f room ≡ writing k l a d f
+      sent-write d p q =
+          sent 0x57 a d (read-write a h d p q)
+          ∙ obey-write k l a (map (carriedOf 0x57) d) f
+          ∙ ap (λ (s : List ℕ). writing k l a s f) (carried-plainly 0x57 d refl)
 
-      pub sent-verify : (d : List ℕ) → 0 < length d → length d ≤ dataMost → takeOf k l (packet 0x56 a d) f room ≡ keeping f (first (verifyRows k l a (map turnedOf d) f) (given l))
+      pub sent-verify : (d : List ℕ) → 0 < length d → length d ≤ dataMost
+          → takeOf k l (packet 0x56 a d) f room
+          ≡ keeping f (first (verifyRows k l a (map turnedOf d) f) (given l))
       sent-verify d p q = sent 0x56 a d (read-verify a h d p q) ∙ obey-verify k l a (map (carriedOf 0x56) d) f
 
       pub sent-run : takeOf k l (packet 0x52 a []) f room ≡ keeping f (running l a)
@@ -51,11 +60,14 @@ module _ (k : ℕ) (l : Loader) (f : List ℕ) (room : ℕ) (size : length f ≡
 pub kept : (l : Loader) (f : List ℕ) (x : Answer Loader) → effectAfter l f (keeping f x) .flash ≡ f
 kept l f x = ap (λ (e : Effect). e .flash) (keeping-is l f x)
 
-flash-kept : (k : ℕ) (l : Loader) (c a : ℕ) (d f : List ℕ) → (c ≡ 0x45 → ⊥) → (c ≡ 0x57 → ⊥) → effectAfter l f (obeyOf k l c a d f) .flash ≡ f
+flash-kept : (k : ℕ) (l : Loader) (c a : ℕ) (d f : List ℕ) → (c ≡ 0x45 → ⊥) → (c ≡ 0x57 → ⊥)
+    → effectAfter l f (obeyOf k l c a d f) .flash ≡ f
 unfolding obeyOf
 flash-kept k l c a d f e w = rw (ne-eqb c 0x45 e, ne-eqb c 0x57 w) (go (eqb c 0x56) (eqb c 0x50))
   where
-    go : (v p : Bool) → effectAfter l f (pick v (keeping f (first (verifyRows k l a d f) (given l))) (pick p (keeping f (protecting k l a (getD d 0 0))) (keeping f (running l a)))) .flash ≡ f
+    go : (v p : Bool)
+        → effectAfter l f (pick v (keeping f (first (verifyRows k l a d f) (given l))) (pick p (keeping f (protecting k l a (getD d 0 0))) (keeping f (running l a)))) .flash
+        ≡ f
     go true p = kept l f (first (verifyRows k l a d f) (given l))
     go false true = kept l f (protecting k l a (getD d 0 0))
     go false false = kept l f (running l a)

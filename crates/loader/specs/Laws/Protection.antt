@@ -40,7 +40,8 @@ module _ (p : Protection) where
   Free : ℕ → Type 0
   Free g = bit (p .groups) g ≡ false
 
-  pub free-bytes : (a e : ℕ) → a < e → ((b : ℕ) → a ≤ b → b < e → bit (p .groups) (groupOf b) ≡ false) → protectedBytes p a e ≡ false
+  pub free-bytes : (a e : ℕ) → a < e → ((b : ℕ) → a ≤ b → b < e → bit (p .groups) (groupOf b) ≡ false)
+      → protectedBytes p a e ≡ false
   unfolding Free
   free-bytes a e h free =
       none-any (p .groups) (groupOf a) (groupOf (e + (groupSize - 1)) - groupOf a)
@@ -49,25 +50,29 @@ module _ (p : Protection) where
       (λ t. let u = leb-true a (groupSize * g) t in subst Free (omega arith) (free (groupSize * g) u (omega arith)))
       (λ t. let u = leb-false a (groupSize * g) t in subst Free (omega arith) (free a (omega arith) h)))
 
-  pub free-pages : (i j : ℕ) → i < j → ((q : ℕ) → i ≤ q → q < j → bit (p .groups) (pageGroupOf q) ≡ false) → protectedPages p i j ≡ false
+  pub free-pages : (i j : ℕ) → i < j → ((q : ℕ) → i ≤ q → q < j → bit (p .groups) (pageGroupOf q) ≡ false)
+      → protectedPages p i j ≡ false
   unfolding Free
   free-pages i j h free =
       free-bytes (startOf i) (startOf j) (omega arith)
       (λ b u v. let e : pageGroupOf (pageOf b) ≡ groupOf b = omega arith in subst Free e (free (pageOf b) (omega arith) (omega arith)))
 
 -- what a join protects
-join-groups : (p q : Protection) (g : ℕ) → bit (joinOf p q .groups) g ≡ either (bit (p .groups) g) (bit (q .groups) g)
+join-groups : (p q : Protection) (g : ℕ)
+    → bit (joinOf p q .groups) g ≡ either (bit (p .groups) g) (bit (q .groups) g)
 join-groups p q g = bit-or (p .groups) (q .groups) g
 
 -- ---- the protection in force
 
 -- what a table guards and what it leaves agree on something, so the outcome does
-held : {X : Type 0} (see : Loader → X) (l m : Loader) (t : List Rule) → see m ≡ see l → see (loaderAfter l (first t (given m))) ≡ see l
+held : {X : Type 0} (see : Loader → X) (l m : Loader) (t : List Rule) → see m ≡ see l
+    → see (loaderAfter l (first t (given m))) ≡ see l
 unfolding first
 held see l m [] e = e
 held see l m (r ∷ t) e = go (r .holds) (held see l m t e)
   where
-    go : (b : Bool) → see (loaderAfter l (first t (given m))) ≡ see l → see (loaderAfter l (pick b (refused (r .number)) (first t (given m)))) ≡ see l
+    go : (b : Bool) → see (loaderAfter l (first t (given m))) ≡ see l
+        → see (loaderAfter l (pick b (refused (r .number)) (first t (given m)))) ≡ see l
     go true h = refl
     go false h = h
 
@@ -75,23 +80,27 @@ abbrev force : Loader → Protection
 force l = l .protection
 
 module _ (k : ℕ) (l : Loader) (a : ℕ) where
-  erase-keeps : (n : ℕ) (f : List ℕ) → massErase a n ≡ false → force (effectAfter l f (erasing k l a n f) .loader) ≡ force l
+  erase-keeps : (n : ℕ) (f : List ℕ) → massErase a n ≡ false
+      → force (effectAfter l f (erasing k l a n f) .loader) ≡ force l
   erase-keeps n f e =
       decide (l .sequence .opened)
       (λ p. rw (erasing-open k l a n f p))
       (λ p. rw (erasing-pages k l a n f p e) (either-way (λ (x : Effect). force (x .loader) ≡ force l) l f _ (eraseRows k l a n) refl refl))
 
-  protect-keeps : (t : ℕ) → either (eqb t 0x00) (eqb t 0x0F) ≡ true → force (loaderAfter l (protecting k l a t)) ≡ force l
+  protect-keeps : (t : ℕ) → either (eqb t 0x00) (eqb t 0x0F) ≡ true
+      → force (loaderAfter l (protecting k l a t)) ≡ force l
   unfolding protecting opening adding
   protect-keeps t e = go (eqb t 0x00) (eqb t 0x0F) e
     where
-      go : (o g : Bool) → either o g ≡ true → force (loaderAfter l (pick o (opening l) (pick g (adding k l a) (closing l a)))) ≡ force l
+      go : (o g : Bool) → either o g ≡ true
+          → force (loaderAfter l (pick o (opening l) (pick g (adding k l a) (closing l a)))) ≡ force l
       go true g e = held force l (withAdded l none) _ refl
       go false true e = held force l (withAdded l (addedOf k (l .sequence .added) a)) _ refl
       go false false e = absurd (true-false (sym e))
 
   -- of the commands, a mass erase and a P of type 0x01 change it, and no other
-  pub force-kept : (c : ℕ) (d f : List ℕ) → (c ≡ 0x45 → massErase a (getD d 0 0) ≡ false) → (c ≡ 0x50 → either (eqb (getD d 0 0) 0x00) (eqb (getD d 0 0) 0x0F) ≡ true)
+  pub force-kept : (c : ℕ) (d f : List ℕ) → (c ≡ 0x45 → massErase a (getD d 0 0) ≡ false)
+      → (c ≡ 0x50 → either (eqb (getD d 0 0) 0x00) (eqb (getD d 0 0) 0x0F) ≡ true)
       → force (effectAfter l f (obeyOf k l c a d f) .loader) ≡ force l
   unfolding obeyOf writing running
   force-kept c d f e p =
@@ -112,14 +121,16 @@ force-by k l s f room h =
     (λ p e. let q = h p e in force-kept k l (p .address) (p .command) (dataIn s p) f (q .0) (q .1))
 
 -- and by the latter it grows: no group and no read protection is lost
-pub close-grows : (l : Loader) (a g : ℕ) → bit (l .protection .groups) g ≡ true → bit (loaderAfter l (closing l a) .protection .groups) g ≡ true
+pub close-grows : (l : Loader) (a g : ℕ) → bit (l .protection .groups) g ≡ true
+    → bit (loaderAfter l (closing l a) .protection .groups) g ≡ true
 unfolding closing
 close-grows l a g e =
     decide (not (l .sequence .opened))
     (λ t. rw (stop 9 _ [] (given (joinedOf l a)) t) e)
     (λ t. rw (skip 9 _ [] (given (joinedOf l a)) t ∙ done _) (join-groups (l .protection) (l .sequence .added) g ∙ either-first (bit (l .protection .groups) g) _ e))
 
-pub close-grows-read : (l : Loader) (a : ℕ) → l .protection .read ≡ true → loaderAfter l (closing l a) .protection .read ≡ true
+pub close-grows-read : (l : Loader) (a : ℕ) → l .protection .read ≡ true
+    → loaderAfter l (closing l a) .protection .read ≡ true
 unfolding closing
 close-grows-read l a e =
     decide (not (l .sequence .opened))

@@ -21,7 +21,8 @@ use Rattle.basis.specs.Choice.{pick}
 
 module _ (k : ℕ) (l : Loader) (s f : List ℕ) where
   -- ---- by condition
-  pub heard-waiting : l .condition ≡ Waiting → opensBoard s ≡ true → hearOf k l s f ≡ given (record { loader = withCondition l Serving; flash = f })
+  pub heard-waiting : l .condition ≡ Waiting → opensBoard s ≡ true
+      → hearOf k l s f ≡ given (record { loader = withCondition l Serving; flash = f })
   unfolding hearOf
   heard-waiting c o = rw c (skip 11 _ _ _ (ap not o) ∙ done _)
 
@@ -42,7 +43,8 @@ module _ (k : ℕ) (l : Loader) (s f : List ℕ) where
   unfolding serveOf
   served-unread e = rw e
 
-  pub served-packet : (p : Parts) → readOf s ≡ given p → serveOf k l s f ≡ obeyOf k l (p .command) (p .address) (dataIn s p) f
+  pub served-packet : (p : Parts) → readOf s ≡ given p
+      → serveOf k l s f ≡ obeyOf k l (p .command) (p .address) (dataIn s p) f
   unfolding serveOf
   served-packet p e = rw e
 
@@ -54,11 +56,14 @@ module _ (k : ℕ) (l : Loader) (s f : List ℕ) where
 
     pub take-small : room < answerMost → takeOf k l s f room ≡ refused 20
     unfolding takeOf
-    take-small h = stop 20 _ _ _ (either-second (not (eqb (length f) (startOf k))) _ (lt-ltb room answerMost h))
+    take-small h =
+        stop 20 _ _ _ (either-second (not (eqb (length f) (startOf k))) _ (lt-ltb room answerMost h))
 
     pub take-heard : length f ≡ startOf k → answerMost ≤ room → takeOf k l s f room ≡ hearOf k l s f
     unfolding takeOf
-    take-heard e h = skip 20 _ _ _ (either-false (not (eqb (length f) (startOf k))) _ (ap not (eq-eqb _ _ e)) (le-ltb room answerMost h)) ∙ done _
+    take-heard e h =
+        skip 20 _ _ _ (either-false (not (eqb (length f) (startOf k))) _ (ap not (eq-eqb _ _ e)) (le-ltb room answerMost h))
+        ∙ done _
 
 -- ---- what any input leaves
 

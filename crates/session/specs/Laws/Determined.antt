@@ -36,7 +36,8 @@ stepped-one (Stepped.Next x) (Stepped.Refused y) e = absurd (apart (sym e))
 stepped-one (Stepped.Refused x) (Stepped.Next y) e = absurd (apart e)
 stepped-one (Stepped.Refused x) (Stepped.Refused y) e = ap Stepped.Refused (refusal-one x y (refused-one e))
 
-pub step-determined : (a : Answer Sent) (r s : Stepped) (x y old : List ℕ) → (paperStepped r ≡ measured a) × (x ≡ overlay (sentBytes a) old)
+pub step-determined : (a : Answer Sent) (r s : Stepped) (x y old : List ℕ)
+    → (paperStepped r ≡ measured a) × (x ≡ overlay (sentBytes a) old)
     → (paperStepped s ≡ measured a) × (y ≡ overlay (sentBytes a) old) → (r ≡ s) × (x ≡ y)
 step-determined a r s x y old p q = (determined paperStepped stepped-one r s (p .0) (q .0), p .1 ∙ sym (q .1))
 

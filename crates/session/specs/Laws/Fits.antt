@@ -38,7 +38,8 @@ fits-by m s f =
     rw (lt-ltb 0 (namedCount m) (f .some), eq-eqb (s .named) (namedCount m) (f .named-is), eq-eqb (s .total) (total m) (f .total-is)) (f .stands)
 
 -- after any event the cursor stands at a start
-pub took-start : (m : List ℕ) → length m ≡ mapSize → (s : Session) (e : Event) → fitsOf m s ≡ true → atStart m (tookOf m s e .phase) ≡ true
+pub took-start : (m : List ℕ) → length m ≡ mapSize → (s : Session) (e : Event) → fitsOf m s ≡ true
+    → atStart m (tookOf m s e .phase) ≡ true
 unfolding tookOf
 took-start m long s e h = go (judgeOf (s .phase) e)
   where

@@ -51,7 +51,9 @@ module _ (m : List ℕ) where
 
 module _ (m : List ℕ) (long : length m ≡ mapSize) where
   -- every named byte is in the piece of one V of the plan, behind every E and W
-  named-held : (a : ℕ) → named m a ≡ true → (j : ℕ) × (s : ℕ) × (Held m j s a) × (j + 1 ≡ runCount m + pieceCount m + count (pieceStarts m) (a + 1))
+  named-held : (a : ℕ) → named m a ≡ true
+      → (j : ℕ) × (s : ℕ) × (Held m j s a)
+      × (j + 1 ≡ runCount m + pieceCount m + count (pieceStarts m) (a + 1))
   unfolding standsIn
   named-held a t =
       let i = in-piece (named m) pieceMost (omega arith) a t in
@@ -83,7 +85,8 @@ module _ (m : List ℕ) (long : length m ≡ mapSize) where
       (λ t. both-false _ _ t ∙ sym t)
 
   -- so R is out only when every named byte is marked
-  pub run-marked : (s : Session) (a : ℕ) → fitsOf m s ≡ true → s .phase ≡ Phase.Run → marked m (s .acknowledged) a ≡ named m a
+  pub run-marked : (s : Session) (a : ℕ) → fitsOf m s ≡ true → s .phase ≡ Phase.Run
+      → marked m (s .acknowledged) a ≡ named m a
   run-marked s a h e =
       all-marked (s .acknowledged) a
       (omega (arith, stands-run m (s .acknowledged) (sym (ap (λ (ph : Phase). standsIn m ph (s .acknowledged)) e) ∙ fitting m s h .stands)))
@@ -104,7 +107,8 @@ module _ (m : List ℕ) (long : length m ≡ mapSize) where
       omega (arith, rank-some (named m) pieceMost (omega arith) a (b .0), leb-true (runCount m + pieceCount m + count (pieceStarts m) (a + 1)) k (b .1))
 
   -- one more acknowledgement marks the piece of its V, and nothing else
-  pub marked-more : {R : Type 0} (k a : ℕ) → marked m (k + 1) a ≡ true → (marked m k a ≡ true → R) → ((s : ℕ) → Held m k s a → R) → R
+  pub marked-more : {R : Type 0} (k a : ℕ) → marked m (k + 1) a ≡ true → (marked m k a ≡ true → R)
+      → ((s : ℕ) → Held m k s a → R) → R
   marked-more {R} k a h old new =
       let v = marked-held (k + 1) a h in
       decide (eqb (v .0) k)

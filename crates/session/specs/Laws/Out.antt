@@ -22,8 +22,10 @@ pub record Ranked (starts : ℕ → Bool) (place rank : ℕ) : Type 0 where
 
 pub data Out (m : List ℕ) (k : ℕ) : Type 0 where
   erases : (q : ℕ) → phaseAt m k ≡ eraseAt q → Ranked (runStarts m) q k → k < runCount m → Out m k
-  writes : (a j : ℕ) → phaseAt m k ≡ writeAt a → Ranked (pieceStarts m) a j → k ≡ runCount m + j → j < pieceCount m → Out m k
-  verifies : (a j : ℕ) → phaseAt m k ≡ verifyAt a → Ranked (pieceStarts m) a j → k ≡ runCount m + pieceCount m + j → j < pieceCount m → Out m k
+  writes : (a j : ℕ) → phaseAt m k ≡ writeAt a → Ranked (pieceStarts m) a j → k ≡ runCount m + j
+      → j < pieceCount m → Out m k
+  verifies : (a j : ℕ) → phaseAt m k ≡ verifyAt a → Ranked (pieceStarts m) a j
+      → k ≡ runCount m + pieceCount m + j → j < pieceCount m → Out m k
   runs : phaseAt m k ≡ Phase.Run → k ≡ beforeRun m → Out m k
 
 pub out-after : (m : List ℕ) → length m ≡ mapSize → (k : ℕ) → k < total m → Out m k

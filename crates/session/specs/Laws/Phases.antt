@@ -145,9 +145,11 @@ module _ (m : List ℕ) (long : length m ≡ mapSize) (some : 0 < namedCount m) 
 
   pub greeting-stands : standsIn m (afterOf m Phase.Greeting) 0 ≡ true
   unfolding afterOf standsIn
-  greeting-stands = first-ranked (touched m) pages pages (omega arith) (pages-past m long) 0 (first-run-below m long some)
+  greeting-stands =
+      first-ranked (touched m) pages pages (omega arith) (pages-past m long) 0 (first-run-below m long some)
 
-  pub erase-stands : (q k : ℕ) → standsIn m (eraseAt q) k ≡ true → standsIn m (afterOf m (eraseAt q)) (k + 1) ≡ true
+  pub erase-stands : (q k : ℕ) → standsIn m (eraseAt q) k ≡ true
+      → standsIn m (afterOf m (eraseAt q)) (k + 1) ≡ true
   unfolding afterOf standsIn
   erase-stands q k h =
       decide (ltb (nextRun m q) pages)
@@ -156,7 +158,8 @@ module _ (m : List ℕ) (long : length m ≡ mapSize) (some : 0 < namedCount m) 
       (omega (arith, follow-last (touched m) pages pages (omega arith) (pages-past m long) 0 q k h (ltb-false _ _ d)))
       (first-piece-ranked (runCount m))))
 
-  pub write-stands : (a k : ℕ) → standsIn m (writeAt a) k ≡ true → standsIn m (afterOf m (writeAt a)) (k + 1) ≡ true
+  pub write-stands : (a k : ℕ) → standsIn m (writeAt a) k ≡ true
+      → standsIn m (afterOf m (writeAt a)) (k + 1) ≡ true
   unfolding afterOf standsIn
   write-stands a k h =
       decide (ltb (nextPiece m a) flashSize)
@@ -165,7 +168,8 @@ module _ (m : List ℕ) (long : length m ≡ mapSize) (some : 0 < namedCount m) 
       (follow-last (named m) pieceMost flashSize (omega arith) (bytes-past m long) (runCount m) a k h (ltb-false _ _ d))
       (first-piece-ranked (runCount m + pieceCount m))))
 
-  pub verify-stands : (a k : ℕ) → standsIn m (verifyAt a) k ≡ true → standsIn m (afterOf m (verifyAt a)) (k + 1) ≡ true
+  pub verify-stands : (a k : ℕ) → standsIn m (verifyAt a) k ≡ true
+      → standsIn m (afterOf m (verifyAt a)) (k + 1) ≡ true
   unfolding afterOf standsIn
   verify-stands a k h =
       decide (ltb (nextPiece m a) flashSize)

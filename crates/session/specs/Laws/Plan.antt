@@ -44,16 +44,21 @@ module _ {A : Type 0} where
   map-at f (x ∷ l) (suc k) e d h = map-at f l k e d (omega arith)
 
   -- in a part of a plan, and past it
-  part-at : (f : ℕ → A) (p : ℕ → Bool) (n k : ℕ) (ys : List A) (d : A) → k < count p n → getD (map f (places p n) ++ ys) k d ≡ f (select p k n)
+  part-at : (f : ℕ → A) (p : ℕ → Bool) (n k : ℕ) (ys : List A) (d : A) → k < count p n
+      → getD (map f (places p n) ++ ys) k d ≡ f (select p k n)
   part-at f p n k ys d l =
       let y : k < length (places p n) = omega (arith, places-length p n) in
       let x : k < length (map f (places p n)) = omega (arith, length-map (places p n) f) in
-      List·getD-append (map f (places p n)) ys d k x ∙ map-at f (places p n) k 0 d y ∙ ap f (places-at p n k 0 l)
+      List·getD-append (map f (places p n)) ys d k x
+      ∙ map-at f (places p n) k 0 d y
+      ∙ ap f (places-at p n k 0 l)
 
-  part-past : (f : ℕ → A) (p : ℕ → Bool) (n k : ℕ) (ys : List A) (d : A) → count p n ≤ k → getD (map f (places p n) ++ ys) k d ≡ getD ys (k - count p n) d
+  part-past : (f : ℕ → A) (p : ℕ → Bool) (n k : ℕ) (ys : List A) (d : A) → count p n ≤ k
+      → getD (map f (places p n) ++ ys) k d ≡ getD ys (k - count p n) d
   part-past f p n k ys d l =
       let x : k ≡ length (map f (places p n)) + (k - count p n) = omega (arith, length-map (places p n) f, places-length p n) in
-      ap (λ (j : ℕ). getD (map f (places p n) ++ ys) j d) x ∙ getD-append-add (map f (places p n)) ys (k - count p n) d
+      ap (λ (j : ℕ). getD (map f (places p n) ++ ys) j d) x
+      ∙ getD-append-add (map f (places p n)) ys (k - count p n) d
 
 module _ (image m : List ℕ) (kind : RunKind) where
   -- the plan has e + 2w + 1 packets

@@ -121,7 +121,9 @@ module _ (m : List ℕ) (long : length m ≡ mapSize) (some : 0 < namedCount m) 
       (λ a. let f = not-ack k e a l in fails (f .0) k l (f .1) (f .2))
 
   -- all but the greeting ends the session that waits for it
-  pub not-greeting : (e : Event) → isGreeting e ≡ false → (o : Outcome) × (failing o 0 ≡ true) × (tookOf m (atGreeting m kind) e ≡ sessionIn m kind (Phase.Ended o) 0)
+  pub not-greeting : (e : Event) → isGreeting e ≡ false
+      → (o : Outcome) × (failing o 0 ≡ true)
+      × (tookOf m (atGreeting m kind) e ≡ sessionIn m kind (Phase.Ended o) 0)
   unfolding tookOf
   not-greeting Event.Greeting h = absurd (true-false h)
   not-greeting Event.Ack h = (Outcome.NoGreeting, refl, refl)
@@ -135,7 +137,8 @@ module _ (m : List ℕ) (long : length m ≡ mapSize) (some : 0 < namedCount m) 
       (λ a. subst (λ (x : Event). Came m kind (tookOf m (atGreeting m kind) x)) (sym a) (stands 0 (omega arith) (greeting-state m long some kind)))
       (λ a. let f = not-greeting e a in fails (f .0) 0 (omega arith) (f .1) (f .2))
 
-  event-came : (s : Session) (e : Event) → Came m kind s → Came m kind (pick (ended (s .phase)) s (tookOf m s e))
+  event-came : (s : Session) (e : Event) → Came m kind s
+      → Came m kind (pick (ended (s .phase)) s (tookOf m s e))
   event-came s e (waits q) = rw q (first-came e)
   event-came s e (stands k l q) = rw (q, phase-open m k) (state-came k e l)
   event-came s e (fails o k l f q) = rw q (fails o k l f refl)
@@ -152,15 +155,21 @@ module _ (m : List ℕ) (long : length m ≡ mapSize) (some : 0 < namedCount m) 
   came es = series-came es (atGreeting m kind) (waits refl)
 
   -- an event taken
-  event-taken : (s : Session) (e : Event) (es : List Event) {t : Session} → ended (s .phase) ≡ false → tookOf m s e ≡ t → series m s (e ∷ es) ≡ series m t es
+  event-taken : (s : Session) (e : Event) (es : List Event) {t : Session} → ended (s .phase) ≡ false
+      → tookOf m s e ≡ t → series m s (e ∷ es) ≡ series m t es
   unfolding series
   event-taken s e es h q = rw h (ap (λ (x : Session). series m x es) q)
 
-  series-ack : (k : ℕ) (es : List Event) → k + 1 < total m → series m (stateAt m kind k) (Event.Ack ∷ es) ≡ series m (stateAt m kind (k + 1)) es
-  series-ack k es l = event-taken (stateAt m kind k) Event.Ack es (phase-open m k) (ack-next m long some kind k l)
+  series-ack : (k : ℕ) (es : List Event) → k + 1 < total m
+      → series m (stateAt m kind k) (Event.Ack ∷ es) ≡ series m (stateAt m kind (k + 1)) es
+  series-ack k es l =
+      event-taken (stateAt m kind k) Event.Ack es (phase-open m k) (ack-next m long some kind k l)
 
-  series-last : (k : ℕ) (es : List Event) → k + 1 ≡ total m → series m (stateAt m kind k) (Event.Ack ∷ es) ≡ valid m kind
-  series-last k es l = event-taken (stateAt m kind k) Event.Ack es (phase-open m k) (ack-last m long some kind k l) ∙ series-ended m (valid m kind) es refl
+  series-last : (k : ℕ) (es : List Event) → k + 1 ≡ total m
+      → series m (stateAt m kind k) (Event.Ack ∷ es) ≡ valid m kind
+  series-last k es l =
+      event-taken (stateAt m kind k) Event.Ack es (phase-open m k) (ack-last m long some kind k l)
+      ∙ series-ended m (valid m kind) es refl
 
   series-fails : (k : ℕ) (e : Event) (es : List Event) → isAck e ≡ false → k < total m
       → (o : Outcome) × (failing o k ≡ true) × (series m (stateAt m kind k) (e ∷ es) ≡ sessionIn m kind (Phase.Ended o) k)
@@ -168,36 +177,47 @@ module _ (m : List ℕ) (long : length m ≡ mapSize) (some : 0 < namedCount m) 
       let f = not-ack k e a l in
       (f .0, f .1, event-taken (stateAt m kind k) e es (phase-open m k) (f .2) ∙ series-ended m (sessionIn m kind (Phase.Ended (f .0)) k) es refl)
 
-  series-first : (es : List Event) → series m (atGreeting m kind) (Event.Greeting ∷ es) ≡ series m (stateAt m kind 0) es
+  series-first : (es : List Event)
+      → series m (atGreeting m kind) (Event.Greeting ∷ es) ≡ series m (stateAt m kind 0) es
   series-first es = event-taken (atGreeting m kind) Event.Greeting es refl (greeting-state m long some kind)
 
   -- ---- the greeting and k acknowledgements lead to the state after k
 
-  acks-on : (n k : ℕ) → k + n < total m → series m (stateAt m kind k) (replicate n Event.Ack) ≡ stateAt m kind (k + n)
+  acks-on : (n k : ℕ) → k + n < total m
+      → series m (stateAt m kind k) (replicate n Event.Ack) ≡ stateAt m kind (k + n)
   acks-on zero k l = none ∙ ap (stateAt m kind) (omega arith)
     where
       none : series m (stateAt m kind k) [] ≡ stateAt m kind k
       none = series-nil m (stateAt m kind k)
   acks-on (suc n) k l =
-      series-ack k (replicate n Event.Ack) (omega arith) ∙ acks-on n (k + 1) (omega arith) ∙ ap (stateAt m kind) (omega arith)
+      series-ack k (replicate n Event.Ack) (omega arith)
+      ∙ acks-on n (k + 1) (omega arith)
+      ∙ ap (stateAt m kind) (omega arith)
 
-  pub acks-state : (k : ℕ) → k < total m → series m (atGreeting m kind) (Event.Greeting ∷ replicate k Event.Ack) ≡ stateAt m kind k
-  acks-state k l = series-first (replicate k Event.Ack) ∙ acks-on k 0 (omega arith) ∙ ap (stateAt m kind) (zero-add k)
+  pub acks-state : (k : ℕ) → k < total m
+      → series m (atGreeting m kind) (Event.Greeting ∷ replicate k Event.Ack) ≡ stateAt m kind k
+  acks-state k l =
+      series-first (replicate k Event.Ack) ∙ acks-on k 0 (omega arith) ∙ ap (stateAt m kind) (zero-add k)
 
-  acks-end : (n k : ℕ) → k + suc n ≡ total m → series m (stateAt m kind k) (replicate (suc n) Event.Ack) ≡ valid m kind
+  acks-end : (n k : ℕ) → k + suc n ≡ total m
+      → series m (stateAt m kind k) (replicate (suc n) Event.Ack) ≡ valid m kind
   acks-end zero k l = series-last k [] (omega arith)
-  acks-end (suc n) k l = series-ack k (replicate (suc n) Event.Ack) (omega arith) ∙ acks-end n (k + 1) (omega arith)
+  acks-end (suc n) k l =
+      series-ack k (replicate (suc n) Event.Ack) (omega arith) ∙ acks-end n (k + 1) (omega arith)
 
   -- as many as the total end it valid
-  pub acks-valid : (n : ℕ) → suc n ≡ total m → series m (atGreeting m kind) (Event.Greeting ∷ replicate (suc n) Event.Ack) ≡ valid m kind
+  pub acks-valid : (n : ℕ) → suc n ≡ total m
+      → series m (atGreeting m kind) (Event.Greeting ∷ replicate (suc n) Event.Ack) ≡ valid m kind
   acks-valid n e = series-first (replicate (suc n) Event.Ack) ∙ acks-end n 0 (omega arith)
 
   -- ---- a verdict within e + 2w + 2 events
 
-  is-over : {s : Session} {o : Outcome} {k : ℕ} → s ≡ sessionIn m kind (Phase.Ended o) k → ended (s .phase) ≡ true
+  is-over : {s : Session} {o : Outcome} {k : ℕ} → s ≡ sessionIn m kind (Phase.Ended o) k
+      → ended (s .phase) ≡ true
   is-over e = ap (λ (x : Session). ended (x .phase)) e
 
-  within : (n k : ℕ) (es : List Event) → k + suc n ≡ total m → suc n ≤ length es → ended (series m (stateAt m kind k) es .phase) ≡ true
+  within : (n k : ℕ) (es : List Event) → k + suc n ≡ total m → suc n ≤ length es
+      → ended (series m (stateAt m kind k) es .phase) ≡ true
   within n k [] l b = absurd (omega arith)
   within zero k (e ∷ es) l b =
       ack-or e
@@ -208,12 +228,15 @@ module _ (m : List ℕ) (long : length m ≡ mapSize) (some : 0 < namedCount m) 
       (λ a. rw a (ap (λ (s : Session). ended (s .phase)) (series-ack k es (omega arith)) ∙ within n (k + 1) es (omega arith) (omega arith)))
       (λ a. is-over (series-fails k e es a (omega arith) .2))
 
-  first-fails : (e : Event) (es : List Event) → isGreeting e ≡ false → (o : Outcome) × (failing o 0 ≡ true) × (series m (atGreeting m kind) (e ∷ es) ≡ sessionIn m kind (Phase.Ended o) 0)
+  first-fails : (e : Event) (es : List Event) → isGreeting e ≡ false
+      → (o : Outcome) × (failing o 0 ≡ true)
+      × (series m (atGreeting m kind) (e ∷ es) ≡ sessionIn m kind (Phase.Ended o) 0)
   first-fails e es a =
       let f = not-greeting e a in
       (f .0, f .1, event-taken (atGreeting m kind) e es refl (f .2) ∙ series-ended m (sessionIn m kind (Phase.Ended (f .0)) 0) es refl)
 
-  pub verdict : (es : List Event) → total m + 1 ≤ length es → ended (series m (atGreeting m kind) es .phase) ≡ true
+  pub verdict : (es : List Event) → total m + 1 ≤ length es
+      → ended (series m (atGreeting m kind) es .phase) ≡ true
   verdict [] b = absurd (omega arith)
   verdict (e ∷ es) b =
       greeting-or e
@@ -222,7 +245,8 @@ module _ (m : List ℕ) (long : length m ≡ mapSize) (some : 0 < namedCount m) 
 
   -- ---- valid only after every acknowledgement
 
-  not-valid : {s : Session} {o : Outcome} {k : ℕ} → failing o k ≡ true → s ≡ sessionIn m kind (Phase.Ended o) k → isValid (s .phase) ≡ false
+  not-valid : {s : Session} {o : Outcome} {k : ℕ} → failing o k ≡ true
+      → s ≡ sessionIn m kind (Phase.Ended o) k → isValid (s .phase) ≡ false
   not-valid {s} {o} {k} f e = ap (λ (x : Session). isValid (x .phase)) e ∙ go o f
     where
       go : (o : Outcome) → failing o k ≡ true → isValid (Phase.Ended o) ≡ false
@@ -233,9 +257,13 @@ module _ (m : List ℕ) (long : length m ≡ mapSize) (some : 0 < namedCount m) 
       go Outcome.Other f = refl
 
   not-yet : (k : ℕ) → isValid (series m (stateAt m kind k) [] .phase) ≡ false
-  not-yet k = ap (λ (x : Session). isValid (x .phase)) (series-nil m (stateAt m kind k)) ∙ open-valid (phaseAt m k) (phase-open m k)
+  not-yet k =
+      ap (λ (x : Session). isValid (x .phase)) (series-nil m (stateAt m kind k))
+      ∙ open-valid (phaseAt m k) (phase-open m k)
 
-  valid-on : (n k : ℕ) (es : List Event) → k + suc n ≡ total m → isValid (series m (stateAt m kind k) es .phase) ≡ true → (rest : List Event) × (es ≡ replicate (suc n) Event.Ack ++ rest)
+  valid-on : (n k : ℕ) (es : List Event) → k + suc n ≡ total m
+      → isValid (series m (stateAt m kind k) es .phase) ≡ true
+      → (rest : List Event) × (es ≡ replicate (suc n) Event.Ack ++ rest)
   valid-on n k [] l v = absurd (true-false (sym v ∙ not-yet k))
   valid-on zero k (e ∷ es) l v =
       ack-or e
@@ -247,7 +275,8 @@ module _ (m : List ℕ) (long : length m ≡ mapSize) (some : 0 < namedCount m) 
       (r .0, rw a (ap (λ (x : List Event). Event.Ack ∷ x) (r .1))))
       (λ a. let f = series-fails k e es a (omega arith) in absurd (true-false (sym v ∙ not-valid (f .1) (f .2))))
 
-  pub valid-only : (es : List Event) → series m (atGreeting m kind) es .phase ≡ Phase.Ended Outcome.Valid → (rest : List Event) × (es ≡ Event.Greeting ∷ replicate (total m) Event.Ack ++ rest)
+  pub valid-only : (es : List Event) → series m (atGreeting m kind) es .phase ≡ Phase.Ended Outcome.Valid
+      → (rest : List Event) × (es ≡ Event.Greeting ∷ replicate (total m) Event.Ack ++ rest)
   valid-only [] v = absurd (true-false (sym (ap isValid v) ∙ ap (λ (x : Session). isValid (x .phase)) (series-nil m (atGreeting m kind))))
   valid-only (e ∷ es) v =
       greeting-or e

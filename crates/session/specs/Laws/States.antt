@@ -44,11 +44,14 @@ module _ (m : List ℕ) (k : ℕ) where
 -- ---- the phase after k acknowledgements
 
 -- what holds of each kind of phase that has a packet out holds of the one after k
-phase-cases : (P : Phase → Type 0) → ((q : ℕ) → P (eraseAt q)) → ((a : ℕ) → P (writeAt a)) → ((a : ℕ) → P (verifyAt a)) → P Phase.Run → (m : List ℕ) (k : ℕ) → P (phaseAt m k)
+phase-cases : (P : Phase → Type 0) → ((q : ℕ) → P (eraseAt q)) → ((a : ℕ) → P (writeAt a))
+    → ((a : ℕ) → P (verifyAt a)) → P Phase.Run → (m : List ℕ) (k : ℕ) → P (phaseAt m k)
 unfolding phaseAt
-phase-cases P e w v r m k = go (ltb k (runCount m)) (ltb k (runCount m + pieceCount m)) (ltb k (beforeRun m)) _ _ _
+phase-cases P e w v r m k =
+    go (ltb k (runCount m)) (ltb k (runCount m + pieceCount m)) (ltb k (beforeRun m)) _ _ _
   where
-    go : (a b c : Bool) (x y z : ℕ) → P (pick a (eraseAt x) (pick b (writeAt y) (pick c (verifyAt z) Phase.Run)))
+    go : (a b c : Bool) (x y z : ℕ)
+        → P (pick a (eraseAt x) (pick b (writeAt y) (pick c (verifyAt z) Phase.Run)))
     go true b c x y z = e x
     go false true c x y z = w y
     go false false true x y z = v z
@@ -62,7 +65,8 @@ module _ (m : List ℕ) (k : ℕ) where
   phase-open = phase-cases (λ (ph : Phase). ended ph ≡ false) (λ q. refl) (λ a. refl) (λ a. refl) refl m k
 
   pub phase-later : (e : Event) → judgeOf (phaseAt m k) e ≡ judgeLaterOf e
-  phase-later e = phase-cases (λ (ph : Phase). judgeOf ph e ≡ judgeLaterOf e) (λ q. refl) (λ a. refl) (λ a. refl) refl m k
+  phase-later e =
+      phase-cases (λ (ph : Phase). judgeOf ph e ≡ judgeLaterOf e) (λ q. refl) (λ a. refl) (λ a. refl) refl m k
 
   -- R is out exactly after all else is acknowledged
   run-after : beforeRun m ≤ k → phaseAt m k ≡ Phase.Run
@@ -84,11 +88,15 @@ after-greeted m Phase.Run = refl
 after-greeted m (Phase.Ended o) = refl
 
 module _ (m : List ℕ) (long : length m ≡ mapSize) (some : 0 < namedCount m) where
-  phase-next : (ph : Phase) (k : ℕ) → k + 1 < total m → greeted ph ≡ true → standsIn m ph k ≡ true → afterOf m ph ≡ phaseAt m (k + 1)
+  phase-next : (ph : Phase) (k : ℕ) → k + 1 < total m → greeted ph ≡ true → standsIn m ph k ≡ true
+      → afterOf m ph ≡ phaseAt m (k + 1)
   phase-next Phase.Greeting k l g h = absurd (true-false (sym g))
-  phase-next (Phase.Erase p) k l g h = stands-at m long _ (k + 1) (after-greeted m (Phase.Erase p)) (erase-stands m long some (p .0) k h)
-  phase-next (Phase.Write a) k l g h = stands-at m long _ (k + 1) (after-greeted m (Phase.Write a)) (write-stands m long some (a .0) k h)
-  phase-next (Phase.Verify a) k l g h = stands-at m long _ (k + 1) (after-greeted m (Phase.Verify a)) (verify-stands m long some (a .0) k h)
+  phase-next (Phase.Erase p) k l g h =
+      stands-at m long _ (k + 1) (after-greeted m (Phase.Erase p)) (erase-stands m long some (p .0) k h)
+  phase-next (Phase.Write a) k l g h =
+      stands-at m long _ (k + 1) (after-greeted m (Phase.Write a)) (write-stands m long some (a .0) k h)
+  phase-next (Phase.Verify a) k l g h =
+      stands-at m long _ (k + 1) (after-greeted m (Phase.Verify a)) (verify-stands m long some (a .0) k h)
   phase-next Phase.Run k l g h = absurd (omega (arith, stands-run m k h))
   phase-next (Phase.Ended o) k l g h = absurd (stands-ended m k o h)
 
@@ -122,7 +130,8 @@ module _ (m : List ℕ) (long : length m ≡ mapSize) (some : 0 < namedCount m) 
     state-fits k l = fits-by m (stateAt m kind k) (record { some = some; named-is = refl; total-is = refl; stands = at-stands m k l })
 
 -- and no other
-pub fits-reached : (m : List ℕ) → length m ≡ mapSize → (s : Session) → fitsOf m s ≡ true → (0 < namedCount m) × Reached m s
+pub fits-reached : (m : List ℕ) → length m ≡ mapSize → (s : Session) → fitsOf m s ≡ true
+    → (0 < namedCount m) × Reached m s
 fits-reached m long s h = (f .some, go (s .phase) refl)
   where
     f : Fitting m s
@@ -146,8 +155,10 @@ fits-reached m long s h = (f .some, go (s .phase) refl)
 
 module _ (image m : List ℕ) (room : ℕ) (kind : RunKind) (right : rightSizes (length image) (length m) room ≡ true) (long : length m ≡ mapSize) (some : 0 < namedCount m) where
   -- no event is refused
-  pub step-state : (k : ℕ) (e : Event) → k < total m → stepOf image m room (stateAt m kind k) e ≡ given (sentOf image m (stateAt m kind k) e)
-  step-state k e l = step-taken image m room (stateAt m kind k) e right (phase-open m k) (state-fits m long some kind k l)
+  pub step-state : (k : ℕ) (e : Event) → k < total m
+      → stepOf image m room (stateAt m kind k) e ≡ given (sentOf image m (stateAt m kind k) e)
+  step-state k e l =
+      step-taken image m room (stateAt m kind k) e right (phase-open m k) (state-fits m long some kind k l)
 
   -- the k-th state sends the k-th packet of the plan
   packet-sent : (k : ℕ) → k < total m → {s : Session} → s ≡ stateAt m kind k
@@ -169,7 +180,9 @@ module _ (image m : List ℕ) (room : ℕ) (kind : RunKind) (right : rightSizes 
   step-ack k l =
       step-state k Event.Ack (omega arith) ∙ ap given (packet-sent (k + 1) l (ack-next m long some kind k l))
 
-  pub step-last : (k : ℕ) → k + 1 ≡ total m → stepOf image m room (stateAt m kind k) Event.Ack ≡ given (record { session = valid m kind; packet = [] })
+  pub step-last : (k : ℕ) → k + 1 ≡ total m
+      → stepOf image m room (stateAt m kind k) Event.Ack
+      ≡ given (record { session = valid m kind; packet = [] })
   step-last k l =
       step-state k Event.Ack (omega arith)
       ∙ ap (λ (s : Session). given (record { session = s; packet = packetOut image m kind (s .phase) })) (ack-last m long some kind k l)

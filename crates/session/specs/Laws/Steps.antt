@@ -35,7 +35,9 @@ module _ (image m : List ℕ) (room : ℕ) (kind : RunKind) where
     unfolding started
     start-empty e = skip 20 _ _ _ (ap not h) ∙ stop 32 _ _ _ (eq-eqb _ _ e)
 
-    pub start-given : (namedCount m ≡ 0 → ⊥) → started image m room kind ≡ given (record { session = atGreeting m kind; packet = openingByte ∷ [] })
+    pub start-given : (namedCount m ≡ 0 → ⊥)
+        → started image m room kind
+        ≡ given (record { session = atGreeting m kind; packet = openingByte ∷ [] })
     unfolding started
     start-given n = skip 20 _ _ _ (ap not h) ∙ skip 32 _ _ _ (ne-eqb _ _ n) ∙ done _
 
