@@ -45,7 +45,8 @@ erasing k l a n f =
     first (9 when l .sequence .opened ∷ [])
     (pick (massErase a n)
     (given (record { loader = clearedOf l; flash = eraseOf f 0 (length f) }))
-    (first (eraseRows k l a n) (given (record { loader = l; flash = eraseOf f (startOf (pageOf a)) (n * pageSize) }))))
+    (first (eraseRows k l a n)
+    (given (record { loader = l; flash = eraseOf f (startOf (pageOf a)) (n * pageSize) }))))
 
 -- W: each byte becomes old AND new
 unfoldable pub writeRows : ℕ → Loader → ℕ → ℕ → List Rule
@@ -120,7 +121,8 @@ abbrev pub effectAfter : Loader → List ℕ → Answer Effect → Effect
 effectAfter l f (refused n) = record { loader = l; flash = f }
 effectAfter l f (given e) = e
 
-pub record Does (x : Answer Effect) (l : Loader) (f : List ℕ) (verdict : Answer (Unit {0})) (next : Loader) (flash : List ℕ) : Type 0 where
+pub record Does (x : Answer Effect) (l : Loader) (f : List ℕ)
+    (verdict : Answer (Unit {0})) (next : Loader) (flash : List ℕ) : Type 0 where
   pub verdict-is : verdict ≡ bare x
   pub loader-is : next ≡ effectAfter l f x .loader
   pub flash-is : flash ≡ effectAfter l f x .flash

@@ -28,11 +28,23 @@ withCondition l c = record { condition = c; sequence = l .sequence; protection =
 
 -- a protect sequence is open, with so much added
 abbrev pub withAdded : Loader → Protection → Loader
-withAdded l p = record { condition = l .condition; sequence = record { opened = true; added = p }; protection = l .protection; key = l .key }
+withAdded l p =
+    record {
+      condition = l .condition;
+      sequence = record { opened = true; added = p };
+      protection = l .protection;
+      key = l .key;
+    }
 
 -- the sequence closes: the added groups join the protection in force, and the key is recorded
 abbrev pub joinedOf : Loader → ℕ → Loader
-joinedOf l key = record { condition = l .condition; sequence = closed; protection = joinOf (l .protection) (l .sequence .added); key = key }
+joinedOf l key =
+    record {
+      condition = l .condition;
+      sequence = closed;
+      protection = joinOf (l .protection) (l .sequence .added);
+      key = key;
+    }
 
 -- all protection and the key are cleared
 abbrev pub clearedOf : Loader → Loader

@@ -52,7 +52,8 @@ unheard c s = either (left c) (both (waiting c) (not (opensBoard s)))
 unfoldable pub hearOf : ℕ → Loader → List ℕ → List ℕ → Answer Effect
 hearOf k l s f =
     first (11 when unheard (l .condition) s ∷ [])
-    (pick (waiting (l .condition)) (given (record { loader = withCondition l Serving; flash = f })) (serveOf k l s f))
+    (pick (waiting (l .condition)) (given (record { loader = withCondition l Serving; flash = f }))
+    (serveOf k l s f))
 
 -- 20: flash not its size, or answer buffer under 24
 abbrev pub sizesWrong : ℕ → List ℕ → ℕ → Bool
@@ -75,7 +76,8 @@ abbrev pub answerBytes : Loader → Answer Effect → List ℕ
 answerBytes l x = tellOf (waiting (l .condition)) (bare x)
 
 -- what the entry shows: besides loader and flash, the answer bytes and how many they are
-pub record Takes (x : Answer Effect) (l : Loader) (f old : List ℕ) (verdict : Answer (Unit {0})) (next : Loader) (answered : ℕ) (flash answer : List ℕ) : Type 0 where
+pub record Takes (x : Answer Effect) (l : Loader) (f old : List ℕ)
+    (verdict : Answer (Unit {0})) (next : Loader) (answered : ℕ) (flash answer : List ℕ) : Type 0 where
   pub does-is : Does x l f verdict next flash
   pub answered-is : answered ≡ length (answerBytes l x)
   pub answer-is : answer ≡ overlay (answerBytes l x) old

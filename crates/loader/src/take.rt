@@ -31,8 +31,9 @@ pub struct Taken {
 
 pub fn take(loader: Loader, input: &[u8], flash: &mut [u8], answer: &mut [u8]) -> Taken
     ensures { λ r. ⌜
-        (let x = takeOf pages loader (now (input .entry)) (now (flash .entry)) (length (now (answer .entry))) in
-        Takes x loader (now (flash .entry)) (now (answer .entry)) (paperVerdict (r .verdict)) (r .loader)
+        (let f = now (flash .entry) in
+        let x = takeOf pages loader (now (input .entry)) f (length (now (answer .entry))) in
+        Takes x loader f (now (answer .entry)) (paperVerdict (r .verdict)) (r .loader)
         (r .answered) (now (flash .exit)) (now (answer .exit)))
         ⌝ }
 {

@@ -60,7 +60,8 @@ unfoldable pub phaseAt : List ℕ → ℕ → Phase
 phaseAt m k =
     pick (ltb k (runCount m)) (eraseAt (select (runStarts m) k pages))
     (pick (ltb k (runCount m + pieceCount m)) (writeAt (select (pieceStarts m) (k - runCount m) flashSize))
-    (pick (ltb k (beforeRun m)) (verifyAt (select (pieceStarts m) (k - (runCount m + pieceCount m)) flashSize))
+    (pick (ltb k (beforeRun m))
+    (verifyAt (select (pieceStarts m) (k - (runCount m + pieceCount m)) flashSize))
     Phase.Run))
 
 -- that packet: the one that is out after k acknowledgements
@@ -74,7 +75,7 @@ lowestRun m = next (touched m) 0 pages
 abbrev pub lowestPiece : List ℕ → ℕ
 lowestPiece m = next (named m) 0 flashSize
 
--- where the run after the one at q, and the piece after the one at a, start; the board's end where there is none
+-- where the run after the one at q and the piece after the one at a start; the board's end where there is none
 abbrev pub nextRun : List ℕ → ℕ → ℕ
 nextRun m q = follow (touched m) pages pages q
 

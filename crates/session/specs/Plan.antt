@@ -1,5 +1,5 @@
--- The packets of a file, in order: one E for each maximal run of touched pages, one W for each piece, the same
--- pieces by V, one R.
+-- The packets of a file, in order: one E for each maximal run of touched pages, one W for each piece,
+-- the same pieces by V, one R.
 use Prim.Native.Nat.{ℕ, zero, suc, _+_, _*_}
 use mathlib.Core.Bool.{Bool}
 use mathlib.Core.List.{List, [], _∷_, _++_, map}

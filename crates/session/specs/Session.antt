@@ -91,9 +91,17 @@ judgeOf (Phase.Ended o) e = judgeLaterOf e
 
 -- the session in another phase, with so many more acknowledged
 abbrev pub movedOf : Session → Phase → ℕ → Session
-movedOf s phase n = record { kind = s .kind; phase = phase; acknowledged = s .acknowledged + n; total = s .total; named = s .named }
+movedOf s phase n =
+    record {
+      kind = s .kind;
+      phase = phase;
+      acknowledged = s .acknowledged + n;
+      total = s .total;
+      named = s .named;
+    }
 
--- a greeting and an acknowledgement go on along the file, all else ends the session; the greeting acknowledges no packet
+-- a greeting and an acknowledgement go on along the file, and all else ends the session;
+-- the greeting acknowledges no packet
 abbrev pub heardOf : List ℕ → Session → Meaning → Session
 heardOf m s Meaning.Greeted = movedOf s (afterOf m (s .phase)) 0
 heardOf m s Meaning.Acknowledged = movedOf s (afterOf m (s .phase)) 1
@@ -107,7 +115,8 @@ abbrev pub sentOf : List ℕ → List ℕ → Session → Event → Sent
 sentOf image m s e =
     record { session = tookOf m s e; packet = packetOut image m (s .kind) (tookOf m s e .phase) }
 
--- some start and acknowledgements over this file lead to such a session: its counts are the file's, and its cursor stands where they lead
+-- some start and acknowledgements over this file lead to such a session:
+-- its counts are the file's, and its cursor stands where they lead
 unfoldable pub fitsOf : List ℕ → Session → Bool
 fitsOf m s =
     both (ltb 0 (namedCount m))
@@ -129,7 +138,7 @@ unfoldable pub series : List ℕ → Session → List Event → Session
 series m s [] = s
 series m s (e ∷ es) = series m (pick (ended (s .phase)) s (tookOf m s e)) es
 
--- after k acknowledgements a byte is marked: it is named, and the V of its piece is among the packets acknowledged
+-- after k acknowledgements a byte is marked: it is named, and the V of its piece is among those acknowledged
 unfoldable pub marked : List ℕ → ℕ → ℕ → Bool
 marked m k a = both (named m a) (leb (runCount m + pieceCount m + count (pieceStarts m) (a + 1)) k)
 
@@ -153,7 +162,8 @@ failing Outcome.Bel k = true
 failing Outcome.NoGreeting k = eqb k 0
 failing Outcome.Other k = true
 
--- what a start and events lead to: it waits for the greeting, has k acknowledged, has failed with k acknowledged, or is valid
+-- what a start and events lead to:
+-- it waits for the greeting, has k acknowledged, has failed with k acknowledged, or is valid
 pub data Came (m : List ℕ) (kind : RunKind) (s : Session) : Type 0 where
   waits : s ≡ atGreeting m kind → Came m kind s
   stands : (k : ℕ) → k < total m → s ≡ stateAt m kind k → Came m kind s

@@ -31,11 +31,12 @@ pub leaves-all : {x : Answer Effect} {n : ℕ} (l : Loader) (f : List ℕ) → x
     → Does x l f (refused n) l f
 leaves-all l f e = rw e (record { verdict-is = refl; loader-is = refl; flash-is = refl })
 
-pub does : {x : Answer Effect} {e : Effect} {v : Answer (Unit {0})} {next : Loader} {flash : List ℕ} (l : Loader) (f : List ℕ)
+pub does : {x : Answer Effect} {e : Effect} {v : Answer (Unit {0})} {next : Loader} {flash : List ℕ}
+    (l : Loader) (f : List ℕ)
     → x ≡ given e → v ≡ given tt → next ≡ e .loader → flash ≡ e .flash → Does x l f v next flash
 does l f e v p q = rw e (record { verdict-is = v; loader-is = p; flash-is = q })
 
--- what holds of loader and flash as they were and as the command leaves them holds after it, whatever its table says
+-- what holds of loader and flash as they were, and as the command leaves them, holds whatever its table says
 pub either-way : (P : Effect → Type 0) (l : Loader) (f : List ℕ) (e : Effect) (t : List Rule)
     → P (record { loader = l; flash = f }) → P e → P (effectAfter l f (first t (given e)))
 unfolding first
@@ -81,7 +82,8 @@ module _ {A : Type 0} (k : ℕ) (l : Loader) (a n : ℕ) (r : Answer A) where
 -- what is let through has pages, lies in flash, and is not protected
 pub erase-let : {A : Type 0} {y : A} (k : ℕ) (l : Loader) (a n : ℕ) (r : Answer A)
     → first (eraseRows k l a n) r ≡ given y
-    → (n ≡ 0 → ⊥) × (a < startOf k) × (pageOf a + n ≤ k) × (protectedPages (l .protection) (pageOf a) (pageOf a + n) ≡ false)
+    → (n ≡ 0 → ⊥) × (a < startOf k) × (pageOf a + n ≤ k)
+    × (protectedPages (l .protection) (pageOf a) (pageOf a + n) ≡ false)
 unfolding eraseRows
 erase-let k l a n r e =
     let p = passed 7 _ _ _ e in
@@ -102,7 +104,8 @@ module _ (k : ℕ) (l : Loader) (a n : ℕ) (f : List ℕ) where
 
     pub erasing-pages : massErase a n ≡ false
         → erasing k l a n f
-        ≡ first (eraseRows k l a n) (given (record { loader = l; flash = eraseOf f (startOf (pageOf a)) (n * pageSize) }))
+        ≡ first (eraseRows k l a n)
+        (given (record { loader = l; flash = eraseOf f (startOf (pageOf a)) (n * pageSize) }))
     unfolding erasing
     erasing-pages h = skip 9 _ _ _ p ∙ done _ ∙ simp h
 
@@ -188,7 +191,7 @@ module _ (k : ℕ) (l : Loader) (a : ℕ) (d f : List ℕ) where
   unfolding obeyOf
   obey-run = refl
 
--- ---- V: let through exactly when no sequence is open, the range lies in flash, reading is free and the bytes are equal
+-- ---- V: let through exactly when no sequence is open, the range fits, reading is free and the bytes are equal
 
 module _ {A : Type 0} (k : ℕ) (l : Loader) (a : ℕ) (d f : List ℕ) (r : Answer A) where
   pub verify-passes : l .sequence .opened ≡ false → a + length d ≤ startOf k → l .protection .read ≡ false
@@ -198,7 +201,8 @@ module _ {A : Type 0} (k : ℕ) (l : Loader) (a : ℕ) (d f : List ℕ) (r : Ans
       skip 9 _ _ r p ∙ skip 7 _ _ r (le-ltb _ _ q) ∙ skip 8 _ _ r s ∙ skip 10 _ _ r (ap not t) ∙ done r
 
   pub verify-let : {y : A} → first (verifyRows k l a d f) r ≡ given y
-      → (l .sequence .opened ≡ false) × (a + length d ≤ startOf k) × (l .protection .read ≡ false) × (equalsOf f a d ≡ true)
+      → (l .sequence .opened ≡ false) × (a + length d ≤ startOf k) × (l .protection .read ≡ false)
+      × (equalsOf f a d ≡ true)
   unfolding verifyRows
   verify-let e =
       let p = passed 9 _ _ _ e in

@@ -114,7 +114,8 @@ module _ (k : ℕ) (l : Loader) (a : ℕ) where
 pub force-by : (k : ℕ) (l : Loader) (s f : List ℕ) (room : ℕ)
     → ((p : Parts) → readOf s ≡ given p
     → (p .command ≡ 0x45 → massErase (p .address) (getD (dataIn s p) 0 0) ≡ false)
-    × (p .command ≡ 0x50 → either (eqb (getD (dataIn s p) 0 0) 0x00) (eqb (getD (dataIn s p) 0 0) 0x0F) ≡ true))
+    × (p .command ≡ 0x50
+    → either (eqb (getD (dataIn s p) 0 0) 0x00) (eqb (getD (dataIn s p) 0 0) 0x0F) ≡ true))
     → force (effectAfter l f (takeOf k l s f room) .loader) ≡ force l
 force-by k l s f room h =
     any-input (λ (e : Effect). force (e .loader) ≡ force l) k l s f room refl refl

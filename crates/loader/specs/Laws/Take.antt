@@ -71,7 +71,8 @@ module _ (k : ℕ) (l : Loader) (s f : List ℕ) where
 pub any-input : (P : Effect → Type 0) (k : ℕ) (l : Loader) (s f : List ℕ) (room : ℕ)
     → P (record { loader = l; flash = f })
     → P (record { loader = withCondition l Serving; flash = f })
-    → ((p : Parts) → readOf s ≡ given p → P (effectAfter l f (obeyOf k l (p .command) (p .address) (dataIn s p) f)))
+    → ((p : Parts) → readOf s ≡ given p
+    → P (effectAfter l f (obeyOf k l (p .command) (p .address) (dataIn s p) f)))
     → P (effectAfter l f (takeOf k l s f room))
 unfolding takeOf hearOf serveOf first
 any-input P k l s f room as-was greeted obeys =
@@ -81,7 +82,8 @@ any-input P k l s f room as-was greeted obeys =
     served = record { loader = withCondition l Serving; flash = f }
 
     go : (a b w : Bool) (r : Answer Parts) → readOf s ≡ r
-        → P (effectAfter l f (pick a (refused 20) (pick b (refused 11) (pick w (given served) (obeyed k l s f r)))))
+        → P (effectAfter l f
+        (pick a (refused 20) (pick b (refused 11) (pick w (given served) (obeyed k l s f r)))))
     go true b w r e = as-was
     go false true w r e = as-was
     go false false true r e = greeted

@@ -17,7 +17,11 @@ use Rattle.session.specs.declared.session.Stepped.{Stepped}
 
 -- the refusal of a number
 refusalBy : ℕ → Refusal
-refusalBy n = pick (eqb n 20) Refusal.Size (pick (eqb n 32) Refusal.Empty (pick (eqb n 44) Refusal.Ended Refusal.Foreign))
+refusalBy n =
+    pick (eqb n 20) Refusal.Size
+    (pick (eqb n 32) Refusal.Empty
+    (pick (eqb n 44) Refusal.Ended
+    Refusal.Foreign))
 
 refusal-back : (x : Refusal) → refusalBy (paperRefusal x) ≡ x
 unfolding refusalBy

@@ -1,4 +1,4 @@
--- Laws of marks: a byte is marked by the ACK to the V that holds it, and R is out only when every named byte is.
+-- Laws of marks: a byte is marked by the ACK to the V that holds it, and R is out only when all named bytes are.
 use Prim.Native.Nat.{ℕ, _+_, _≤_, _<_}
 use mathlib.Core.Bool.{true, not}
 use mathlib.Core.List.{List}
@@ -93,7 +93,8 @@ module _ (m : List ℕ) (long : length m ≡ mapSize) where
 
   -- in the plan's own terms
   pub named-verified : (image : List ℕ) (kind : RunKind) (a : ℕ) (d : List ℕ) → named m a ≡ true
-      → (j : ℕ) × (s : ℕ) × (j < total m) × (getD (plan image m kind) j d ≡ verifyPacket image m s) × (s ≤ a) × (a < s + pieceLen m s)
+      → (j : ℕ) × (s : ℕ) × (j < total m) × (getD (plan image m kind) j d ≡ verifyPacket image m s)
+      × (s ≤ a) × (a < s + pieceLen m s)
   named-verified image kind a d t =
       let v = named-held a t in
       let h = v .2 in

@@ -1,4 +1,4 @@
--- Laws of phases: those that stand in a file are the phases after its acknowledgements, and each leads to the next.
+-- Laws of phases: those that stand in a file are the ones after its acknowledgements; each leads to the next.
 use Prim.Native.Nat.{ℕ, _+_, _-_, _≤_, _<_}
 use mathlib.Core.Bool.{Bool, true, false}
 use mathlib.Core.List.{List}
@@ -30,7 +30,7 @@ module _ (q : ℕ → Bool) (base a k : ℕ) where
   pub ranked-by : q a ≡ true → base + count q a ≡ k → ranked q base a k ≡ true
   ranked-by t e = rw t (eq-eqb _ _ e)
 
--- the first piece has rank 0, the one after a piece the next rank, and behind the last piece all of them are counted
+-- the first piece has rank 0, the one after a piece the next, and behind the last piece all are counted
 module _ (p : ℕ → Bool) (cap n : ℕ) (z : 0 < cap) (past : (a : ℕ) → n ≤ a → p a ≡ false) (base : ℕ) where
   first-ranked : next p 0 (n - 0) < n → ranked (starts p cap) base (next p 0 (n - 0)) base ≡ true
   first-ranked l = ranked-by (starts p cap) base _ base (first-starts p cap n z past l) (omega (arith, first-rank p cap n z past))

@@ -100,7 +100,8 @@ module _ (m : List ℕ) (long : length m ≡ mapSize) (some : 0 < namedCount m) 
 
   -- an event that is no ACK ends the session, and not valid
   pub not-ack : (k : ℕ) (e : Event) → isAck e ≡ false → k < total m
-      → (o : Outcome) × (failing o k ≡ true) × (tookOf m (stateAt m kind k) e ≡ sessionIn m kind (Phase.Ended o) k)
+      → (o : Outcome) × (failing o k ≡ true)
+      × (tookOf m (stateAt m kind k) e ≡ sessionIn m kind (Phase.Ended o) k)
   unfolding tookOf
   not-ack k Event.Greeting h l = (Outcome.Other, refl, rw (phase-later m k Event.Greeting, add-zero))
   not-ack k Event.Ack h l = absurd (true-false h)
@@ -172,7 +173,8 @@ module _ (m : List ℕ) (long : length m ≡ mapSize) (some : 0 < namedCount m) 
       ∙ series-ended m (valid m kind) es refl
 
   series-fails : (k : ℕ) (e : Event) (es : List Event) → isAck e ≡ false → k < total m
-      → (o : Outcome) × (failing o k ≡ true) × (series m (stateAt m kind k) (e ∷ es) ≡ sessionIn m kind (Phase.Ended o) k)
+      → (o : Outcome) × (failing o k ≡ true)
+      × (series m (stateAt m kind k) (e ∷ es) ≡ sessionIn m kind (Phase.Ended o) k)
   series-fails k e es a l =
       let f = not-ack k e a l in
       (f .0, f .1, event-taken (stateAt m kind k) e es (phase-open m k) (f .2) ∙ series-ended m (sessionIn m kind (Phase.Ended (f .0)) k) es refl)

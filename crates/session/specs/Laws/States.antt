@@ -1,4 +1,4 @@
--- Laws of states: the state after k acknowledgements, what leads from one to the next, and that exactly these fit a file.
+-- Laws of states: the state after k acknowledgements, what leads to the next, and that exactly these fit a file.
 use Prim.Native.Nat.{ℕ, _+_, _≤_, _<_}
 use mathlib.Core.Bool.{Bool, true, false}
 use mathlib.Core.List.{List, []}
@@ -153,7 +153,8 @@ fits-reached m long s h = (f .some, go (s .phase) refl)
 
 -- ---- a step from a state
 
-module _ (image m : List ℕ) (room : ℕ) (kind : RunKind) (right : rightSizes (length image) (length m) room ≡ true) (long : length m ≡ mapSize) (some : 0 < namedCount m) where
+module _ (image m : List ℕ) (room : ℕ) (kind : RunKind)
+    (right : rightSizes (length image) (length m) room ≡ true) (long : length m ≡ mapSize) (some : 0 < namedCount m) where
   -- no event is refused
   pub step-state : (k : ℕ) (e : Event) → k < total m
       → stepOf image m room (stateAt m kind k) e ≡ given (sentOf image m (stateAt m kind k) e)
