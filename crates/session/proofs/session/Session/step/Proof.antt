@@ -5,7 +5,7 @@ use borrow.Author.Tests.{not-true, not-false}
 use lib.ListN.{length}
 use Rattle.session.specs.Laws.Steps.{step-size, step-ended, step-foreign, step-taken, sizes-right}
 use Rattle.session.specs.Session.{stepOf, rightSizes, fitsOf}
-use Rattle.session.proofs.Handing.{kept, handed}
+use Rattle.session.proofs.Handing.{left-alone, handed}
 use Rattle.session.proofs.session.Session.step.Statement.{statement}
 use Rattle.session.proofs.session.Session.step.Tie as tie
 use Rattle.session.specs.Phases.{ended}
@@ -35,19 +35,19 @@ right-sizes-requires : tie.Need-right-sizes-requires
 right-sizes-requires c κs = search needs
 
 returns : tie.Need-returns
-returns c = kept _ (step-size _ _ _ _ _ (sym (c .before .right-sizes .ensures) ∙ not-true _ (c .if1 .taken)))
+returns c = left-alone _ (step-size _ _ _ _ _ (sym (c .before .right-sizes .ensures) ∙ not-true _ (c .if1 .taken)))
 
 ended-requires : tie.Need-ended-requires
 ended-requires c κs = search needs
 
 returns-2 : tie.Need-returns-2
-returns-2 c = kept _ (step-ended _ _ _ _ _ (sized (c .before .before)) (sym (c .before .ended .ensures) ∙ c .if2 .taken))
+returns-2 c = left-alone _ (step-ended _ _ _ _ _ (sized (c .before .before)) (sym (c .before .ended .ensures) ∙ c .if2 .taken))
 
 fits-requires : tie.Need-fits-requires
 fits-requires c κs = right (c .before .before) .1
 
 returns-3 : tie.Need-returns-3
-returns-3 c = kept _ (step-foreign _ _ _ _ _ (sized (c .before .before .before .before)) (going (c .before .before)) (sym (c .before .fits2 .ensures) ∙ not-true _ (c .if3 .taken)))
+returns-3 c = left-alone _ (step-foreign _ _ _ _ _ (sized (c .before .before .before .before)) (going (c .before .before)) (sym (c .before .fits2 .ensures) ∙ not-true _ (c .if3 .taken)))
 
 classify-requires : tie.Need-classify-requires
 classify-requires c κs = search needs
