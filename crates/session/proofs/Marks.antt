@@ -15,11 +15,11 @@ use Rattle.basis.specs.Refusals.{refused, given}
 use Rattle.runs.specs.Laws.Files.{bytes-past}
 use Rattle.runs.specs.Laws.Runs.{count-yes, count-no}
 use Rattle.runs.specs.Map.{named}
-use Rattle.runs.specs.Pieces.{pieceStarts, runCount, pieceCount}
+use Rattle.runs.specs.Pieces.{pieceStarts}
 use Rattle.runs.specs.Runs.{count}
 use Rattle.runs.specs.Survey.{surveyOf}
 use Rattle.runs.specs.declared.survey.Surveyed.{Surveyed}
-use Rattle.session.specs.Session.{marked, provedOf}
+use Rattle.session.specs.Session.{marked, provedOf, markedFrom}
 use Rattle.session.specs.declared.session.Session.{Session}
 use Rattle.session.proofs.Surveys.{told}
 
@@ -53,14 +53,14 @@ module _ (m : List ℕ) (s : Session) (a : ℕ) where
       unfolding marked
       mark-unproved h l =
           let t = told m a e in
-          let u : s .acknowledged < runCount m + pieceCount m + count (pieceStarts m) (a + 1) = omega (arith, t .runs, t .pieces, rank) in
+          let u : s .acknowledged < markedFrom m a = omega (arith, t .runs, t .pieces, rank) in
           mark-given (both-second _ _ h ∙ lt-leb _ _ u)
 
       pub mark-proved : named m a ≡ true → f .all .runs + f .all .pieces + (f .below .pieces + n) ≤ s .acknowledged → given true ≡ provedOf m s a
       unfolding marked
       mark-proved h l =
           let t = told m a e in
-          let u : runCount m + pieceCount m + count (pieceStarts m) (a + 1) ≤ s .acknowledged = omega (arith, t .runs, t .pieces, rank) in
+          let u : markedFrom m a ≤ s .acknowledged = omega (arith, t .runs, t .pieces, rank) in
           mark-given (both-second _ _ h ∙ le-leb _ _ u)
 
 -- the counts fit

@@ -8,9 +8,9 @@ use Rattle.basis.specs.Choice.{pick, both}
 use Rattle.basis.specs.Units.{startOf}
 use Rattle.runs.specs.Map.{named}
 use Rattle.runs.specs.Pages.{touched}
-use Rattle.runs.specs.Pieces.{pieceMost, pieceStarts, runStarts, runCount, pieceCount}
+use Rattle.runs.specs.Pieces.{pieceMost, pieceStarts, runStarts, runCount}
 use Rattle.runs.specs.Runs.{count, next, select, follow}
-use Rattle.session.specs.Plan.{erasePacket, writePacket, verifyPacket, runPacket, beforeRun}
+use Rattle.session.specs.Plan.{erasePacket, writePacket, verifyPacket, runPacket, beforeRun, beforeVerify}
 use Rattle.session.specs.declared.phase.Outcome.{Outcome}
 use Rattle.session.specs.declared.phase.Phase.{Phase}
 use Rattle.session.specs.declared.phase.RunKind.{RunKind}
@@ -59,9 +59,9 @@ verifyAt a = Phase.Verify (record { 0 = a })
 unfoldable pub phaseAt : List ℕ → ℕ → Phase
 phaseAt m k =
     pick (ltb k (runCount m)) (eraseAt (select (runStarts m) k pages))
-    (pick (ltb k (runCount m + pieceCount m)) (writeAt (select (pieceStarts m) (k - runCount m) flashSize))
+    (pick (ltb k (beforeVerify m)) (writeAt (select (pieceStarts m) (k - runCount m) flashSize))
     (pick (ltb k (beforeRun m))
-    (verifyAt (select (pieceStarts m) (k - (runCount m + pieceCount m)) flashSize))
+    (verifyAt (select (pieceStarts m) (k - beforeVerify m) flashSize))
     Phase.Run))
 
 -- that packet: the one that is out after k acknowledgements
@@ -112,7 +112,7 @@ unfoldable pub standsIn : List ℕ → Phase → ℕ → Bool
 standsIn m Phase.Greeting k = eqb k 0
 standsIn m (Phase.Erase p) k = ranked (runStarts m) 0 (p .0) k
 standsIn m (Phase.Write a) k = ranked (pieceStarts m) (runCount m) (a .0) k
-standsIn m (Phase.Verify a) k = ranked (pieceStarts m) (runCount m + pieceCount m) (a .0) k
+standsIn m (Phase.Verify a) k = ranked (pieceStarts m) (beforeVerify m) (a .0) k
 standsIn m Phase.Run k = eqb (beforeRun m) k
 standsIn m (Phase.Ended o) k = false
 

@@ -51,7 +51,10 @@ plan image m kind =
     ++ (map (verifyPacket image m) (places (pieceStarts m) flashSize)
     ++ (runPacket kind ∷ [])))
 
--- the packets before R, with e erases and w pieces: e + 2w
+-- the packets before the first V and before R, with e erases and w pieces: e + w and e + 2w
+abbrev pub beforeVerify : List ℕ → ℕ
+beforeVerify m = runCount m + pieceCount m
+
 abbrev pub beforeRun : List ℕ → ℕ
 beforeRun m = runCount m + 2 * pieceCount m
 

@@ -8,10 +8,10 @@ use Rattle.basis.specs.Board.{flashSize, mapSize, openingByte}
 use Rattle.basis.specs.Choice.{pick, both}
 use Rattle.basis.specs.Refusals.{Answer, refused, given, _when_, first}
 use Rattle.runs.specs.Map.{named}
-use Rattle.runs.specs.Pieces.{pieceStarts, runCount, pieceCount, namedCount, pieceLen}
+use Rattle.runs.specs.Pieces.{pieceStarts, namedCount, pieceLen}
 use Rattle.runs.specs.Runs.{count}
 use Rattle.session.specs.Phases.{ended, packetOut, phaseAt, afterOf, standsIn, verifyAt}
-use Rattle.session.specs.Plan.{total}
+use Rattle.session.specs.Plan.{total, beforeVerify}
 use Rattle.session.specs.declared.event.Event.{Event}
 use Rattle.session.specs.declared.phase.Outcome.{Outcome}
 use Rattle.session.specs.declared.phase.Phase.{Phase}
@@ -138,9 +138,13 @@ unfoldable pub series : List ℕ → Session → List Event → Session
 series m s [] = s
 series m s (e ∷ es) = series m (pick (ended (s .phase)) s (tookOf m s e)) es
 
+-- the packets up to the V of the byte's piece
+abbrev pub markedFrom : List ℕ → ℕ → ℕ
+markedFrom m a = beforeVerify m + count (pieceStarts m) (a + 1)
+
 -- after k acknowledgements a byte is marked: it is named, and the V of its piece is among those acknowledged
 unfoldable pub marked : List ℕ → ℕ → ℕ → Bool
-marked m k a = both (named m a) (leb (runCount m + pieceCount m + count (pieceStarts m) (a + 1)) k)
+marked m k a = both (named m a) (leb (markedFrom m a) k)
 
 -- asking for a mark: 20 for a map of another size
 unfoldable pub provedOf : List ℕ → Session → ℕ → Answer Bool

@@ -18,7 +18,7 @@ use Rattle.runs.specs.Pieces.{pieceMost, pieceStarts, runStarts, runCount, piec
 use Rattle.runs.specs.Runs.{count, starts, next, select, follow}
 use Rattle.session.specs.Laws.Starts.{run-below, piece-below, first-piece-below, first-run-below}
 use Rattle.session.specs.Phases.{eraseAt, writeAt, verifyAt, phaseAt, lowestPiece, nextRun, nextPiece, afterOf, atStart, ranked, standsIn}
-use Rattle.session.specs.Plan.{total, beforeRun}
+use Rattle.session.specs.Plan.{total, beforeRun, beforeVerify}
 use Rattle.session.specs.declared.phase.Phase.{Phase}
 
 -- ---- ranks
@@ -66,7 +66,7 @@ module _ (m : List ℕ) (long : length m ≡ mapSize) where
   stands-below Phase.Greeting k h = omega (arith, eqb-true k 0 h)
   stands-below (Phase.Erase p) k h = omega (arith, run-rank (p .0) k h)
   stands-below (Phase.Write a) k h = omega (arith, piece-rank (runCount m) (a .0) k h)
-  stands-below (Phase.Verify a) k h = omega (arith, piece-rank (runCount m + pieceCount m) (a .0) k h)
+  stands-below (Phase.Verify a) k h = omega (arith, piece-rank (beforeVerify m) (a .0) k h)
   stands-below Phase.Run k h = omega (arith, eqb-true (beforeRun m) k h)
   stands-below (Phase.Ended o) k h = absurd (true-false (sym h))
 
@@ -76,7 +76,7 @@ module _ (m : List ℕ) (long : length m ≡ mapSize) where
   stands-start Phase.Greeting k h = refl
   stands-start (Phase.Erase p) k h = ranked-is (runStarts m) 0 (p .0) k h .0
   stands-start (Phase.Write a) k h = ranked-is (pieceStarts m) (runCount m) (a .0) k h .0
-  stands-start (Phase.Verify a) k h = ranked-is (pieceStarts m) (runCount m + pieceCount m) (a .0) k h .0
+  stands-start (Phase.Verify a) k h = ranked-is (pieceStarts m) (beforeVerify m) (a .0) k h .0
   stands-start Phase.Run k h = refl
   stands-start (Phase.Ended o) k h = refl
 
@@ -106,17 +106,17 @@ module _ (m : List ℕ) (long : length m ≡ mapSize) where
       rw (le-ltb _ _ d, lt-ltb _ _ (piece-rank m long (runCount m) (a .0) k h))
       (ap writeAt (sym (select-at (pieceStarts m) flashSize (a .0) (piece-below m long (a .0) (t .0)) (t .0)) ∙ ap (λ (x : ℕ). select (pieceStarts m) x flashSize) c))
   stands-at (Phase.Verify a) k g h =
-      let t = ranked-is (pieceStarts m) (runCount m + pieceCount m) (a .0) k h in
-      let c : count (pieceStarts m) (a .0) ≡ k - (runCount m + pieceCount m) = omega arith in
-      let b : k < beforeRun m = omega (arith, piece-rank m long (runCount m + pieceCount m) (a .0) k h) in
+      let t = ranked-is (pieceStarts m) (beforeVerify m) (a .0) k h in
+      let c : count (pieceStarts m) (a .0) ≡ k - beforeVerify m = omega arith in
+      let b : k < beforeRun m = omega (arith, piece-rank m long (beforeVerify m) (a .0) k h) in
       let d : runCount m ≤ k = omega arith in
-      let f : runCount m + pieceCount m ≤ k = omega arith in
+      let f : beforeVerify m ≤ k = omega arith in
       rw (le-ltb _ _ d, le-ltb _ _ f, lt-ltb _ _ b)
       (ap verifyAt (sym (select-at (pieceStarts m) flashSize (a .0) (piece-below m long (a .0) (t .0)) (t .0)) ∙ ap (λ (x : ℕ). select (pieceStarts m) x flashSize) c))
   stands-at Phase.Run k g h =
       let e : beforeRun m ≡ k = eqb-true _ _ h in
       let d : runCount m ≤ k = omega arith in
-      let f : runCount m + pieceCount m ≤ k = omega arith in
+      let f : beforeVerify m ≤ k = omega arith in
       let b : beforeRun m ≤ k = omega arith in
       rw (le-ltb _ _ d, le-ltb _ _ f, le-ltb _ _ b)
   stands-at (Phase.Ended o) k g h = absurd (true-false (sym h))
@@ -127,14 +127,14 @@ unfolding phaseAt standsIn
 at-stands m k l =
     decide (ltb k (runCount m))
     (λ d. let s = select-kth (runStarts m) pages k (ltb-true _ _ d) in rw d (ranked-by (runStarts m) 0 _ k (s .passes) (omega (arith, s .rank))))
-    (λ d. decide (ltb k (runCount m + pieceCount m))
+    (λ d. decide (ltb k (beforeVerify m))
     (λ f. let g : runCount m ≤ k = ltb-false _ _ d in
-    let s = select-kth (pieceStarts m) flashSize (k - runCount m) (omega (arith, ltb-true k (runCount m + pieceCount m) f)) in
+    let s = select-kth (pieceStarts m) flashSize (k - runCount m) (omega (arith, ltb-true k (beforeVerify m) f)) in
     rw (d, f) (ranked-by (pieceStarts m) (runCount m) _ k (s .passes) (omega (arith, s .rank))))
     (λ f. decide (ltb k (beforeRun m))
-    (λ b. let g : runCount m + pieceCount m ≤ k = ltb-false _ _ f in
-    let s = select-kth (pieceStarts m) flashSize (k - (runCount m + pieceCount m)) (omega (arith, ltb-true k (beforeRun m) b)) in
-    rw (d, f, b) (ranked-by (pieceStarts m) (runCount m + pieceCount m) _ k (s .passes) (omega (arith, s .rank))))
+    (λ b. let g : beforeVerify m ≤ k = ltb-false _ _ f in
+    let s = select-kth (pieceStarts m) flashSize (k - beforeVerify m) (omega (arith, ltb-true k (beforeRun m) b)) in
+    rw (d, f, b) (ranked-by (pieceStarts m) (beforeVerify m) _ k (s .passes) (omega (arith, s .rank))))
     (λ b. rw (d, f, b) (eq-eqb (beforeRun m) k (omega (arith, ltb-false k (beforeRun m) b))))))
 
 -- ---- from phase to phase
@@ -164,18 +164,18 @@ module _ (m : List ℕ) (long : length m ≡ mapSize) (some : 0 < namedCount m) 
   write-stands a k h =
       decide (ltb (nextPiece m a) flashSize)
       (λ d. rw d (follow-ranked (named m) pieceMost flashSize (omega arith) (bytes-past m long) (runCount m) a k h (ltb-true _ _ d)))
-      (λ d. rw d (subst (λ (j : ℕ). ranked (pieceStarts m) (runCount m + pieceCount m) (lowestPiece m) j ≡ true)
+      (λ d. rw d (subst (λ (j : ℕ). ranked (pieceStarts m) (beforeVerify m) (lowestPiece m) j ≡ true)
       (follow-last (named m) pieceMost flashSize (omega arith) (bytes-past m long) (runCount m) a k h (ltb-false _ _ d))
-      (first-piece-ranked (runCount m + pieceCount m))))
+      (first-piece-ranked (beforeVerify m))))
 
   pub verify-stands : (a k : ℕ) → standsIn m (verifyAt a) k ≡ true
       → standsIn m (afterOf m (verifyAt a)) (k + 1) ≡ true
   unfolding afterOf standsIn
   verify-stands a k h =
       decide (ltb (nextPiece m a) flashSize)
-      (λ d. rw d (follow-ranked (named m) pieceMost flashSize (omega arith) (bytes-past m long) (runCount m + pieceCount m) a k h (ltb-true _ _ d)))
+      (λ d. rw d (follow-ranked (named m) pieceMost flashSize (omega arith) (bytes-past m long) (beforeVerify m) a k h (ltb-true _ _ d)))
       (λ d. rw d (eq-eqb (beforeRun m) (k + 1)
-      (omega (arith, follow-last (named m) pieceMost flashSize (omega arith) (bytes-past m long) (runCount m + pieceCount m) a k h (ltb-false _ _ d)))))
+      (omega (arith, follow-last (named m) pieceMost flashSize (omega arith) (bytes-past m long) (beforeVerify m) a k h (ltb-false _ _ d)))))
 
   -- a cursor that moves on stands at a start
   pub after-start : (ph : Phase) (k : ℕ) → standsIn m ph k ≡ true → atStart m (afterOf m ph) ≡ true

@@ -14,7 +14,7 @@ use Rattle.runs.specs.Laws.Runs.{count-zero, count-yes, count-no}
 use Rattle.runs.specs.Pieces.{pieceStarts, runStarts, runCount, pieceCount}
 use Rattle.runs.specs.Runs.{count, select}
 use Rattle.session.specs.Phases.{phaseAt, packetAt}
-use Rattle.session.specs.Plan.{erasePacket, writePacket, verifyPacket, places, plan, total, beforeRun}
+use Rattle.session.specs.Plan.{erasePacket, writePacket, verifyPacket, places, plan, total, beforeRun, beforeVerify}
 use Rattle.session.specs.declared.phase.RunKind.{RunKind}
 
 -- the places that pass are as many as are counted, and the k-th is the one of rank k
@@ -74,12 +74,12 @@ module _ (image m : List ℕ) (kind : RunKind) where
   plan-at k d l =
       decide (ltb k (runCount m))
       (λ a. rw a (part-at (erasePacket m) (runStarts m) pages k _ d (ltb-true _ _ a)))
-      (λ a. let ka : runCount m ≤ k = ltb-false _ _ a in rw a (part-past (erasePacket m) (runStarts m) pages k _ d ka ∙ decide (ltb k (runCount m + pieceCount m))
-      (λ b. rw b (part-at (writePacket image m) (pieceStarts m) flashSize (k - runCount m) _ d (omega (arith, ltb-true k (runCount m + pieceCount m) b))))
-      (λ b. let kb : pieceCount m ≤ k - runCount m = omega (arith, ltb-false k (runCount m + pieceCount m) b) in
-      let e : k - runCount m - pieceCount m ≡ k - (runCount m + pieceCount m) = omega arith in
+      (λ a. let ka : runCount m ≤ k = ltb-false _ _ a in rw a (part-past (erasePacket m) (runStarts m) pages k _ d ka ∙ decide (ltb k (beforeVerify m))
+      (λ b. rw b (part-at (writePacket image m) (pieceStarts m) flashSize (k - runCount m) _ d (omega (arith, ltb-true k (beforeVerify m) b))))
+      (λ b. let kb : pieceCount m ≤ k - runCount m = omega (arith, ltb-false k (beforeVerify m) b) in
+      let e : k - runCount m - pieceCount m ≡ k - beforeVerify m = omega arith in
       rw b (part-past (writePacket image m) (pieceStarts m) flashSize (k - runCount m) _ d kb ∙ rw e (decide (ltb k (beforeRun m))
-      (λ c. rw c (part-at (verifyPacket image m) (pieceStarts m) flashSize (k - (runCount m + pieceCount m)) _ d (omega (arith, ltb-true k (beforeRun m) c))))
-      (λ c. let kc : pieceCount m ≤ k - (runCount m + pieceCount m) = omega (arith, ltb-false k (beforeRun m) c) in
-      let z : k - (runCount m + pieceCount m) - pieceCount m ≡ 0 = omega arith in
-      rw c (part-past (verifyPacket image m) (pieceStarts m) flashSize (k - (runCount m + pieceCount m)) _ d kc ∙ rw z)))))))
+      (λ c. rw c (part-at (verifyPacket image m) (pieceStarts m) flashSize (k - beforeVerify m) _ d (omega (arith, ltb-true k (beforeRun m) c))))
+      (λ c. let kc : pieceCount m ≤ k - beforeVerify m = omega (arith, ltb-false k (beforeRun m) c) in
+      let z : k - beforeVerify m - pieceCount m ≡ 0 = omega arith in
+      rw c (part-past (verifyPacket image m) (pieceStarts m) flashSize (k - beforeVerify m) _ d kc ∙ rw z)))))))

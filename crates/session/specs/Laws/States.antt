@@ -12,13 +12,13 @@ use Rattle.basis.specs.Board.{mapSize, flashSize, pages}
 use Rattle.basis.specs.Choice.{pick}
 use Rattle.basis.specs.Laws.Choice.{decide, true-false}
 use Rattle.basis.specs.Refusals.{given}
-use Rattle.runs.specs.Pieces.{runCount, pieceCount, namedCount}
+use Rattle.runs.specs.Pieces.{runCount, namedCount}
 use Rattle.session.specs.Laws.Fits.{Fitting, fitting, fits-by}
 use Rattle.session.specs.Laws.Phases.{greeted, stands-below, stands-at, at-stands, greeting-stands, erase-stands, write-stands, verify-stands}
 use Rattle.session.specs.Laws.Plan.{plan-at}
 use Rattle.session.specs.Laws.Steps.{step-taken}
 use Rattle.session.specs.Phases.{ended, packetOut, eraseAt, writeAt, verifyAt, phaseAt, nextRun, nextPiece, afterOf, standsIn}
-use Rattle.session.specs.Plan.{plan, total, beforeRun}
+use Rattle.session.specs.Plan.{plan, total, beforeRun, beforeVerify}
 use Rattle.session.specs.Session.{sessionIn, atGreeting, stateAt, valid, Sent, rightSizes, judgeLaterOf, judgeOf, tookOf, sentOf, fitsOf, stepOf, Reached}
 use Rattle.session.specs.declared.event.Event.{Event}
 use Rattle.session.specs.declared.phase.Outcome.{Outcome}
@@ -48,7 +48,7 @@ phase-cases : (P : Phase → Type 0) → ((q : ℕ) → P (eraseAt q)) → ((a :
     → ((a : ℕ) → P (verifyAt a)) → P Phase.Run → (m : List ℕ) (k : ℕ) → P (phaseAt m k)
 unfolding phaseAt
 phase-cases P e w v r m k =
-    go (ltb k (runCount m)) (ltb k (runCount m + pieceCount m)) (ltb k (beforeRun m)) _ _ _
+    go (ltb k (runCount m)) (ltb k (beforeVerify m)) (ltb k (beforeRun m)) _ _ _
   where
     go : (a b c : Bool) (x y z : ℕ)
         → P (pick a (eraseAt x) (pick b (writeAt y) (pick c (verifyAt z) Phase.Run)))
@@ -73,7 +73,7 @@ module _ (m : List ℕ) (k : ℕ) where
   unfolding phaseAt
   run-after b =
       let d : runCount m ≤ k = omega arith in
-      let f : runCount m + pieceCount m ≤ k = omega arith in
+      let f : beforeVerify m ≤ k = omega arith in
       rw (le-ltb _ _ d, le-ltb _ _ f, le-ltb _ _ b)
 
 -- ---- from state to state
