@@ -5,6 +5,7 @@ use mathlib.Core.List.{List, [], _∷_}
 use mathlib.Core.Path.{_≡_}
 use lib.Dec.{leb, ltb, eqb}
 use lib.ListN.{length, getD}
+use Rattle.basis.specs.Board.{pageSize, groupSize}
 use Rattle.basis.specs.Choice.{pick, both, either}
 use Rattle.basis.specs.Refusals.{Answer, refused, given, Rule, _when_, first, bare}
 use Rattle.basis.specs.Units.{pageOf, groupOf, startOf}
@@ -15,7 +16,6 @@ use Rattle.loader.specs.Verify.{equalsOf}
 use Rattle.loader.specs.declared.protection.Protection.{Protection}
 use Rattle.loader.specs.declared.state.Condition.the-variants.{Left}
 use Rattle.loader.specs.declared.state.Loader.{Loader}
-use Rattle.basis.specs.Board.{pageSize, groupSize}
 
 -- loader and flash after an accepted command
 pub record Effect : Type 0 where

@@ -2,11 +2,14 @@
 use Prim.Native.Nat.{ℕ, _+_, _≤_, _<_}
 use mathlib.Core.Bool.{Bool, not, true, false}
 use mathlib.Core.List.{List, [], _∷_}
+use mathlib.Core.Path.{_≡_}
+use mathlib.Core.Logic.{_⊎_}
 use lib.Dec.{eqb, leb, ltb}
 use lib.ListN.{length}
 use Rattle.basis.specs.Board.{flashSize, mapSize, openingByte}
 use Rattle.basis.specs.Choice.{pick, both}
 use Rattle.basis.specs.Refusals.{Answer, refused, given, _when_, first}
+use Rattle.packet.specs.Packet.{packetMost}
 use Rattle.runs.specs.Map.{named}
 use Rattle.runs.specs.Pieces.{pieceStarts, namedCount, pieceLen}
 use Rattle.runs.specs.Runs.{count}
@@ -16,12 +19,9 @@ use Rattle.session.specs.declared.event.Event.{Event}
 use Rattle.session.specs.declared.phase.Outcome.{Outcome}
 use Rattle.session.specs.declared.phase.Phase.{Phase}
 use Rattle.session.specs.declared.phase.RunKind.{RunKind}
+use Rattle.session.specs.declared.session.Meaning.{Meaning}
 use Rattle.session.specs.declared.session.Next.{Next}
 use Rattle.session.specs.declared.session.Session.{Session}
-use Rattle.session.specs.declared.session.Meaning.{Meaning}
-use Rattle.packet.specs.Packet.{packetMost}
-use mathlib.Core.Path.{_≡_}
-use mathlib.Core.Logic.{_⊎_}
 
 -- a session over a file, in a phase and with so many packets acknowledged
 abbrev pub sessionIn : List ℕ → RunKind → Phase → ℕ → Session

@@ -6,6 +6,7 @@ use mathlib.Core.Path.{_≡_, refl, ap, _∙_}
 use borrow.Author.Tests.{lt-ltb, le-ltb, le-leb, lt-leb, eq-eqb, ne-eqb, ltb-false, leb-false, eqb-false, not-false}
 use lib.Dec.{leb, eqb}
 use lib.ListN.{length, getD}
+use Rattle.basis.specs.Board.{pageSize}
 use Rattle.basis.specs.Choice.{pick}
 use Rattle.basis.specs.Laws.Choice.{either-first, either-second, either-false, either-none}
 use Rattle.basis.specs.Laws.Refusals.{skip, stop, done, passed}
@@ -17,7 +18,6 @@ use Rattle.loader.specs.State.{withCondition, clearedOf}
 use Rattle.loader.specs.Verify.{equalsOf}
 use Rattle.loader.specs.declared.state.Condition.the-variants.{Left}
 use Rattle.loader.specs.declared.state.Loader.{Loader}
-use Rattle.basis.specs.Board.{pageSize}
 
 -- what a function that obeys shows, by its two ways out
 pub stays : {x : Answer Loader} {n : ℕ} (l : Loader) → x ≡ refused n → Changes x l (refused n) l

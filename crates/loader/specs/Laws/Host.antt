@@ -6,10 +6,11 @@ use mathlib.Core.Path.{_≡_, refl, ap, _∙_}
 use borrow.Author.Tests.{ne-eqb}
 use lib.Dec.{eqb}
 use lib.ListN.{length, getD}
+use Rattle.basis.specs.Board.{answerMost, openingByte}
 use Rattle.basis.specs.Choice.{pick}
 use Rattle.basis.specs.Refusals.{Answer, given, first}
 use Rattle.basis.specs.Units.{startOf}
-use Rattle.loader.specs.Commands.{effectAfter, keeping, erasing, writing, verifyRows, protecting, running, obeyOf, Effect}
+use Rattle.loader.specs.Commands.{effectAfter, keeping, erasing, writing, verifyRows, running, obeyOf, Effect, protecting}
 use Rattle.loader.specs.Laws.Commands.{obey-erase, obey-write, obey-verify, obey-run, keeping-is}
 use Rattle.loader.specs.Laws.Take.{heard-waiting, heard-serving, served-packet, take-heard, any-input}
 use Rattle.loader.specs.State.{withCondition}
@@ -19,7 +20,6 @@ use Rattle.loader.specs.declared.state.Loader.{Loader}
 use Rattle.packet.specs.Laws.Packet.{packet-data, carried-plainly, read-erase, read-write, read-verify, read-run}
 use Rattle.packet.specs.Packet.{carriedOf, packet, Parts, said, readOf, dataMost}
 use Rattle.packet.specs.Turn.{turnedOf}
-use Rattle.basis.specs.Board.{answerMost, openingByte}
 
 module _ (k : ℕ) (l : Loader) (f : List ℕ) (room : ℕ) (size : length f ≡ startOf k) (fits : answerMost ≤ room) where
   -- the opening byte
@@ -63,14 +63,15 @@ kept l f x = ap (λ (e : Effect). e .flash) (keeping-is l f x)
 flash-kept : (k : ℕ) (l : Loader) (c a : ℕ) (d f : List ℕ) → (c ≡ 0x45 → ⊥) → (c ≡ 0x57 → ⊥)
     → effectAfter l f (obeyOf k l c a d f) .flash ≡ f
 unfolding obeyOf
-flash-kept k l c a d f e w = rw (ne-eqb c 0x45 e, ne-eqb c 0x57 w) (go (eqb c 0x56) (eqb c 0x50))
+flash-kept k l c a d f e w =
+    rw (ne-eqb c 0x45 e, ne-eqb c 0x57 w)
+    (go (eqb c 0x56) (eqb c 0x50) (first (verifyRows k l a d f) (given l)) (protecting k l a (getD d 0 0)) (running l a))
   where
-    go : (v p : Bool)
-        → effectAfter l f (pick v (keeping f (first (verifyRows k l a d f) (given l))) (pick p (keeping f (protecting k l a (getD d 0 0))) (keeping f (running l a)))) .flash
-        ≡ f
-    go true p = kept l f (first (verifyRows k l a d f) (given l))
-    go false true = kept l f (protecting k l a (getD d 0 0))
-    go false false = kept l f (running l a)
+    go : (v p : Bool) (x y z : Answer Loader)
+        → effectAfter l f (pick v (keeping f x) (pick p (keeping f y) (keeping f z))) .flash ≡ f
+    go true p x y z = kept l f x
+    go false true x y z = kept l f y
+    go false false x y z = kept l f z
 
 -- so only a packet of E or W changes it
 pub flash-by : (k : ℕ) (l : Loader) (s f : List ℕ) (room : ℕ)

@@ -9,6 +9,7 @@ use borrow.Author.Tests.{leb-true, leb-false, eqb-true}
 use lib.Dec.{leb, eqb}
 use lib.ListN.{length, getD}
 use Rattle.basis.specs.Bits.{bit}
+use Rattle.basis.specs.Board.{groupSize}
 use Rattle.basis.specs.Choice.{pick, either}
 use Rattle.basis.specs.Laws.Bits.{bit-or}
 use Rattle.basis.specs.Laws.Choice.{decide, true-false, either-first, either-false}
@@ -17,14 +18,13 @@ use Rattle.basis.specs.Refusals.{refused, given, Rule, first}
 use Rattle.basis.specs.Units.{groupOf, pageGroupOf, pageOf, startOf}
 use Rattle.loader.specs.Commands.{Effect, protectedPages, protectedBytes, massErase, eraseRows, erasing, writeRows, writing, verifyRows, opening, addedOf, adding, closing, protecting, running, obeyOf, loaderAfter, effectAfter}
 use Rattle.loader.specs.Laws.Commands.{either-way, erasing-open, erasing-pages, keeping-is}
+use Rattle.loader.specs.Laws.Take.{any-input}
 use Rattle.loader.specs.Protection.{none, joinOf, anyOf}
 use Rattle.loader.specs.State.{withCondition, withAdded, joinedOf}
+use Rattle.loader.specs.Take.{dataIn, takeOf}
 use Rattle.loader.specs.declared.protection.Protection.{Protection}
 use Rattle.loader.specs.declared.state.Condition.the-variants.{Left}
 use Rattle.loader.specs.declared.state.Loader.{Loader}
-use Rattle.basis.specs.Board.{groupSize}
-use Rattle.loader.specs.Take.{dataIn, takeOf}
-use Rattle.loader.specs.Laws.Take.{any-input}
 use Rattle.packet.specs.Packet.{Parts, readOf}
 
 -- none of n groups from g on is protected

@@ -6,6 +6,8 @@ use mathlib.Core.Path.{_≡_, refl, ap, _∙_}
 use borrow.Author.Tests.{lt-ltb, le-ltb, eq-eqb, ne-eqb}
 use lib.Dec.{eqb}
 use lib.ListN.{length}
+use Rattle.basis.specs.Board.{answerMost}
+use Rattle.basis.specs.Choice.{pick}
 use Rattle.basis.specs.Laws.Choice.{either-first, either-second, either-false}
 use Rattle.basis.specs.Laws.Refusals.{skip, stop, done}
 use Rattle.basis.specs.Refusals.{refused, given, Answer, first}
@@ -16,8 +18,6 @@ use Rattle.loader.specs.Take.{opensBoard, serveOf, hearOf, takeOf, waiti
 use Rattle.loader.specs.declared.state.Condition.the-variants.{Waiting, Serving, Left}
 use Rattle.loader.specs.declared.state.Loader.{Loader}
 use Rattle.packet.specs.Packet.{Parts, readOf}
-use Rattle.basis.specs.Board.{answerMost}
-use Rattle.basis.specs.Choice.{pick}
 
 module _ (k : ℕ) (l : Loader) (s f : List ℕ) where
   -- ---- by condition

@@ -14,8 +14,8 @@ use Rattle.session.specs.Phases.{atStart, standsIn}
 use Rattle.session.specs.Plan.{total}
 use Rattle.session.specs.Session.{judgeOf, heardOf, tookOf, fitsOf}
 use Rattle.session.specs.declared.event.Event.{Event}
-use Rattle.session.specs.declared.session.Session.{Session}
 use Rattle.session.specs.declared.session.Meaning.{Meaning}
+use Rattle.session.specs.declared.session.Session.{Session}
 
 -- the file has a named byte, the session's counts are the file's, and its phase stands in the file
 pub record Fitting (m : List ℕ) (s : Session) : Type 0 where

@@ -10,6 +10,7 @@ use lib.ListN.{length, drop, length-drop}
 use lib.Seq.{length-take-le}
 use Rattle.basis.specs.Board.{pages, flashSize, mapSize}
 use Rattle.basis.specs.Laws.Choice.{decide, true-false}
+use Rattle.basis.specs.Units.{pageOf}
 use Rattle.runs.specs.Laws.Files.{bytes-past, pages-past, file-piece}
 use Rattle.runs.specs.Laws.Pages.{named-touched}
 use Rattle.runs.specs.Laws.Pieces.{starts-below, piece-some, piece-most}
@@ -20,7 +21,6 @@ use Rattle.runs.specs.Pieces.{pieceMost, pieceStarts, pieceLen, runStarts, runC
 use Rattle.runs.specs.Runs.{count}
 use Rattle.session.specs.Phases.{lowestRun, lowestPiece}
 use Rattle.session.specs.Plan.{pieceBytes}
-use Rattle.basis.specs.Units.{pageOf}
 
 -- e is small; so is w, by pieces-half of Totals
 pub runs-most : (m : List ℕ) → runCount m ≤ pages

@@ -5,18 +5,18 @@ use mathlib.Core.List.{List, [], _∷_}
 use mathlib.Core.Path.{_≡_, ap, _∙_}
 use borrow.Author.Tests.{eq-eqb, ne-eqb, eqb-true, leb-true}
 use lib.ListN.{length}
+use lib.Dec.{eqb, leb}
+use Rattle.basis.specs.Board.{flashSize, mapSize, openingByte}
+use Rattle.basis.specs.Laws.Choice.{both-true}
 use Rattle.basis.specs.Laws.Refusals.{skip, stop, done}
 use Rattle.basis.specs.Refusals.{refused, given}
+use Rattle.packet.specs.Packet.{packetMost}
 use Rattle.runs.specs.Pieces.{namedCount}
 use Rattle.session.specs.Phases.{ended}
 use Rattle.session.specs.Session.{atGreeting, rightSizes, started, sentOf, fitsOf, stepOf}
 use Rattle.session.specs.declared.event.Event.{Event}
 use Rattle.session.specs.declared.phase.RunKind.{RunKind}
 use Rattle.session.specs.declared.session.Session.{Session}
-use lib.Dec.{eqb, leb}
-use Rattle.basis.specs.Board.{flashSize, mapSize, openingByte}
-use Rattle.basis.specs.Laws.Choice.{both-true}
-use Rattle.packet.specs.Packet.{packetMost}
 
 -- what right sizes are
 pub sizes-right : (i m p : ℕ) → rightSizes i m p ≡ true → (i ≡ flashSize) × (m ≡ mapSize) × (packetMost ≤ p)

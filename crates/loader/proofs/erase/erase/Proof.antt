@@ -1,6 +1,7 @@
 -- `erase` meets its contract: the sequence first, then the mass erase, then the table of 7 and 8.
 use Prim.Native.Nat.{ℕ, _*_}
 use mathlib.Core.Path.{refl, ap, sym, _∙_, _≡_}
+use mathlib.Core.Bool.{false}
 use native.Mathlib.Omega.{arith}
 use borrow.Author.Needs.{needs}
 use Rattle.basis.specs.Board.{pages, pageSize}
@@ -8,12 +9,11 @@ use Rattle.basis.specs.Laws.Refusals.{alike, through}
 use Rattle.basis.specs.Refusals.{given}
 use Rattle.basis.specs.Units.{startOf}
 use Rattle.image.specs.Flash.{eraseOf}
+use Rattle.loader.specs.Commands.{massErase}
 use Rattle.loader.specs.Laws.Commands.{leaves-all, does, erase-let, erasing-open, erasing-mass, erasing-pages}
 use Rattle.loader.specs.Paper.{paperVerdict}
 use Rattle.loader.proofs.erase.erase.Statement.{statement}
 use Rattle.loader.proofs.erase.erase.Tie as tie
-use mathlib.Core.Bool.{false}
-use Rattle.loader.specs.Commands.{massErase}
 
 -- past the first two tests pages are to be erased
 abbrev entry : tie.Else2 → tie.Start

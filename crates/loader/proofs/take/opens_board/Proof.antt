@@ -4,10 +4,10 @@ use borrow.Author.Needs.{needs}
 use borrow.Author.Tests.{eq-eqb, ne-eqb}
 use lib.Dec.{eqb}
 use lib.ListN.{length, getD}
+use Rattle.basis.specs.Board.{openingByte}
 use Rattle.basis.specs.Laws.Choice.{both-second, both-false}
 use Rattle.loader.proofs.take.opens_board.Statement.{statement}
 use Rattle.loader.proofs.take.opens_board.Tie as tie
-use Rattle.basis.specs.Board.{openingByte}
 
 returns : tie.Need-returns
 returns c = let s = c .before .args .input .now in sym (both-false (eqb (length s) 1) (eqb (getD s 0 0) openingByte) (ne-eqb _ _ (c .if1 .taken)))

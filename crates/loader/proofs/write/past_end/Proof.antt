@@ -5,10 +5,10 @@ use native.Mathlib.Omega.{arith}
 use borrow.Author.Needs.{needs}
 use borrow.Author.Tests.{ltb-true, ltb-false, lt-ltb, le-ltb}
 use lib.Dec.{ltb}
+use Rattle.basis.specs.Board.{flashSize}
 use Rattle.basis.specs.Laws.Choice.{decide}
 use Rattle.loader.proofs.write.past_end.Statement.{statement}
 use Rattle.loader.proofs.write.past_end.Tie as tie
-use Rattle.basis.specs.Board.{flashSize}
 
 -- the sum that could wrap is turned into a difference that cannot
 as-difference : (a x : ℕ) → x ≤ flashSize → ltb (flashSize - x) a ≡ ltb flashSize (a + x)

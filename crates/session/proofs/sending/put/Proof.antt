@@ -2,19 +2,19 @@
 use Prim.Native.Nat.{ℕ, _+_, _≤_}
 use mathlib.Core.List.{List}
 use mathlib.Core.Path.{sym, ap, _∙_, _≡_}
+use mathlib.Core.Bool.{true}
 use borrow.Author.Needs.{needs}
 use lib.ListN.{length, getD}
 use Rattle.basis.specs.Laws.Refusals.{apart, given-one}
 use Rattle.basis.specs.Lists.{overlay}
 use Rattle.basis.specs.Refusals.{Answer, counted, written, given}
-use Rattle.packet.specs.Paper.{paperBuilt}
-use Rattle.session.proofs.sending.put.Statement.{statement}
-use Rattle.session.proofs.sending.put.Tie as tie
 use Rattle.packet.specs.Laws.Packet.{build-table}
 use Rattle.packet.specs.Laws.Table.{table-passes}
 use Rattle.packet.specs.Packet.{packet, buildOf, packetMost}
+use Rattle.packet.specs.Paper.{paperBuilt}
 use Rattle.packet.specs.Table.{listed, inShape}
-use mathlib.Core.Bool.{true}
+use Rattle.session.proofs.sending.put.Statement.{statement}
+use Rattle.session.proofs.sending.put.Tie as tie
 
 -- the builder refuses nothing that stands in the table, in a buffer that has room
 allowed : (room c a : ℕ) (d : List ℕ) → packetMost ≤ room → listed c ≡ true

@@ -1,20 +1,20 @@
 -- `send_piece` meets its contract: a piece has 1 to 250 bytes, all in the image.
 use Prim.Native.Nat.{_+_, _-_, ℕ, _≤_}
 use mathlib.Core.Path.{_≡_, _∙_}
+use mathlib.Core.Bool.{true}
 use native.Mathlib.Omega.{arith}
 use borrow.Author.Needs.{needs}
+use borrow.Author.Tests.{eqb-true, le-leb}
 use lib.ListN.{length, getD}
+use lib.Dec.{eqb, leb}
+use Rattle.basis.specs.Laws.Choice.{decide, both-second}
+use Rattle.packet.specs.Table.{listed, inShape, dataCount}
 use Rattle.runs.specs.Laws.Files.{file-piece}
 use Rattle.runs.specs.Pieces.{pieceLen}
 use Rattle.session.specs.Laws.Starts.{piece-below, piece-carried}
 use Rattle.session.specs.Plan.{pieceBytes, carriesPiece}
 use Rattle.session.proofs.sending.send_piece.Statement.{statement}
 use Rattle.session.proofs.sending.send_piece.Tie as tie
-use mathlib.Core.Bool.{true}
-use borrow.Author.Tests.{eqb-true, le-leb}
-use lib.Dec.{eqb, leb}
-use Rattle.basis.specs.Laws.Choice.{decide, both-second}
-use Rattle.packet.specs.Table.{listed, inShape, dataCount}
 
 -- W and V with 1 to 250 bytes stand in the table
 carries-listed : (c : ℕ) → carriesPiece c ≡ true → listed c ≡ true

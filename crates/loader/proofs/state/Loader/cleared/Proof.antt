@@ -1,8 +1,8 @@
 -- `cleared` meets its contract: protection and key alone change.
 use borrow.Author.Needs.{needs}
+use Rattle.loader.specs.State.{clearedKey}
 use Rattle.loader.proofs.state.Loader.cleared.Statement.{statement}
 use Rattle.loader.proofs.state.Loader.cleared.Tie as tie
-use Rattle.loader.specs.State.{clearedKey}
 
 none-requires : tie.Need-none-requires
 none-requires c κs = search needs

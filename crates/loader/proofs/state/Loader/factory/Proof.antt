@@ -1,9 +1,9 @@
 -- `factory` meets its contract: each part is as it leaves the factory.
 use borrow.Author.Needs.{needs}
+use Rattle.loader.specs.State.{clearedKey}
 use Rattle.loader.specs.declared.state.Condition.the-variants.{Waiting}
 use Rattle.loader.proofs.state.Loader.factory.Statement.{statement}
 use Rattle.loader.proofs.state.Loader.factory.Tie as tie
-use Rattle.loader.specs.State.{clearedKey}
 
 closed-requires : tie.Need-closed-requires
 closed-requires c κs = search needs

@@ -3,13 +3,13 @@ use mathlib.Core.Path.{_≡_, ap, _∙_}
 use native.Mathlib.Omega.{arith}
 use borrow.Author.Needs.{needs}
 use Rattle.runs.specs.Survey.{surveyOf}
+use Rattle.session.specs.Phases.{placeOf}
 use Rattle.session.specs.Session.{fitsOf}
 use Rattle.session.specs.declared.phase.Phase.{Phase}
 use Rattle.session.proofs.Fits.{standsBy, fits-past, fits-empty, fits-named, fits-total, fits-place}
 use Rattle.session.proofs.Surveys.{Told, told}
 use Rattle.session.proofs.session.Session.fits.Statement.{statement}
 use Rattle.session.proofs.session.Session.fits.Tie as tie
-use Rattle.session.specs.Phases.{placeOf}
 
 -- the entry and the survey, as later places see them
 abbrev entry : tie.After-survey → tie.Start

@@ -1,16 +1,16 @@
 -- `proved` meets its contract: the survey ranks the byte's piece among those verified.
 use mathlib.Core.Path.{sym, _∙_, _≡_}
+use mathlib.Core.Bool.{true}
 use native.Mathlib.Omega.{arith}
 use borrow.Author.Needs.{needs}
 use borrow.Author.Tests.{not-true, not-false}
+use lib.ListN.{length}
+use Rattle.basis.specs.Board.{mapSize}
+use Rattle.runs.specs.Map.{named}
 use Rattle.session.proofs.Marks.{mark-size, mark-past, mark-unnamed, mark-unproved, mark-proved, rank-few}
 use Rattle.session.proofs.Surveys.{told}
 use Rattle.session.proofs.session.Session.proved.Statement.{statement}
 use Rattle.session.proofs.session.Session.proved.Tie as tie
-use mathlib.Core.Bool.{true}
-use lib.ListN.{length}
-use Rattle.basis.specs.Board.{mapSize}
-use Rattle.runs.specs.Map.{named}
 
 -- the entry and what the passed tests say of it, as the survey and the places behind it see them
 abbrev entry : tie.After-survey → tie.Start

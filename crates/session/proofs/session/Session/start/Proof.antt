@@ -1,26 +1,26 @@
 -- `start` meets its contract: each test is a row of the table, in its order.
+use Prim.Native.Nat.{ℕ, _+_, _*_, _≤_}
 use mathlib.Core.Path.{refl, sym, _∙_, _≡_}
+use mathlib.Core.List.{List}
+use mathlib.Core.Bool.{true}
 use native.Mathlib.Omega.{arith}
 use borrow.Author.Needs.{needs}
 use borrow.Author.Tests.{not-true, not-false}
 use lib.ListN.{length}
 use lib.Seq.{set-split}
-use Rattle.session.specs.Laws.Steps.{start-size, start-empty, start-given, sizes-right}
-use Rattle.session.proofs.Handing.{left-alone, handed}
-use Rattle.session.proofs.Surveys.{told, Told}
-use Rattle.session.proofs.session.Session.start.Statement.{statement}
-use Rattle.session.proofs.session.Session.start.Tie as tie
-use Prim.Native.Nat.{ℕ, _+_, _*_, _≤_}
-use mathlib.Core.List.{List}
+use Rattle.basis.specs.Board.{flashSize, mapSize, openingByte}
+use Rattle.packet.specs.Packet.{packetMost}
 use Rattle.runs.specs.Survey.{surveyOf}
 use Rattle.runs.specs.declared.survey.Surveyed.{Surveyed}
+use Rattle.session.specs.Laws.Steps.{start-size, start-empty, start-given, sizes-right}
 use Rattle.session.specs.Plan.{total}
 use Rattle.session.specs.Session.{atGreeting, rightSizes}
 use Rattle.session.specs.declared.phase.Phase.{Phase}
 use Rattle.session.specs.declared.phase.RunKind.{RunKind}
-use mathlib.Core.Bool.{true}
-use Rattle.basis.specs.Board.{flashSize, mapSize, openingByte}
-use Rattle.packet.specs.Packet.{packetMost}
+use Rattle.session.proofs.Handing.{left-alone, handed}
+use Rattle.session.proofs.Surveys.{told, Told}
+use Rattle.session.proofs.session.Session.start.Statement.{statement}
+use Rattle.session.proofs.session.Session.start.Tie as tie
 
 -- what a start makes of a survey is the session that waits
 opened : (m : List ℕ) (kind : RunKind) {f : Surveyed} {n : ℕ} → f ≡ surveyOf m 0 → n ≡ f .all .runs + 2 * f .all .pieces + 1

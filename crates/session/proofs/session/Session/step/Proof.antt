@@ -1,18 +1,18 @@
 -- `step` meets its contract: each test is a row of the table, in its order.
+use Prim.Native.Nat.{_≤_}
 use mathlib.Core.Path.{sym, ap, _∙_, _≡_}
+use mathlib.Core.Bool.{true, false}
 use borrow.Author.Needs.{needs}
 use borrow.Author.Tests.{not-true, not-false}
 use lib.ListN.{length}
+use Rattle.basis.specs.Board.{flashSize, mapSize}
+use Rattle.packet.specs.Packet.{packetMost}
 use Rattle.session.specs.Laws.Steps.{step-size, step-ended, step-foreign, step-taken, sizes-right}
+use Rattle.session.specs.Phases.{ended}
 use Rattle.session.specs.Session.{stepOf, rightSizes, fitsOf}
 use Rattle.session.proofs.Handing.{left-alone, handed}
 use Rattle.session.proofs.session.Session.step.Statement.{statement}
 use Rattle.session.proofs.session.Session.step.Tie as tie
-use Rattle.session.specs.Phases.{ended}
-use mathlib.Core.Bool.{true, false}
-use Prim.Native.Nat.{_≤_}
-use Rattle.basis.specs.Board.{flashSize, mapSize}
-use Rattle.packet.specs.Packet.{packetMost}
 
 -- what each passed test says of the entry
 abbrev entry : tie.Else1 → tie.Start
