@@ -37,25 +37,28 @@ none-any s g (suc n) h =
 
 -- bytes and pages are free when each of their groups is
 module _ (p : Protection) where
-  Free : ℕ → Type 0
-  Free g = bit (p .groups) g ≡ false
+  Unprotected : ℕ → Type 0
+  Unprotected g = bit (p .groups) g ≡ false
 
   pub free-bytes : (a e : ℕ) → a < e → ((b : ℕ) → a ≤ b → b < e → bit (p .groups) (groupOf b) ≡ false)
       → protectedBytes p a e ≡ false
-  unfolding Free
+  unfolding Unprotected
   free-bytes a e h free =
       none-any (p .groups) (groupOf a) (groupOf (e + (groupSize - 1)) - groupOf a)
       (λ n l. let g : ℕ = groupOf a + n in
       decide (leb a (groupSize * g))
-      (λ t. let u = leb-true a (groupSize * g) t in subst Free (omega arith) (free (groupSize * g) u (omega arith)))
-      (λ t. let u = leb-false a (groupSize * g) t in subst Free (omega arith) (free a (omega arith) h)))
+      (λ t. let u = leb-true a (groupSize * g) t in
+      subst Unprotected (omega arith) (free (groupSize * g) u (omega arith)))
+      (λ t. let u = leb-false a (groupSize * g) t in
+      subst Unprotected (omega arith) (free a (omega arith) h)))
 
   pub free-pages : (i j : ℕ) → i < j → ((q : ℕ) → i ≤ q → q < j → bit (p .groups) (pageGroupOf q) ≡ false)
       → protectedPages p i j ≡ false
-  unfolding Free
+  unfolding Unprotected
   free-pages i j h free =
       free-bytes (startOf i) (startOf j) (omega arith)
-      (λ b u v. let e : pageGroupOf (pageOf b) ≡ groupOf b = omega arith in subst Free e (free (pageOf b) (omega arith) (omega arith)))
+      (λ b u v. let e : pageGroupOf (pageOf b) ≡ groupOf b = omega arith in
+      subst Unprotected e (free (pageOf b) (omega arith) (omega arith)))
 
 -- what a join protects
 join-groups : (p q : Protection) (g : ℕ)
