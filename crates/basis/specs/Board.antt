@@ -20,6 +20,10 @@ flashSize = 0xF800
 abbrev pub mapSize : ℕ
 mapSize = 7936
 
+-- the byte that opens the board
+abbrev pub openingByte : ℕ
+openingByte = 0x08
+
 -- no answer is longer than the greeting
 abbrev pub answerMost : ℕ
 answerMost = 24

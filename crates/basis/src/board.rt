@@ -13,6 +13,9 @@ pub const SIZE: usize = END as usize;
 
 pub const MAP: usize = SIZE / 8;
 
+// The byte that opens the board.
+pub const OPENING: u8 = 0x08;
+
 // No answer is longer than the greeting.
 pub const ANSWER: usize = 24;
 

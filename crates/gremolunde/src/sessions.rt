@@ -121,7 +121,7 @@ fn marked(answer: Mark) -> SessionMark
             number: 0,
             proved: 1,
         },
-        Mark::Open => SessionMark {
+        Mark::Unproved => SessionMark {
             number: 0,
             proved: 0,
         },

@@ -7,7 +7,7 @@ use native.Mathlib.Omega.{arith}
 use borrow.Author.Tests.{eq-eqb, ne-eqb, eqb-true, eqb-false}
 use lib.Dec.{eqb}
 use lib.ListN.{length, take}
-use Rattle.basis.specs.Board.{flashSize, mapSize}
+use Rattle.basis.specs.Board.{flashSize, mapSize, openingByte}
 use Rattle.basis.specs.Choice.{both}
 use Rattle.basis.specs.Laws.Choice.{decide, both-true, both-false}
 use Rattle.basis.specs.Laws.Refusals.{stop, alike, through, apart, given-one, refused-one}
@@ -34,7 +34,7 @@ pub record Starts (image m : List ℕ) (kind : RunKind) (room : ℕ) (y : Next) 
   pub some : 0 < namedCount m
   pub next-is : y ≡ record { session = atGreeting m kind; len = 1 }
   pub started-is : started image m room kind
-      ≡ given (record { session = atGreeting m kind; packet = 0x08 ∷ [] })
+      ≡ given (record { session = atGreeting m kind; packet = openingByte ∷ [] })
 
 pub starting : (image m : List ℕ) (kind : RunKind) (room : ℕ) (y : Next)
     → given y ≡ measured (started image m room kind) → Starts image m kind room y
@@ -65,7 +65,7 @@ module _ {image m : List ℕ} {kind : RunKind} {room : ℕ} {y : Next} (s : Star
   pub begun-moment : momentIn first f packet ≡ begun m kind l f
   begun-moment = λ i. record { loader = reset i; flash = f; session = s .next-is i .session; wire = wire i }
     where
-      wire : take (y .len) packet ≡ 0x08 ∷ []
+      wire : take (y .len) packet ≡ openingByte ∷ []
       wire =
           ap (λ (n : Next). take (n .len) packet) (s .next-is)
           ∙ ap (take 1) (p ∙ ap (λ (a : Answer Sent). overlay (sentBytes a) old) (s .started-is))

@@ -5,7 +5,7 @@ use mathlib.Core.List.{List, [], _∷_}
 use mathlib.Core.Path.{_≡_}
 use lib.Dec.{eqb}
 use lib.ListN.{length, getD, take}
-use Rattle.basis.specs.Board.{pages, flashSize, mapSize, answerMost}
+use Rattle.basis.specs.Board.{pages, flashSize, mapSize, answerMost, openingByte}
 use Rattle.basis.specs.Choice.{pick, both}
 use Rattle.basis.specs.Lists.{overlay}
 use Rattle.basis.specs.Refusals.{Answer, refused, given, _when_, first}
@@ -39,7 +39,7 @@ momentWith e s w = record { loader = e .loader; flash = e .flash; session = s; w
 
 -- a freshly reset loader, and a session just started: the opening byte is on the wire
 abbrev pub begun : List ℕ → RunKind → Loader → List ℕ → Moment
-begun m kind l f = record { loader = resetOf l; flash = f; session = atGreeting m kind; wire = 0x08 ∷ [] }
+begun m kind l f = record { loader = resetOf l; flash = f; session = atGreeting m kind; wire = openingByte ∷ [] }
 
 -- the loader takes what arrives; what is lost changes nothing
 abbrev pub loaderTakes : Loader → List ℕ → List ℕ → Answer Effect

@@ -10,7 +10,7 @@ use Rattle.basis.specs.Choice.{pick}
 use Rattle.basis.specs.Refusals.{Answer, refused, given}
 use Rattle.runs.specs.Pieces.{namedCount}
 use Rattle.session.specs.Paper.{paperRefusal}
-use Rattle.session.specs.Phases.{packetOut, phaseAt}
+use Rattle.session.specs.Phases.{packetAt as sessionPacketAt, phaseAt}
 use Rattle.session.specs.Plan.{plan, total}
 use Rattle.session.specs.Session.{Sent}
 use Rattle.session.specs.declared.phase.Outcome.{Outcome}
@@ -33,7 +33,7 @@ planText image m = headLine ++ (stepLines 0 (plan image m RunKind.Reset) ++ tota
 
 -- the packet behind n listed ones
 abbrev pub packetAt : List ℕ → List ℕ → ℕ → List ℕ
-packetAt image m n = packetOut image m RunKind.Reset (phaseAt m n)
+packetAt image m n = sessionPacketAt image m RunKind.Reset n
 
 -- its phase; behind the last packet the session ends
 abbrev pub phaseBehind : List ℕ → ℕ → Phase

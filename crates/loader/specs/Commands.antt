@@ -5,9 +5,10 @@ use mathlib.Core.List.{List, [], _∷_}
 use mathlib.Core.Path.{_≡_}
 use lib.Dec.{leb, ltb, eqb}
 use lib.ListN.{length, getD}
+use Rattle.basis.specs.Board.{pageSize, groupSize}
 use Rattle.basis.specs.Choice.{pick, both, either}
 use Rattle.basis.specs.Refusals.{Answer, refused, given, Rule, _when_, first, bare}
-use Rattle.basis.specs.Units.{pageOf, groupOf, pageGroupOf, startOf}
+use Rattle.basis.specs.Units.{pageOf, groupOf, startOf}
 use Rattle.image.specs.Flash.{eraseOf, storeOf}
 use Rattle.loader.specs.Protection.{none, withGroup, withRead, anyOf}
 use Rattle.loader.specs.State.{withCondition, withAdded, joinedOf, clearedOf}
@@ -15,19 +16,18 @@ use Rattle.loader.specs.Verify.{equalsOf}
 use Rattle.loader.specs.declared.protection.Protection.{Protection}
 use Rattle.loader.specs.declared.state.Condition.the-variants.{Left}
 use Rattle.loader.specs.declared.state.Loader.{Loader}
-use Rattle.basis.specs.Board.{pageSize, groupSize}
 
 -- loader and flash after an accepted command
 pub record Effect : Type 0 where
   pub loader : Loader
   pub flash : List ℕ
 
--- a group of the pages p to q - 1, or of the bytes a to e - 1, is protected
-abbrev pub protectedPages : Protection → ℕ → ℕ → Bool
-protectedPages s p q = anyOf (s .groups) (pageGroupOf p) (pageGroupOf (q + 3) - pageGroupOf p)
-
+-- a group of the bytes a to e - 1, or of the pages i to j - 1, is protected
 abbrev pub protectedBytes : Protection → ℕ → ℕ → Bool
-protectedBytes s a e = anyOf (s .groups) (groupOf a) (groupOf (e + (groupSize - 1)) - groupOf a)
+protectedBytes p a e = anyOf (p .groups) (groupOf a) (groupOf (e + (groupSize - 1)) - groupOf a)
+
+abbrev pub protectedPages : Protection → ℕ → ℕ → Bool
+protectedPages p i j = protectedBytes p (startOf i) (startOf j)
 
 -- E: count 0 with address exactly 0 is the mass erase
 abbrev pub massErase : ℕ → ℕ → Bool
@@ -45,7 +45,8 @@ erasing k l a n f =
     first (9 when l .sequence .opened ∷ [])
     (pick (massErase a n)
     (given (record { loader = clearedOf l; flash = eraseOf f 0 (length f) }))
-    (first (eraseRows k l a n) (given (record { loader = l; flash = eraseOf f (startOf (pageOf a)) (n * pageSize) }))))
+    (first (eraseRows k l a n)
+    (given (record { loader = l; flash = eraseOf f (startOf (pageOf a)) (n * pageSize) }))))
 
 -- W: each byte becomes old AND new
 unfoldable pub writeRows : ℕ → Loader → ℕ → ℕ → List Rule
@@ -84,6 +85,7 @@ adding k l a =
 unfoldable pub closing : Loader → ℕ → Answer Loader
 closing l a = first (9 when not (l .sequence .opened) ∷ []) (given (joinedOf l a))
 
+-- the command table has let no other type through (6)
 unfoldable pub protecting : ℕ → Loader → ℕ → ℕ → Answer Loader
 protecting k l a t = pick (eqb t 0x00) (opening l) (pick (eqb t 0x0F) (adding k l a) (closing l a))
 
@@ -96,7 +98,7 @@ abbrev pub keeping : List ℕ → Answer Loader → Answer Effect
 keeping f (refused n) = refused n
 keeping f (given l) = given (record { loader = l; flash = f })
 
--- the command c with its address and the bytes d after it
+-- the command c with its address and the bytes d after it; the command table has let no other through (5)
 unfoldable pub obeyOf : ℕ → Loader → ℕ → ℕ → List ℕ → List ℕ → Answer Effect
 obeyOf k l c a d f =
     pick (eqb c 0x45) (erasing k l a (getD d 0 0) f)
@@ -105,7 +107,8 @@ obeyOf k l c a d f =
     (pick (eqb c 0x50) (keeping f (protecting k l a (getD d 0 0)))
     (keeping f (running l a)))))
 
--- what a function that obeys shows: verdict, next loader and flash are those of x, or of a refusal
+-- what a function that obeys shows: verdict, next loader and flash are those of x;
+-- where x is a refusal, loader and flash are as they were
 abbrev pub loaderAfter : Loader → Answer Loader → Loader
 loaderAfter l (refused n) = l
 loaderAfter l (given m) = m
@@ -118,7 +121,8 @@ abbrev pub effectAfter : Loader → List ℕ → Answer Effect → Effect
 effectAfter l f (refused n) = record { loader = l; flash = f }
 effectAfter l f (given e) = e
 
-pub record Does (x : Answer Effect) (l : Loader) (f : List ℕ) (verdict : Answer (Unit {0})) (next : Loader) (flash : List ℕ) : Type 0 where
+pub record Does (x : Answer Effect) (l : Loader) (f : List ℕ)
+    (verdict : Answer (Unit {0})) (next : Loader) (flash : List ℕ) : Type 0 where
   pub verdict-is : verdict ≡ bare x
   pub loader-is : next ≡ effectAfter l f x .loader
   pub flash-is : flash ≡ effectAfter l f x .flash

@@ -12,9 +12,12 @@ use Rattle.loader.specs.declared.state.Sequence.{Sequence}
 abbrev pub closed : Sequence
 closed = record { opened = false; added = none }
 
--- the cleared key is 0xFFFFFFFF
+abbrev pub clearedKey : ℕ
+clearedKey = 0xFFFFFFFF
+
+-- as it leaves the factory
 abbrev pub factoryOf : Loader
-factoryOf = record { condition = Waiting; sequence = closed; protection = none; key = 0xFFFFFFFF }
+factoryOf = record { condition = Waiting; sequence = closed; protection = none; key = clearedKey }
 
 -- reset gives waiting, drops an open protect sequence, and keeps protection and key
 abbrev pub resetOf : Loader → Loader
@@ -25,12 +28,24 @@ withCondition l c = record { condition = c; sequence = l .sequence; protection =
 
 -- a protect sequence is open, with so much added
 abbrev pub withAdded : Loader → Protection → Loader
-withAdded l p = record { condition = l .condition; sequence = record { opened = true; added = p }; protection = l .protection; key = l .key }
+withAdded l p =
+    record {
+      condition = l .condition;
+      sequence = record { opened = true; added = p };
+      protection = l .protection;
+      key = l .key;
+    }
 
 -- the sequence closes: the added groups join the protection in force, and the key is recorded
 abbrev pub joinedOf : Loader → ℕ → Loader
-joinedOf l key = record { condition = l .condition; sequence = closed; protection = joinOf (l .protection) (l .sequence .added); key = key }
+joinedOf l key =
+    record {
+      condition = l .condition;
+      sequence = closed;
+      protection = joinOf (l .protection) (l .sequence .added);
+      key = key;
+    }
 
 -- all protection and the key are cleared
 abbrev pub clearedOf : Loader → Loader
-clearedOf l = record { condition = l .condition; sequence = l .sequence; protection = none; key = 0xFFFFFFFF }
+clearedOf l = record { condition = l .condition; sequence = l .sequence; protection = none; key = clearedKey }

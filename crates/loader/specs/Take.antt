@@ -5,7 +5,7 @@ use mathlib.Core.List.{List, [], _∷_}
 use mathlib.Core.Path.{_≡_}
 use lib.Dec.{ltb, eqb}
 use lib.ListN.{length, getD, take, drop}
-use Rattle.basis.specs.Board.{greeting, answerMost}
+use Rattle.basis.specs.Board.{greeting, answerMost, openingByte}
 use Rattle.basis.specs.Choice.{pick, both, either}
 use Rattle.basis.specs.Lists.{overlay}
 use Rattle.basis.specs.Refusals.{Answer, refused, given, _when_, first, bare}
@@ -29,27 +29,39 @@ left Serving = false
 left Left = true
 
 -- the one-byte input 08
-abbrev pub opens : List ℕ → Bool
-opens s = both (eqb (length s) 1) (eqb (getD s 0 0) 0x08)
+abbrev pub opensBoard : List ℕ → Bool
+opensBoard s = both (eqb (length s) 1) (eqb (getD s 0 0) openingByte)
+
+-- the bytes after a packet's address, as they were sent
+abbrev pub dataIn : List ℕ → Parts → List ℕ
+dataIn s p = take (p .size) (drop (p .place) s)
 
 -- serving reads the input and obeys it
 abbrev pub obeyed : ℕ → Loader → List ℕ → List ℕ → Answer Parts → Answer Effect
 obeyed k l s f (refused n) = refused n
-obeyed k l s f (given p) = obeyOf k l (p .command) (p .address) (take (p .size) (drop (p .place) s)) f
+obeyed k l s f (given p) = obeyOf k l (p .command) (p .address) (dataIn s p) f
 
 unfoldable pub serveOf : ℕ → Loader → List ℕ → List ℕ → Answer Effect
 serveOf k l s f = obeyed k l s f (readOf s)
 
--- 11: left, or waiting and the input is not the single 08; waiting takes that byte and serves
+-- 11: left, or waiting and the input is not the single 08
+abbrev pub unheard : Condition → List ℕ → Bool
+unheard c s = either (left c) (both (waiting c) (not (opensBoard s)))
+
+-- waiting takes that byte and serves
 unfoldable pub hearOf : ℕ → Loader → List ℕ → List ℕ → Answer Effect
 hearOf k l s f =
-    first (11 when either (left (l .condition)) (both (waiting (l .condition)) (not (opens s))) ∷ [])
-    (pick (waiting (l .condition)) (given (record { loader = withCondition l Serving; flash = f })) (serveOf k l s f))
+    first (11 when unheard (l .condition) s ∷ [])
+    (pick (waiting (l .condition)) (given (record { loader = withCondition l Serving; flash = f }))
+    (serveOf k l s f))
 
 -- 20: flash not its size, or answer buffer under 24
+abbrev pub sizesWrong : ℕ → List ℕ → ℕ → Bool
+sizesWrong k f room = either (not (eqb (length f) (startOf k))) (ltb room answerMost)
+
+-- in the paper's order: 20 here, 11 in hearOf, 1 to 6 in the packet's readOf, then 9, 7, 8, 10 of the command
 unfoldable pub takeOf : ℕ → Loader → List ℕ → List ℕ → ℕ → Answer Effect
-takeOf k l s f room =
-    first (20 when either (not (eqb (length f) (startOf k))) (ltb room answerMost) ∷ []) (hearOf k l s f)
+takeOf k l s f room = first (20 when sizesWrong k f room ∷ []) (hearOf k l s f)
 
 -- 20, 11, 1 and 2 are not answered
 abbrev pub quiet : ℕ → Bool
@@ -64,7 +76,8 @@ abbrev pub answerBytes : Loader → Answer Effect → List ℕ
 answerBytes l x = tellOf (waiting (l .condition)) (bare x)
 
 -- what the entry shows: besides loader and flash, the answer bytes and how many they are
-pub record Takes (x : Answer Effect) (l : Loader) (f old : List ℕ) (verdict : Answer (Unit {0})) (next : Loader) (answered : ℕ) (flash answer : List ℕ) : Type 0 where
+pub record Takes (x : Answer Effect) (l : Loader) (f old : List ℕ)
+    (verdict : Answer (Unit {0})) (next : Loader) (answered : ℕ) (flash answer : List ℕ) : Type 0 where
   pub does-is : Does x l f verdict next flash
   pub answered-is : answered ≡ length (answerBytes l x)
   pub answer-is : answer ≡ overlay (answerBytes l x) old

@@ -7,7 +7,6 @@ ghost use Rattle.loader.specs.Commands.{Does, massErase, eraseRows, eras
 ghost use Rattle.loader.specs.Paper.{paperVerdict};
 ghost use Rattle.loader.specs.State.{clearedOf};
 ghost use Rattle.image.specs.Flash.{eraseOf};
-use crate::protection::Protection;
 use crate::state::Loader;
 use crate::verdict::Acted;
 use crate::verdict::Refusal;
@@ -20,7 +19,10 @@ use basis::units::Page;
 
 pub fn erase(loader: Loader, address: Address, count: u8, flash: &mut [u8]) -> Acted
     requires { ⌜ length (now flash) ≡ flashSize ⌝ }
-    ensures { λ r. ⌜ Does (erasing pages loader (address .0) count (now (flash .entry))) loader (now (flash .entry)) (paperVerdict (r .verdict)) (r .loader) (now (flash .exit)) ⌝ }
+    ensures { λ r. ⌜
+        (let x = erasing pages loader (address .0) count (now (flash .entry)) in
+        Does x loader (now (flash .entry)) (paperVerdict (r .verdict)) (r .loader) (now (flash .exit)))
+        ⌝ }
 {
     if loader.sequence.opened {
         return Acted {
@@ -61,7 +63,10 @@ fn is_mass(address: Address, count: u8) -> bool
 
 // No protection stops it, and none is left.
 fn mass_erase(loader: Loader, flash: &mut [u8]) -> Acted
-    ensures { λ r. ⌜ (paperVerdict (r .verdict) ≡ given tt) × (r .loader ≡ clearedOf loader) × (now (flash .exit) ≡ eraseOf (now (flash .entry)) 0 (length (now (flash .entry)))) ⌝ }
+    ensures { λ r. ⌜
+        (paperVerdict (r .verdict) ≡ given tt) × (r .loader ≡ clearedOf loader)
+        × (now (flash .exit) ≡ eraseOf (now (flash .entry)) 0 (length (now (flash .entry))))
+        ⌝ }
 {
     let end = flash.len();
     image::flash::erase(flash, 0, end);

@@ -25,7 +25,11 @@ pub fn obey(
     flash: &mut [u8],
 ) -> Acted
     requires { ⌜ length (now flash) ≡ flashSize ⌝ }
-    ensures { λ r. ⌜ Does (obeyOf pages loader (paperCommand command) (address .0) (now (sent .entry)) (now (flash .entry))) loader (now (flash .entry)) (paperVerdict (r .verdict)) (r .loader) (now (flash .exit)) ⌝ }
+    ensures { λ r. ⌜
+        (let f = now (flash .entry) in
+        let x = obeyOf pages loader (paperCommand command) (address .0) (now (sent .entry)) f in
+        Does x loader f (paperVerdict (r .verdict)) (r .loader) (now (flash .exit)))
+        ⌝ }
 {
     match command {
         Command::Erase => erase(loader, address, first_byte(sent), flash),

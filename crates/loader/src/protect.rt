@@ -13,11 +13,14 @@ use basis::board::GROUP;
 use basis::units::Address;
 
 pub fn protect(loader: Loader, address: Address, kind: u8) -> Acted
-    ensures { λ r. ⌜ Changes (protecting pages loader (address .0) kind) loader (paperVerdict (r .verdict)) (r .loader) ⌝ }
+    ensures { λ r. ⌜
+        Changes (protecting pages loader (address .0) kind) loader (paperVerdict (r .verdict)) (r .loader)
+        ⌝ }
 {
     match kind {
         0x00 => open(loader),
         0x0F => add(loader, address),
+        // 0x01: the command table has let no other type through.
         _ => close(loader, address),
     }
 }
@@ -38,7 +41,9 @@ fn open(loader: Loader) -> Acted
 }
 
 fn add(loader: Loader, address: Address) -> Acted
-    ensures { λ r. ⌜ Changes (adding pages loader (address .0)) loader (paperVerdict (r .verdict)) (r .loader) ⌝ }
+    ensures { λ r. ⌜
+        Changes (adding pages loader (address .0)) loader (paperVerdict (r .verdict)) (r .loader)
+        ⌝ }
 {
     if !loader.sequence.opened {
         return Acted {

@@ -1,5 +1,4 @@
 // R: the loader is left.
-ghost use mathlib.Core.Path.{_≡_};
 ghost use Rattle.loader.specs.Commands.{Changes, running};
 ghost use Rattle.loader.specs.Paper.{paperVerdict};
 use crate::state::Condition;

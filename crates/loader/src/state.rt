@@ -3,6 +3,8 @@ ghost use mathlib.Core.Path.{_≡_};
 ghost use Rattle.loader.specs.State.{closed, factoryOf, resetOf, withCondition, withAdded, joinedOf, clearedOf};
 use crate::protection::Protection;
 
+pub const CLEARED_KEY: u32 = 0xFFFF_FFFF;
+
 pub enum Condition {
     Waiting,
     Serving,
@@ -41,7 +43,7 @@ impl Loader {
             condition: Condition::Waiting,
             sequence: Sequence::closed(),
             protection: Protection::none(),
-            key: 0xFFFF_FFFF,
+            key: CLEARED_KEY,
         }
     }
 
@@ -113,7 +115,7 @@ impl Loader {
             condition,
             sequence,
             protection: Protection::none(),
-            key: 0xFFFF_FFFF,
+            key: CLEARED_KEY,
         }
     }
 }

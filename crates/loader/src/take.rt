@@ -6,7 +6,7 @@ ghost use Rattle.basis.specs.Board.{pages, flashSize, answerMost};
 ghost use Rattle.basis.specs.Lists.{overlay};
 ghost use Rattle.loader.specs.Commands.{Does};
 ghost use Rattle.loader.specs.Paper.{paperRefusal, paperVerdict};
-ghost use Rattle.loader.specs.Take.{waiting, opens, serveOf, hearOf, takeOf, quiet, tellOf, Takes};
+ghost use Rattle.loader.specs.Take.{waiting, opensBoard, serveOf, hearOf, takeOf, quiet, tellOf, Takes};
 ghost use Rattle.packet.specs.Paper.{paperRefusal as paperUnread};
 use crate::obey::obey;
 use crate::state::Condition;
@@ -16,6 +16,7 @@ use crate::verdict::Refusal;
 use crate::verdict::Verdict;
 use basis::board::ANSWER;
 use basis::board::GREETING;
+use basis::board::OPENING;
 use basis::board::SIZE;
 use basis::buffers::write;
 use packet::read::Reading;
@@ -29,7 +30,12 @@ pub struct Taken {
 }
 
 pub fn take(loader: Loader, input: &[u8], flash: &mut [u8], answer: &mut [u8]) -> Taken
-    ensures { λ r. ⌜ Takes (takeOf pages loader (now (input .entry)) (now (flash .entry)) (length (now (answer .entry)))) loader (now (flash .entry)) (now (answer .entry)) (paperVerdict (r .verdict)) (r .loader) (r .answered) (now (flash .exit)) (now (answer .exit)) ⌝ }
+    ensures { λ r. ⌜
+        (let f = now (flash .entry) in
+        let x = takeOf pages loader (now (input .entry)) f (length (now (answer .entry))) in
+        Takes x loader f (now (answer .entry)) (paperVerdict (r .verdict)) (r .loader)
+        (r .answered) (now (flash .exit)) (now (answer .exit)))
+        ⌝ }
 {
     if flash.len() != SIZE {
         return Taken {
@@ -69,12 +75,15 @@ fn is_waiting(loader: Loader) -> bool
 // What the condition lets in.
 fn hear(loader: Loader, input: &[u8], flash: &mut [u8]) -> Acted
     requires { ⌜ length (now flash) ≡ flashSize ⌝ }
-    ensures { λ r. ⌜ Does (hearOf pages loader (now (input .entry)) (now (flash .entry))) loader (now (flash .entry)) (paperVerdict (r .verdict)) (r .loader) (now (flash .exit)) ⌝ }
+    ensures { λ r. ⌜
+        (let x = hearOf pages loader (now (input .entry)) (now (flash .entry)) in
+        Does x loader (now (flash .entry)) (paperVerdict (r .verdict)) (r .loader) (now (flash .exit)))
+        ⌝ }
 {
     let condition = loader.condition;
     match condition {
         Condition::Waiting => {
-            if !is_opening(input) {
+            if !opens_board(input) {
                 return Acted {
                     loader,
                     verdict: Verdict::Refused(Refusal::Unheard),
@@ -93,18 +102,21 @@ fn hear(loader: Loader, input: &[u8], flash: &mut [u8]) -> Acted
     }
 }
 
-fn is_opening(input: &[u8]) -> bool
-    ensures { λ r. ⌜ r ≡ opens (now (input .entry)) ⌝ }
+fn opens_board(input: &[u8]) -> bool
+    ensures { λ r. ⌜ r ≡ opensBoard (now (input .entry)) ⌝ }
 {
     if input.len() != 1 {
         return false;
     }
-    input[0] == 0x08
+    input[0] == OPENING
 }
 
 fn serve(loader: Loader, input: &[u8], flash: &mut [u8]) -> Acted
     requires { ⌜ length (now flash) ≡ flashSize ⌝ }
-    ensures { λ r. ⌜ Does (serveOf pages loader (now (input .entry)) (now (flash .entry))) loader (now (flash .entry)) (paperVerdict (r .verdict)) (r .loader) (now (flash .exit)) ⌝ }
+    ensures { λ r. ⌜
+        (let x = serveOf pages loader (now (input .entry)) (now (flash .entry)) in
+        Does x loader (now (flash .entry)) (paperVerdict (r .verdict)) (r .loader) (now (flash .exit)))
+        ⌝ }
 {
     match read(input) {
         Reading::Refused(why) => Acted {
@@ -124,7 +136,10 @@ fn serve(loader: Loader, input: &[u8], flash: &mut [u8]) -> Acted
 // The answer bytes of a verdict, and how many.
 fn tell(waiting: bool, verdict: Verdict, answer: &mut [u8]) -> usize
     requires { ⌜ answerMost ≤ length (now answer) ⌝ }
-    ensures { λ r. ⌜ (r ≡ length (tellOf waiting (paperVerdict verdict))) × (now (answer .exit) ≡ overlay (tellOf waiting (paperVerdict verdict)) (now (answer .entry))) ⌝ }
+    ensures { λ r. ⌜
+        (r ≡ length (tellOf waiting (paperVerdict verdict)))
+        × (now (answer .exit) ≡ overlay (tellOf waiting (paperVerdict verdict)) (now (answer .entry)))
+        ⌝ }
 {
     match verdict {
         Verdict::Accepted => {
@@ -152,7 +167,7 @@ fn is_quiet(why: Refusal) -> bool
     match why {
         Refusal::Size => true,
         Refusal::Unheard => true,
-        Refusal::Unread(unread) => is_no_frame(unread),
+        Refusal::Unread(unread) => is_quiet_unread(unread),
         Refusal::Sequence => false,
         Refusal::Address => false,
         Refusal::Protected => false,
@@ -160,7 +175,7 @@ fn is_quiet(why: Refusal) -> bool
     }
 }
 
-fn is_no_frame(unread: packet::table::Refusal) -> bool
+fn is_quiet_unread(unread: packet::table::Refusal) -> bool
     ensures { λ r. ⌜ r ≡ quiet (paperUnread unread) ⌝ }
 {
     match unread {

@@ -16,7 +16,10 @@ use packet::turn::restored;
 
 pub fn verify(loader: Loader, address: Address, turned: &[u8], flash: &[u8]) -> Verdict
     requires { ⌜ length (now flash) ≡ flashSize ⌝ }
-    ensures { λ r. ⌜ paperVerdict r ≡ first (verifyRows pages loader (address .0) (now (turned .entry)) (now (flash .entry))) (given tt) ⌝ }
+    ensures { λ r. ⌜
+        (let rows = verifyRows pages loader (address .0) (now (turned .entry)) (now (flash .entry)) in
+        paperVerdict r ≡ first rows (given tt))
+        ⌝ }
 {
     if loader.sequence.opened {
         return Verdict::Refused(Refusal::Sequence);

@@ -7,7 +7,6 @@ ghost use Rattle.basis.specs.Board.{pages, flashSize};
 ghost use Rattle.basis.specs.Refusals.{given, first};
 ghost use Rattle.loader.specs.Commands.{Does, writeRows, writing};
 ghost use Rattle.loader.specs.Paper.{paperVerdict};
-use crate::protection::Protection;
 use crate::state::Loader;
 use crate::verdict::Acted;
 use crate::verdict::Refusal;
@@ -18,7 +17,10 @@ use basis::units::Address;
 
 pub fn write(loader: Loader, address: Address, bytes: &[u8], flash: &mut [u8]) -> Acted
     requires { ⌜ length (now flash) ≡ flashSize ⌝ }
-    ensures { λ r. ⌜ Does (writing pages loader (address .0) (now (bytes .entry)) (now (flash .entry))) loader (now (flash .entry)) (paperVerdict (r .verdict)) (r .loader) (now (flash .exit)) ⌝ }
+    ensures { λ r. ⌜
+        (let x = writing pages loader (address .0) (now (bytes .entry)) (now (flash .entry)) in
+        Does x loader (now (flash .entry)) (paperVerdict (r .verdict)) (r .loader) (now (flash .exit)))
+        ⌝ }
 {
     match judge(loader, address, bytes.len()) {
         Verdict::Refused(why) => Acted {

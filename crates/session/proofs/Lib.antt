@@ -1,4 +1,5 @@
-pub mod Building
+-- Lemmas that serve the proofs of this crate's functions.
+pub mod Turns
 pub mod Surveys
 pub mod Fits
 pub mod Marks

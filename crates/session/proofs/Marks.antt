@@ -15,11 +15,11 @@ use Rattle.basis.specs.Refusals.{refused, given}
 use Rattle.runs.specs.Laws.Files.{bytes-past}
 use Rattle.runs.specs.Laws.Runs.{count-yes, count-no}
 use Rattle.runs.specs.Map.{named}
-use Rattle.runs.specs.Pieces.{pieceStarts, runCount, pieceCount}
+use Rattle.runs.specs.Pieces.{pieceStarts}
 use Rattle.runs.specs.Runs.{count}
 use Rattle.runs.specs.Survey.{surveyOf}
 use Rattle.runs.specs.declared.survey.Surveyed.{Surveyed}
-use Rattle.session.specs.Session.{marked, provedOf}
+use Rattle.session.specs.Session.{marked, provedOf, markedFrom}
 use Rattle.session.specs.declared.session.Session.{Session}
 use Rattle.session.proofs.Surveys.{told}
 
@@ -49,22 +49,22 @@ module _ (m : List ℕ) (s : Session) (a : ℕ) where
           (λ d. omega (arith, t .pieces-below, g ∙ ap (λ (b : Bool). pick b 1 0) (t .piece ∙ d), count-yes (pieceStarts m) a d))
           (λ d. omega (arith, t .pieces-below, g ∙ ap (λ (b : Bool). pick b 1 0) (t .piece ∙ d), count-no (pieceStarts m) a d)))
 
-      pub mark-open : named m a ≡ true → s .acknowledged < f .all .runs + f .all .pieces + (f .below .pieces + n) → given false ≡ provedOf m s a
+      pub mark-unproved : named m a ≡ true → s .acknowledged < f .all .runs + f .all .pieces + (f .below .pieces + n) → given false ≡ provedOf m s a
       unfolding marked
-      mark-open h l =
+      mark-unproved h l =
           let t = told m a e in
-          let u : s .acknowledged < runCount m + pieceCount m + count (pieceStarts m) (a + 1) = omega (arith, t .runs, t .pieces, rank) in
+          let u : s .acknowledged < markedFrom m a = omega (arith, t .runs, t .pieces, rank) in
           mark-given (both-second _ _ h ∙ lt-leb _ _ u)
 
       pub mark-proved : named m a ≡ true → f .all .runs + f .all .pieces + (f .below .pieces + n) ≤ s .acknowledged → given true ≡ provedOf m s a
       unfolding marked
       mark-proved h l =
           let t = told m a e in
-          let u : runCount m + pieceCount m + count (pieceStarts m) (a + 1) ≤ s .acknowledged = omega (arith, t .runs, t .pieces, rank) in
+          let u : markedFrom m a ≤ s .acknowledged = omega (arith, t .runs, t .pieces, rank) in
           mark-given (both-second _ _ h ∙ le-leb _ _ u)
 
 -- the counts fit
-pub few : (m : List ℕ) (a : ℕ) {f : Surveyed} {n : ℕ} → f ≡ surveyOf m a → n ≡ pick (f .piece) 1 0 → a < flashSize → f .below .pieces + n ≤ flashSize
-few m a {f} {n} e g l =
+pub rank-few : (m : List ℕ) (a : ℕ) {f : Surveyed} {n : ℕ} → f ≡ surveyOf m a → n ≡ pick (f .piece) 1 0 → a < flashSize → f .below .pieces + n ≤ flashSize
+rank-few m a {f} {n} e g l =
     let k = told m a e .below-few in
     decide (f .piece) (λ d. omega (arith, g ∙ ap (λ (b : Bool). pick b 1 0) d)) (λ d. omega (arith, g ∙ ap (λ (b : Bool). pick b 1 0) d))

@@ -9,7 +9,8 @@ use Rattle.runs.specs.Pieces.{pieceStarts, runStarts, runCount, pieceCount, nam
 use Rattle.runs.specs.Runs.{count}
 use Rattle.runs.specs.Survey.{surveyOf}
 use Rattle.runs.specs.declared.survey.Surveyed.{Surveyed}
-use Rattle.session.specs.Laws.Starts.{runs-most, pieces-most}
+use Rattle.session.specs.Laws.Starts.{runs-most}
+use Rattle.session.specs.Laws.Totals.{pieces-half}
 
 pub record Told (m : List ℕ) (a : ℕ) (f : Surveyed) : Type 0 where
   pub runs : f .all .runs ≡ runCount m
@@ -37,6 +38,6 @@ told m a {f} e =
       run = ap (λ (x : Surveyed). x .run) e;
       piece = ap (λ (x : Surveyed). x .piece) e;
       runs-few = omega (arith, runs-most m);
-      pieces-few = omega (arith, pieces-most m);
+      pieces-few = omega (arith, pieces-half m);
       below-few = omega (arith, ap (λ (x : Surveyed). x .below .pieces) e, count-le (pieceStarts m) a);
     }

@@ -21,7 +21,8 @@ greetsOf b =
     both (eqb (length b) answerMost)
     (both (sameOf (take 15 b) (take 15 greeting)) (sameOf (drop 22 b) (drop 22 greeting)))
 
--- silence is the event exactly when no answer arrives; else the greeting, the single byte 06, the single byte 07, or other bytes or none
+-- silence is the event exactly when no answer arrives;
+-- else the greeting, the single byte 06, the single byte 07, or other bytes or none
 unfoldable pub classifyOf : Bool → List ℕ → Event
 classifyOf silent b =
     pick silent Event.Silence

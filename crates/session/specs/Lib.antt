@@ -1,7 +1,7 @@
 -- The host session of 01. Definitions stand here in the paper's order, what is proved of them under Laws.
+pub mod Plan
 pub mod Events
 pub mod Phases
-pub mod Plan
 pub mod Session
 pub mod Paper
 pub mod Laws

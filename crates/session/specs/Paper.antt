@@ -31,5 +31,5 @@ paperStepped (Stepped.Refused x) = refused (paperRefusal x)
 -- the byte is marked or not, or the refusal
 abbrev pub paperMark : Mark → Answer Bool
 paperMark Mark.Proved = given true
-paperMark Mark.Open = given false
+paperMark Mark.Unproved = given false
 paperMark Mark.Size = refused 20

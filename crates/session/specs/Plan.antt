@@ -1,4 +1,5 @@
--- The packets of a file, in order: one E for each maximal run of touched pages, one W for each piece, the same pieces by V, one R.
+-- The packets of a file, in order: one E for each maximal run of touched pages, one W for each piece,
+-- the same pieces by V, one R.
 use Prim.Native.Nat.{ℕ, zero, suc, _+_, _*_}
 use mathlib.Core.Bool.{Bool}
 use mathlib.Core.List.{List, [], _∷_, _++_, map}
@@ -50,6 +51,13 @@ plan image m kind =
     ++ (map (verifyPacket image m) (places (pieceStarts m) flashSize)
     ++ (runPacket kind ∷ [])))
 
--- with e erases and w pieces the total is e + 2w + 1
+-- the packets before the first V and before R, with e erases and w pieces: e + w and e + 2w
+abbrev pub beforeVerify : List ℕ → ℕ
+beforeVerify m = runCount m + pieceCount m
+
+abbrev pub beforeRun : List ℕ → ℕ
+beforeRun m = runCount m + 2 * pieceCount m
+
+-- with R the total is e + 2w + 1
 abbrev pub total : List ℕ → ℕ
-total m = runCount m + 2 * pieceCount m + 1
+total m = beforeRun m + 1

@@ -18,7 +18,7 @@ use runs::places::PIECE;
 use runs::places::next_named;
 use runs::places::row_len;
 
-// The address that the cursor names, or the board's end where it names none.
+// The address that the cursor names: 0 where the phase has none, the board's end for a page past the board.
 pub fn place(phase: Phase) -> Address
     ensures { λ r. ⌜ r .0 ≡ placeOf phase ⌝ }
 {

@@ -2,6 +2,7 @@
 ghost use mathlib.Core.Path.{_≡_};
 ghost use Rattle.session.specs.Events.{sameOf, greetsOf, classifyOf};
 use basis::board::ANSWER;
+use basis::board::GREETING;
 
 pub enum Event {
     Greeting,
@@ -38,10 +39,10 @@ pub fn greets(answer: &[u8]) -> bool
     if answer.len() != ANSWER {
         return false;
     }
-    if !same(&answer[..15], b"ADuC702x   -62 ") {
+    if !same(&answer[..15], &GREETING[..15]) {
         return false;
     }
-    same(&answer[22..], b"\n\r")
+    same(&answer[22..], &GREETING[22..])
 }
 
 fn same(a: &[u8], b: &[u8]) -> bool

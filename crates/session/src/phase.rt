@@ -19,7 +19,8 @@ pub enum Outcome {
     Other,
 }
 
-// The packet that is out: E for the run at a page, W or V for the piece at an address, R.
+// What a session waits for: the greeting, or the answer to E for the run at a page,
+// to W or V for the piece at an address, to R.
 pub enum Phase {
     Greeting,
     Erase(Page),

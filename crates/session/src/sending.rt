@@ -1,7 +1,7 @@
 // The packet of a phase, built into the caller's buffer.
 ghost use mathlib.Core.Path.{_≡_};
 ghost use mathlib.Core.Bool.{true};
-ghost use Prim.Native.Nat.{_+_, _<_, _≤_};
+ghost use Prim.Native.Nat.{_+_, _≤_};
 ghost use lib.ListN.{length, getD};
 ghost use Rattle.basis.specs.Board.{flashSize, mapSize};
 ghost use Rattle.basis.specs.Lists.{overlay};
@@ -23,7 +23,10 @@ use runs::places::row_len;
 
 // Gives the packet's length; the greeting is not answered by one, and an ending sends none.
 pub fn send(image: &[u8], map: &[u8], kind: RunKind, phase: Phase, buffer: &mut [u8]) -> usize
-    requires { ⌜ (length (now image) ≡ flashSize) × (length (now map) ≡ mapSize) × (packetMost ≤ length (now buffer)) × (atStart (now map) phase ≡ true) ⌝ }
+    requires { ⌜
+        (length (now image) ≡ flashSize) × (length (now map) ≡ mapSize) × (packetMost ≤ length (now buffer))
+        × (atStart (now map) phase ≡ true)
+        ⌝ }
     ensures { λ r. ⌜
         (let p = packetOut (now (image .entry)) (now (map .entry)) kind phase in
         (r ≡ length p) × (now (buffer .exit) ≡ overlay p (now (buffer .entry))))
@@ -40,7 +43,10 @@ pub fn send(image: &[u8], map: &[u8], kind: RunKind, phase: Phase, buffer: &mut 
 }
 
 fn send_erase(map: &[u8], page: Page, buffer: &mut [u8]) -> usize
-    requires { ⌜ (length (now map) ≡ mapSize) × (packetMost ≤ length (now buffer)) × (runStarts (now map) (page .0) ≡ true) ⌝ }
+    requires { ⌜
+        (length (now map) ≡ mapSize) × (packetMost ≤ length (now buffer))
+        × (runStarts (now map) (page .0) ≡ true)
+        ⌝ }
     ensures { λ r. ⌜
         (let p = erasePacket (now (map .entry)) (page .0) in
         (r ≡ length p) × (now (buffer .exit) ≡ overlay p (now (buffer .entry))))
@@ -57,7 +63,8 @@ fn send_piece(image: &[u8], map: &[u8], command: u8, address: Address, buffer: &
         × (carriesPiece command ≡ true) × (pieceStarts (now map) (address .0) ≡ true)
         ⌝ }
     ensures { λ r. ⌜
-        (let p = packet command (address .0) (pieceBytes (now (image .entry)) (now (map .entry)) (address .0)) in
+        (let d = pieceBytes (now (image .entry)) (now (map .entry)) (address .0) in
+        let p = packet command (address .0) d in
         (r ≡ length p) × (now (buffer .exit) ≡ overlay p (now (buffer .entry))))
         ⌝ }
 {
@@ -68,7 +75,9 @@ fn send_piece(image: &[u8], map: &[u8], command: u8, address: Address, buffer: &
 
 fn send_run(kind: RunKind, buffer: &mut [u8]) -> usize
     requires { ⌜ packetMost ≤ length (now buffer) ⌝ }
-    ensures { λ r. ⌜ (r ≡ length (runPacket kind)) × (now (buffer .exit) ≡ overlay (runPacket kind) (now (buffer .entry))) ⌝ }
+    ensures { λ r. ⌜
+        (r ≡ length (runPacket kind)) × (now (buffer .exit) ≡ overlay (runPacket kind) (now (buffer .entry)))
+        ⌝ }
 {
     put(buffer, 0x52, run_address(kind), b"")
 }

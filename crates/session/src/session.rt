@@ -11,7 +11,7 @@ ghost use Rattle.packet.specs.Packet.{packetMost};
 ghost use Rattle.session.specs.Events.{classifyOf};
 ghost use Rattle.session.specs.Paper.{paperRefusal, paperStepped, paperMark};
 ghost use Rattle.session.specs.Phases.{atStart};
-ghost use Rattle.session.specs.Session.{measured, sentBytes, rightSizes, started, judgeFirstOf, judgeLaterOf, judgeOf, movedOf, heardOf, tookOf, sent, fitsOf, stepOf, provedOf};
+ghost use Rattle.session.specs.Session.{measured, sentBytes, rightSizes, started, judgeFirstOf, judgeLaterOf, judgeOf, movedOf, heardOf, tookOf, sentOf, fitsOf, stepOf, provedOf};
 use crate::cursor::after;
 use crate::cursor::place;
 use crate::event::Event;
@@ -22,6 +22,7 @@ use crate::phase::RunKind;
 use crate::sending::send;
 use basis::board::END;
 use basis::board::MAP;
+use basis::board::OPENING;
 use basis::board::SIZE;
 use basis::units::Address;
 use packet::build::PACKET;
@@ -74,7 +75,7 @@ pub enum Stepped {
 
 pub enum Mark {
     Proved,
-    Open,
+    Unproved,
     // The map has the wrong size.
     Size,
 }
@@ -91,7 +92,8 @@ impl Session {
     pub fn start(kind: RunKind, image: &[u8], map: &[u8], buffer: &mut [u8]) -> Stepped
         ensures { λ r. ⌜
             (let a = started (now (image .entry)) (now (map .entry)) (length (now (buffer .entry))) kind in
-            (paperStepped r ≡ measured a) × (now (buffer .exit) ≡ overlay (sentBytes a) (now (buffer .entry))))
+            (paperStepped r ≡ measured a)
+            × (now (buffer .exit) ≡ overlay (sentBytes a) (now (buffer .entry))))
             ⌝ }
     {
         if !right_sizes(image.len(), map.len(), buffer.len()) {
@@ -102,7 +104,7 @@ impl Session {
         if all.named == 0 {
             return Stepped::Refused(Refusal::Empty);
         }
-        buffer[0] = 0x08;
+        buffer[0] = OPENING;
         let session = Session {
             kind,
             phase: Phase::Greeting,
@@ -123,8 +125,10 @@ impl Session {
         buffer: &mut [u8],
     ) -> Stepped
         ensures { λ r. ⌜
-            (let a = stepOf (now (image .entry)) (now (map .entry)) (length (now (buffer .entry))) self (classifyOf silent (now (answer .entry))) in
-            (paperStepped r ≡ measured a) × (now (buffer .exit) ≡ overlay (sentBytes a) (now (buffer .entry))))
+            (let e = classifyOf silent (now (answer .entry)) in
+            let a = stepOf (now (image .entry)) (now (map .entry)) (length (now (buffer .entry))) self e in
+            (paperStepped r ≡ measured a)
+            × (now (buffer .exit) ≡ overlay (sentBytes a) (now (buffer .entry))))
             ⌝ }
     {
         if !right_sizes(image.len(), map.len(), buffer.len()) {
@@ -138,7 +142,7 @@ impl Session {
             return Stepped::Refused(Refusal::Foreign);
         }
         let event = classify(silent, answer);
-        Stepped::Next(self.take(event, image, map, buffer))
+        Stepped::Next(self.sent(event, image, map, buffer))
     }
 
     // Whether the byte is marked: the V of its piece is among the packets acknowledged.
@@ -149,17 +153,17 @@ impl Session {
             return Mark::Size;
         }
         if END <= address.0 {
-            return Mark::Open;
+            return Mark::Unproved;
         }
         if !named(map, address) {
-            return Mark::Open;
+            return Mark::Unproved;
         }
         let found = survey(map, address);
         let all = found.all;
         let below = found.below;
         let pieces = below.pieces + one(found.piece);
         if self.acknowledged < all.runs + all.pieces + pieces {
-            return Mark::Open;
+            return Mark::Unproved;
         }
         Mark::Proved
     }
@@ -198,11 +202,15 @@ impl Session {
     }
 
     // An event that is not refused.
-    fn take(self, event: Event, image: &[u8], map: &[u8], buffer: &mut [u8]) -> Next
-        requires { ⌜ (length (now image) ≡ flashSize) × (length (now map) ≡ mapSize) × (packetMost ≤ length (now buffer)) × (fitsOf (now map) self ≡ true) ⌝ }
+    fn sent(self, event: Event, image: &[u8], map: &[u8], buffer: &mut [u8]) -> Next
+        requires { ⌜
+            (length (now image) ≡ flashSize) × (length (now map) ≡ mapSize)
+            × (packetMost ≤ length (now buffer)) × (fitsOf (now map) self ≡ true)
+            ⌝ }
         ensures { λ r. ⌜
-            (let a = sent (now (image .entry)) (now (map .entry)) self event in
-            (r .session ≡ a .session) × (r .len ≡ length (a .packet)) × (now (buffer .exit) ≡ overlay (a .packet) (now (buffer .entry))))
+            (let a = sentOf (now (image .entry)) (now (map .entry)) self event in
+            (r .session ≡ a .session) × (r .len ≡ length (a .packet))
+            × (now (buffer .exit) ≡ overlay (a .packet) (now (buffer .entry))))
             ⌝ }
     {
         let session = self.took(event, map);
@@ -213,7 +221,10 @@ impl Session {
     }
 
     fn took(self, event: Event, map: &[u8]) -> Session
-        requires { ⌜ (length (now map) ≡ mapSize) × (atStart (now map) (self .phase) ≡ true) × (self .acknowledged < 2 ^ 31) ⌝ }
+        requires { ⌜
+            (length (now map) ≡ mapSize) × (atStart (now map) (self .phase) ≡ true)
+            × (self .acknowledged < 2 ^ 31)
+            ⌝ }
         ensures { λ r. ⌜ r ≡ tookOf (now (map .entry)) self event ⌝ }
     {
         let phase = self.phase;
@@ -223,7 +234,10 @@ impl Session {
 
     // On along the file, or over.
     fn heard(self, meaning: Meaning, map: &[u8]) -> Session
-        requires { ⌜ (length (now map) ≡ mapSize) × (atStart (now map) (self .phase) ≡ true) × (self .acknowledged < 2 ^ 31) ⌝ }
+        requires { ⌜
+            (length (now map) ≡ mapSize) × (atStart (now map) (self .phase) ≡ true)
+            × (self .acknowledged < 2 ^ 31)
+            ⌝ }
         ensures { λ r. ⌜ r ≡ heardOf (now (map .entry)) self meaning ⌝ }
     {
         let phase = self.phase;
@@ -258,6 +272,7 @@ fn judge(phase: Phase, event: Event) -> Meaning
         Phase::Write(_) => judge_later(event),
         Phase::Verify(_) => judge_later(event),
         Phase::Run => judge_later(event),
+        // Never asked: 44 comes first.
         Phase::Ended(_) => judge_later(event),
     }
 }

@@ -5,7 +5,7 @@ use mathlib.Core.List.{List, [], _∷_}
 use mathlib.Core.Path.{_≡_, refl, sym, ap, _∙_}
 use borrow.Author.Tests.{eq-eqb}
 use lib.ListN.{length}
-use Rattle.basis.specs.Board.{flashSize, mapSize, greeting}
+use Rattle.basis.specs.Board.{flashSize, mapSize, greeting, openingByte}
 use Rattle.basis.specs.Choice.{pick}
 use Rattle.basis.specs.Laws.Choice.{true-false}
 use Rattle.basis.specs.Refusals.{Answer, refused, given, bare}
@@ -18,12 +18,12 @@ use Rattle.loader.specs.declared.state.Condition.the-variants.{Serving}
 use Rattle.loader.specs.declared.state.Loader.{Loader}
 use Rattle.runs.specs.Pieces.{namedCount}
 use Rattle.session.specs.Laws.Events.{ack-heard, bel-heard, silence-heard}
-use Rattle.session.specs.Laws.Series.{failing, isAck, isGreeting, not-ack, not-greeting}
+use Rattle.session.specs.Laws.Series.{isAck, isGreeting, not-ack, not-greeting}
 use Rattle.session.specs.Laws.States.{greeting-state, ack-next, ack-last, step-state, waiting-fits}
 use Rattle.session.specs.Laws.Steps.{step-taken}
-use Rattle.session.specs.Phases.{packetOut, phaseAt}
+use Rattle.session.specs.Phases.{packetOut, packetAt}
 use Rattle.session.specs.Plan.{total}
-use Rattle.session.specs.Session.{sessionIn, atGreeting, stateAt, rightSizes, tookOf}
+use Rattle.session.specs.Session.{sessionIn, atGreeting, stateAt, rightSizes, tookOf, failing}
 use Rattle.session.specs.declared.event.Event.{Event}
 use Rattle.session.specs.declared.phase.Outcome.{Outcome}
 use Rattle.session.specs.declared.phase.Phase.{Phase}
@@ -67,13 +67,9 @@ let-acked l s f e c q =
 
 -- ---- where the session stands then
 
--- the packet that is out after k acknowledgements
-abbrev pub packetAt : List ℕ → List ℕ → RunKind → ℕ → List ℕ
-packetAt image m kind k = packetOut image m kind (phaseAt m k)
-
 -- loader and flash when the opening byte has arrived or is lost
 abbrev pub opened : Loss → Loader → List ℕ → Effect
-opened o l f = delivered o (resetOf l) (0x08 ∷ []) f
+opened o l f = delivered o (resetOf l) (openingByte ∷ []) f
 
 -- the session has ended
 abbrev pub over : List ℕ → RunKind → Effect → Outcome → ℕ → Moment

@@ -1,5 +1,5 @@
 -- With nothing lost and no protection in the way every packet is let through, and makes room for the next.
-use Prim.Native.Nat.{ℕ, suc, _+_, _-_, _*_, _≤_, _<_}
+use Prim.Native.Nat.{ℕ, suc, _+_, _-_, _≤_, _<_}
 use mathlib.Core.Bool.{true, false}
 use mathlib.Core.List.{List, map}
 use mathlib.Core.Path.{_≡_, refl, sym, ap, subst, _∙_}
@@ -18,7 +18,6 @@ use Rattle.basis.specs.Units.{pageOf, startOf}
 use Rattle.image.specs.Flash.{storeOf}
 use Rattle.image.specs.Laws.Flash.{Blank, length-erase, erase-at, length-store, store-blank-at}
 use Rattle.line.specs.Demand.{Free}
-use Rattle.line.specs.Laws.Exchange.{packetAt}
 use Rattle.line.specs.Laws.Places.{page-start, store-or, erase-or, parts-equal}
 use Rattle.line.specs.Laws.Safety.{Serves, erasedRun, takes-erase, takes-write, takes-verify, takes-run}
 use Rattle.line.specs.Line.{loaderTakes}
@@ -42,8 +41,8 @@ use Rattle.runs.specs.Pieces.{pieceMost, pieceStarts, pieceLen, runStarts, runL
 use Rattle.runs.specs.Runs.{count}
 use Rattle.session.specs.Laws.Starts.{piece-carried}
 use Rattle.session.specs.Laws.Out.{Ranked, Out, erases, writes, verifies, runs}
-use Rattle.session.specs.Phases.{packetOut}
-use Rattle.session.specs.Plan.{erasePacket, writePacket, pieceBytes, runAddress}
+use Rattle.session.specs.Phases.{packetOut, packetAt}
+use Rattle.session.specs.Plan.{erasePacket, writePacket, pieceBytes, runAddress, beforeRun}
 use Rattle.session.specs.declared.phase.Phase.{Phase}
 use Rattle.session.specs.declared.phase.RunKind.{RunKind}
 
@@ -66,7 +65,7 @@ pub record Grows (image m : List ℕ) (k : ℕ) (f : List ℕ) : Type 0 where
 pub record Lets (image m : List ℕ) (l : Loader) (s f : List ℕ) (k : ℕ) (e : Effect) : Type 0 where
   pub let-is : loaderTakes l s f ≡ given e
   pub grows : Grows image m (k + 1) (e .flash)
-  pub loader-is : k < runCount m + 2 * pieceCount m → e .loader ≡ l
+  pub loader-is : k < beforeRun m → e .loader ≡ l
 
 module _ (image m : List ℕ) (right : length image ≡ flashSize) (long : length m ≡ mapSize)
     (bytes : Bytes image) (kind : RunKind) (l : Loader) (serves : Serves l) (free : Free m l)

@@ -1,6 +1,6 @@
 -- The moments of a load, one after another: that each is safe, that the load ends, what silence does, and
 -- that it ends valid.
-use Prim.Native.Nat.{ℕ, zero, suc, _+_, _*_, _≤_, _<_}
+use Prim.Native.Nat.{ℕ, zero, suc, _+_, _≤_, _<_}
 use mathlib.Core.Bool.{Bool, true, false}
 use mathlib.Core.List.{List, [], _∷_}
 use mathlib.Core.Path.{_≡_, refl, sym, ap, subst, _∙_}
@@ -8,7 +8,7 @@ use native.Mathlib.Omega.{arith}
 use borrow.Author.Tests.{eqb-true, eqb-false, ltb-true, ltb-false}
 use lib.Dec.{eqb, ltb}
 use lib.ListN.{length}
-use Rattle.basis.specs.Board.{pages, flashSize, mapSize}
+use Rattle.basis.specs.Board.{pages, flashSize, mapSize, openingByte}
 use Rattle.basis.specs.Choice.{pick}
 use Rattle.basis.specs.Laws.Choice.{decide, true-false}
 use Rattle.basis.specs.Laws.Refusals.{given-one}
@@ -16,7 +16,7 @@ use Rattle.basis.specs.Lists.{Bytes}
 use Rattle.basis.specs.Refusals.{Answer, given}
 use Rattle.basis.specs.Units.{pageOf, startOf}
 use Rattle.line.specs.Demand.{AllProved, RunOut, Valid, Safe, Free}
-use Rattle.line.specs.Laws.Exchange.{silence-is, let-acked, packetAt, opened, standing, served, taken, on-ack, on-last, taken-first, on-greeting}
+use Rattle.line.specs.Laws.Exchange.{silence-is, let-acked, opened, standing, served, taken, on-ack, on-last, taken-first, on-greeting}
 use Rattle.line.specs.Laws.Liveness.{Grows, Lets, lets}
 use Rattle.line.specs.Laws.Safety.{serving, serving-serves, board-greets}
 use Rattle.line.specs.Laws.Stages.{Holds, Stage, starts, stands, ends, stage, served-holds, opening-holds, first-flash}
@@ -32,15 +32,15 @@ use Rattle.runs.specs.Laws.Pages.{named-touched}
 use Rattle.runs.specs.Laws.Pieces.{rank-some}
 use Rattle.runs.specs.Map.{named}
 use Rattle.runs.specs.Pages.{touched}
-use Rattle.runs.specs.Pieces.{pieceMost, runLen, runCount, pieceCount, namedCount}
+use Rattle.runs.specs.Pieces.{pieceMost, runLen, namedCount}
 use Rattle.session.specs.Laws.Events.{greeting-heard}
 use Rattle.session.specs.Laws.Marks.{proved-is, all-marked}
-use Rattle.session.specs.Laws.Series.{failing, silence-ends}
+use Rattle.session.specs.Laws.Series.{silence-ends}
 use Rattle.session.specs.Laws.States.{phase-open}
 use Rattle.session.specs.Laws.Out.{Out, erases, writes, verifies, runs, out-after}
-use Rattle.session.specs.Phases.{ended}
-use Rattle.session.specs.Plan.{pieceBytes, total}
-use Rattle.session.specs.Session.{atGreeting, stateAt, marked, tookOf}
+use Rattle.session.specs.Phases.{ended, packetAt}
+use Rattle.session.specs.Plan.{pieceBytes, total, beforeRun}
+use Rattle.session.specs.Session.{atGreeting, stateAt, marked, tookOf, failing}
 use Rattle.session.specs.declared.event.Event.{Event}
 use Rattle.session.specs.declared.phase.Outcome.{Outcome}
 use Rattle.session.specs.declared.phase.Phase.{Phase}
@@ -74,8 +74,8 @@ module _ (image m : List ℕ) (losses : ℕ → Loss) (x : Moment) where
 
 holds-safe : (image m before : List ℕ) (long : length m ≡ mapSize) (k : ℕ) (x : Moment)
     → x .session .acknowledged ≡ k → Holds image m before k (x .flash)
-    → (RunOut x → runCount m + 2 * pieceCount m ≤ k)
-    → (Valid (x .session) → runCount m + 2 * pieceCount m ≤ k) → Safe image m before x
+    → (RunOut x → beforeRun m ≤ k)
+    → (Valid (x .session) → beforeRun m ≤ k) → Safe image m before x
 holds-safe image m before long k x c h run val =
     record {
       proved-stands = λ a p. h .stands a (sym (is a) ∙ given-one (sym (proved-is m long (x .session) a) ∙ p));
@@ -87,15 +87,15 @@ holds-safe image m before long k x c h run val =
     is : (a : ℕ) → marked m (x .session .acknowledged) a ≡ marked m k a
     is a = ap (λ (j : ℕ). marked m j a) c
 
-    all : runCount m + 2 * pieceCount m ≤ k → AllProved m (x .session)
+    all : beforeRun m ≤ k → AllProved m (x .session)
     all b a t = proved-is m long (x .session) a ∙ ap given (is a ∙ all-marked m long k a b ∙ t)
 
 -- on the wire R comes after every V
 run-late : (image m : List ℕ) (long : length m ≡ mapSize) (kind : RunKind) (k : ℕ) → k < total m
-    → command (packetAt image m kind k) ≡ 0x52 → runCount m + 2 * pieceCount m ≤ k
+    → command (packetAt image m kind k) ≡ 0x52 → beforeRun m ≤ k
 run-late image m long kind k b = go (out-after m long k b)
   where
-    go : Out m k → command (packetAt image m kind k) ≡ 0x52 → runCount m + 2 * pieceCount m ≤ k
+    go : Out m k → command (packetAt image m kind k) ≡ 0x52 → beforeRun m ≤ k
     go (erases q e r c) h =
         absurd (omega (arith, sym (packet-command 0x45 (startOf q) (runLen m q ∷ [])) ∙ (rw e at h)))
     go (writes a j e r t c) h =
@@ -128,7 +128,7 @@ module _ (image m before : List ℕ) (right : length image ≡ flashSize) (long 
     (kind : RunKind) (l : Loader) (size : length before ≡ flashSize) where
   -- the opening byte is out, before and after the loader has taken it
   first-safe : (e : Effect) → e .flash ≡ before
-      → Safe image m before (momentWith e (atGreeting m kind) (0x08 ∷ []))
+      → Safe image m before (momentWith e (atGreeting m kind) (openingByte ∷ []))
   first-safe e q =
       holds-safe image m before long 0 _ refl (opening-holds image m before long (e .flash) q size)
       (λ r. absurd (omega arith)) (open-invalid (atGreeting m kind) refl)
@@ -283,7 +283,7 @@ module _ (image m before : List ℕ) (right : length image ≡ flashSize) (long 
               ∙ ap (λ (x : Answer Effect). standing image m kind (effectAfter (resetOf l) before x) 0) greets;
         }
       where
-        greets : loaderTakes (resetOf l) (0x08 ∷ []) before ≡ given (serves-at before)
+        greets : loaderTakes (resetOf l) (openingByte ∷ []) before ≡ given (serves-at before)
         greets = board-greets l before size
     alive (suc k) b =
         let c = alive k (omega arith) in
@@ -312,7 +312,7 @@ module _ (image m before : List ℕ) (right : length image ≡ flashSize) (long 
         ∙ ended-valid
       where
         last : ℕ
-        last = runCount m + 2 * pieceCount m
+        last = beforeRun m
 
         ended-valid : Valid (load (suc (suc last)) .session)
         ended-valid =

@@ -7,7 +7,7 @@ use native.Mathlib.Omega.{arith}
 use borrow.Author.Tests.{ne-eqb}
 use lib.Dec.{eqb}
 use lib.ListN.{length, getD, take, drop, length-map}
-use Rattle.basis.specs.Board.{pages, flashSize, mapSize, answerMost}
+use Rattle.basis.specs.Board.{pages, flashSize, mapSize, answerMost, openingByte}
 use Rattle.basis.specs.Laws.Choice.{true-false, both-false}
 use Rattle.basis.specs.Laws.Lists.{bytes-take, bytes-drop}
 use Rattle.basis.specs.Laws.Refusals.{apart}
@@ -82,7 +82,7 @@ served-by P Loss.Unanswered l s f p q = q
 
 -- the opening byte makes the loader serve, and its answer is the greeting
 pub board-greets : (l : Loader) (f : List ℕ) → length f ≡ flashSize
-    → loaderTakes (resetOf l) (0x08 ∷ []) f ≡ given (record { loader = serving l; flash = f })
+    → loaderTakes (resetOf l) (openingByte ∷ []) f ≡ given (record { loader = serving l; flash = f })
 board-greets l f size = sent-opening pages (resetOf l) f answerMost size (omega arith) refl
 
 -- ---- the packets of the plan, as a serving loader takes them
@@ -156,6 +156,6 @@ module _ (image m : List ℕ) (right : length image ≡ flashSize) (long : lengt
           let v = told _ (sym (takes-verify s h) ∙ q) in
           let w = verify-let pages l s (map turnedOf d) f (given l) (v .1) in
           ap (λ (i : ℕ). take i (drop s f)) (sym n)
-          ∙ same-stands f s (map turnedOf d) (omega (arith, w .0, size)) (w .1)
+          ∙ same-stands f s (map turnedOf d) (omega (arith, w .1, size)) (w .3)
           ∙ undone restoredOf turnedOf restored-turned d
           (bytes-take (pieceLen m s) (drop s image) (bytes-drop s image bytes))

@@ -1,5 +1,5 @@
 -- Every moment of a load over a line that may lose anything: where the session stands, and what flash holds.
-use Prim.Native.Nat.{ℕ, zero, suc, _+_, _*_, _≤_, _<_}
+use Prim.Native.Nat.{ℕ, zero, suc, _+_, _≤_, _<_}
 use mathlib.Core.Bool.{true, false}
 use mathlib.Core.List.{List, [], _∷_, map}
 use mathlib.Core.Path.{_≡_, refl, sym, ap, subst, _∙_}
@@ -7,14 +7,14 @@ use native.Mathlib.Omega.{arith}
 use borrow.Author.Tests.{ltb-true, ltb-false}
 use lib.Dec.{ltb}
 use lib.ListN.{length, getD}
-use Rattle.basis.specs.Board.{pages, flashSize, mapSize}
+use Rattle.basis.specs.Board.{pages, flashSize, mapSize, openingByte}
 use Rattle.basis.specs.Choice.{pick}
 use Rattle.basis.specs.Laws.Choice.{decide, true-false}
 use Rattle.basis.specs.Lists.{Bytes}
 use Rattle.basis.specs.Refusals.{Answer, given, first}
 use Rattle.basis.specs.Units.{startOf}
 use Rattle.image.specs.Laws.Flash.{length-erase, length-store}
-use Rattle.line.specs.Laws.Exchange.{silence-is, acked, packetAt, opened, over, standing, served, on-ack, on-last, on-else, on-greeting, on-silence}
+use Rattle.line.specs.Laws.Exchange.{silence-is, acked, opened, over, standing, served, on-ack, on-last, on-else, on-greeting, on-silence}
 use Rattle.line.specs.Laws.Safety.{Serves, serving, serving-serves, board-greets, Untouched, erase-untouched, store-untouched, served-by, takes-erase, takes-write, takes-verify, takes-run, verified}
 use Rattle.line.specs.Line.{Moment, begun, loaderTakes, delivered, reply, eventIn, exchangeOf, momentAt, loadAt}
 use Rattle.line.specs.declared.exchange.Loss.{Loss}
@@ -28,13 +28,13 @@ use Rattle.packet.specs.Turn.{turnedOf}
 use Rattle.runs.specs.Pieces.{runLen, runCount, pieceCount, namedCount}
 use Rattle.session.specs.Laws.Events.{greeting-heard}
 use Rattle.session.specs.Laws.Marks.{marked-late, marked-more, all-marked}
-use Rattle.session.specs.Laws.Series.{failing, isAck, ack-or}
+use Rattle.session.specs.Laws.Series.{isAck, ack-or}
 use Rattle.session.specs.Laws.Starts.{piece-carried}
 use Rattle.session.specs.Laws.States.{phase-open}
 use Rattle.session.specs.Laws.Out.{Out, erases, writes, verifies, runs, out-after}
-use Rattle.session.specs.Phases.{ended, packetOut, verifyAt, placeOf}
-use Rattle.session.specs.Plan.{total, pieceBytes, verifyPacket}
-use Rattle.session.specs.Session.{marked}
+use Rattle.session.specs.Phases.{ended, packetOut, verifyAt, placeOf, packetAt}
+use Rattle.session.specs.Plan.{total, pieceBytes, verifyPacket, beforeRun}
+use Rattle.session.specs.Session.{marked, failing}
 use Rattle.session.specs.declared.event.Event.{Event}
 use Rattle.session.specs.declared.phase.Outcome.{Outcome}
 use Rattle.session.specs.declared.phase.Phase.{Phase}
@@ -54,7 +54,7 @@ module _ (image m before : List ℕ) where
     stands : (e : Effect) (k : ℕ) → n ≡ k + 1 → k < total m → e .loader ≡ serving l → Holds k (e .flash)
         → x ≡ standing image m kind e k → Stage kind l n x
     ends : (e : Effect) (u : Outcome) (k : ℕ) → Holds k (e .flash)
-        → (u ≡ Outcome.Valid → runCount m + 2 * pieceCount m ≤ k) → x ≡ over m kind e u k → Stage kind l n x
+        → (u ≡ Outcome.Valid → beforeRun m ≤ k) → x ≡ over m kind e u k → Stage kind l n x
 
 -- ---- before the first V
 
@@ -71,7 +71,7 @@ module _ (image m before : List ℕ) (long : length m ≡ mapSize) where
 -- the opening byte leaves flash as it was
 pub first-flash : (o : Loss) (l : Loader) (f : List ℕ) → length f ≡ flashSize → opened o l f .flash ≡ f
 first-flash o l f size =
-    served-by (λ (x : Effect). x .flash ≡ f) o (resetOf l) (0x08 ∷ []) f refl
+    served-by (λ (x : Effect). x .flash ≡ f) o (resetOf l) (openingByte ∷ []) f refl
     (ap (λ (x : Answer Effect). effectAfter (resetOf l) f x .flash) (board-greets l f size))
 
 -- ---- the loader's step keeps what flash holds
@@ -110,7 +110,7 @@ module _ (image m before : List ℕ) (right : length image ≡ flashSize) (long 
       (arrived (out-after m long k b))
 
   -- until R it keeps the loader too
-  served-loader : k < runCount m + 2 * pieceCount m → Out m k
+  served-loader : k < beforeRun m → Out m k
       → delivered o l (packetAt image m kind k) f .loader ≡ l
   served-loader b t = served-by (λ (x : Effect). x .loader ≡ l) o l (packetAt image m kind k) f refl (go t)
     where
@@ -180,7 +180,7 @@ module _ (image m before : List ℕ) (right : length image ≡ flashSize) (long 
 
   -- an outcome that is a failure is not valid
   not-late : {u : Outcome} {k : ℕ} → failing u k ≡ true → u ≡ Outcome.Valid
-      → runCount m + 2 * pieceCount m ≤ k
+      → beforeRun m ≤ k
   not-late {u} {k} t e = absurd (true-false (sym t ∙ ap (λ (v : Outcome). failing v k) e))
 
   silent-stage : (o : Loss) → eventIn (reply o start) ≡ Event.Silence → At 1 (exchangeOf image m o start)

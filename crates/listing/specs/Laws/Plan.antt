@@ -15,11 +15,10 @@ use Rattle.basis.specs.Laws.Choice.{decide}
 use Rattle.basis.specs.Laws.Refusals.{apart, given-one, refused-one}
 use Rattle.basis.specs.Refusals.{Answer, refused, given}
 use Rattle.runs.specs.Pieces.{namedCount}
-use Rattle.session.specs.Laws.Fits.{sizes-right}
 use Rattle.session.specs.Laws.Phases.{at-stands, stands-start}
 use Rattle.session.specs.Laws.Plan.{plan-length, plan-at}
 use Rattle.session.specs.Laws.States.{phase-later, greeting-state, ack-next, ack-last}
-use Rattle.session.specs.Laws.Steps.{start-size, start-empty, start-given}
+use Rattle.session.specs.Laws.Steps.{start-size, start-empty, start-given, sizes-right}
 use Rattle.session.specs.Phases.{atStart, phaseAt, afterOf}
 use Rattle.session.specs.Plan.{plan, total}
 use Rattle.session.specs.Session.{Sent, atGreeting, stateAt, rightSizes, started, measured, tookOf}

@@ -1,4 +1,4 @@
--- The paper's cases marked (p), as one list: turning, packets, and what a serving loader from the factory does.
+-- The paper's cases marked (p), as one list: turning, packets, what a serving loader from the factory does.
 use Prim.Native.Nat.{ℕ, _*_}
 use mathlib.Core.Bool.{Bool, true}
 use mathlib.Core.List.{List, [], _∷_}
@@ -16,7 +16,7 @@ use Rattle.loader.specs.State.{factoryOf, withCondition}
 use Rattle.loader.specs.Verify.{equalsOf}
 use Rattle.loader.specs.declared.state.Condition.the-variants.{Serving}
 use Rattle.loader.specs.declared.state.Loader.{Loader}
-use Rattle.packet.specs.Packet.{packet, rows, tabledOf, Parts, readOf}
+use Rattle.packet.specs.Packet.{packet, rows, tabledOf, readOf}
 use Rattle.packet.specs.Turn.{turnedOf}
 
 abbrev serving : Loader
@@ -55,7 +55,8 @@ cases =
     eqb (turnedOf 0x81) 0x0C
     ∷ eqb (turnedOf 0x12) 0x90
     ∷ eqb (turnedOf 0x34) 0xA1
-    -- R with address 1 has checksum A8; P type 0x01 with key 0x12345678 has 95; P 0x0F at 0xF800 has A3, at 0x800 has 93
+    -- R with address 1 has checksum A8; P type 0x01 with key 0x12345678 has 95;
+    -- P 0x0F at 0xF800 has A3, at 0x800 has 93
     ∷ eqb (getD (packet 0x52 1 []) 8 0) 0xA8
     ∷ eqb (getD (packet 0x50 0x12345678 (0x01 ∷ [])) 9 0) 0x95
     ∷ eqb (getD (packet 0x50 0xF800 (0x0F ∷ [])) 9 0) 0xA3

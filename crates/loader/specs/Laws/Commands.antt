@@ -3,42 +3,48 @@ use Prim.Native.Nat.{ℕ, _+_, _*_, _≤_, _<_}
 use mathlib.Core.Bool.{Bool, true, false, not}
 use mathlib.Core.List.{List, [], _∷_}
 use mathlib.Core.Path.{_≡_, refl, ap, _∙_}
-use borrow.Author.Tests.{lt-ltb, le-ltb, le-leb, lt-leb, eq-eqb, ne-eqb, ltb-false, leb-false, not-false}
+use borrow.Author.Tests.{lt-ltb, le-ltb, le-leb, lt-leb, eq-eqb, ne-eqb, ltb-false, leb-false, eqb-false, not-false}
 use lib.Dec.{leb, eqb}
 use lib.ListN.{length, getD}
+use Rattle.basis.specs.Board.{pageSize}
 use Rattle.basis.specs.Choice.{pick}
 use Rattle.basis.specs.Laws.Choice.{either-first, either-second, either-false, either-none}
 use Rattle.basis.specs.Laws.Refusals.{skip, stop, done, passed}
 use Rattle.basis.specs.Refusals.{Answer, refused, given, Rule, _when_, first}
 use Rattle.basis.specs.Units.{pageOf, startOf}
 use Rattle.image.specs.Flash.{eraseOf}
-use Rattle.loader.specs.Commands.{Effect, effectAfter, Changes, Does, protectedPages, protectedBytes, massErase, eraseRows, erasing, writeRows, writing, verifyRows, protecting, running, keeping, obeyOf}
+use Rattle.loader.specs.Commands.{Effect, effectAfter, Changes, Does, protectedPages, protectedBytes, massErase, eraseRows, erasing, writeRows, writing, verifyRows, protecting, running, keeping, obeyOf, loaderAfter}
 use Rattle.loader.specs.State.{withCondition, clearedOf}
 use Rattle.loader.specs.Verify.{equalsOf}
 use Rattle.loader.specs.declared.state.Condition.the-variants.{Left}
 use Rattle.loader.specs.declared.state.Loader.{Loader}
-use Rattle.basis.specs.Board.{pageSize}
 
 -- what a function that obeys shows, by its two ways out
 pub stays : {x : Answer Loader} {n : ℕ} (l : Loader) → x ≡ refused n → Changes x l (refused n) l
 stays l e = rw e (record { verdict-is = refl; loader-is = refl })
 
-pub changes : {x : Answer Loader} {m next : Loader} (l : Loader) → x ≡ given m → next ≡ m → Changes x l (given tt) next
+pub changes : {x : Answer Loader} {m next : Loader} (l : Loader) → x ≡ given m → next ≡ m
+    → Changes x l (given tt) next
 changes l e f = rw e (record { verdict-is = refl; loader-is = f })
 
-pub leaves-all : {x : Answer Effect} {n : ℕ} (l : Loader) (f : List ℕ) → x ≡ refused n → Does x l f (refused n) l f
+pub leaves-all : {x : Answer Effect} {n : ℕ} (l : Loader) (f : List ℕ) → x ≡ refused n
+    → Does x l f (refused n) l f
 leaves-all l f e = rw e (record { verdict-is = refl; loader-is = refl; flash-is = refl })
 
-pub does : {x : Answer Effect} {e : Effect} {v : Answer (Unit {0})} {next : Loader} {flash : List ℕ} (l : Loader) (f : List ℕ) → x ≡ given e → v ≡ given tt → next ≡ e .loader → flash ≡ e .flash → Does x l f v next flash
+pub does : {x : Answer Effect} {e : Effect} {v : Answer (Unit {0})} {next : Loader} {flash : List ℕ}
+    (l : Loader) (f : List ℕ)
+    → x ≡ given e → v ≡ given tt → next ≡ e .loader → flash ≡ e .flash → Does x l f v next flash
 does l f e v p q = rw e (record { verdict-is = v; loader-is = p; flash-is = q })
 
--- what holds of loader and flash as they were and as the command leaves them holds after it, whatever its table says
-pub either-way : (P : Effect → Type 0) (l : Loader) (f : List ℕ) (e : Effect) (t : List Rule) → P (record { loader = l; flash = f }) → P e → P (effectAfter l f (first t (given e)))
+-- what holds of loader and flash as they were, and as the command leaves them, holds whatever its table says
+pub either-way : (P : Effect → Type 0) (l : Loader) (f : List ℕ) (e : Effect) (t : List Rule)
+    → P (record { loader = l; flash = f }) → P e → P (effectAfter l f (first t (given e)))
 unfolding first
 either-way P l f e [] p q = q
 either-way P l f e (r ∷ t) p q = go (r .holds) (either-way P l f e t p q)
   where
-    go : (b : Bool) → P (effectAfter l f (first t (given e))) → P (effectAfter l f (pick b (refused (r .number)) (first t (given e))))
+    go : (b : Bool) → P (effectAfter l f (first t (given e)))
+        → P (effectAfter l f (pick b (refused (r .number)) (first t (given e))))
     go true h = p
     go false h = h
 
@@ -57,26 +63,33 @@ module _ {A : Type 0} (k : ℕ) (l : Loader) (a n : ℕ) (r : Answer A) where
   unfolding eraseRows
   erase-over h = stop 7 _ _ r (either-second (eqb n 0) _ (either-second (leb (startOf k) a) _ (lt-ltb k (pageOf a + n) h)))
 
-  erase-inside : (n ≡ 0 → ⊥) → a < startOf k → pageOf a + n ≤ k → first (eraseRows k l a n) r ≡ first (8 when protectedPages (l .protection) (pageOf a) (pageOf a + n) ∷ []) r
+  erase-inside : (n ≡ 0 → ⊥) → a < startOf k → pageOf a + n ≤ k
+      → first (eraseRows k l a n) r
+      ≡ first (8 when protectedPages (l .protection) (pageOf a) (pageOf a + n) ∷ []) r
   unfolding eraseRows
   erase-inside p q s =
       skip 7 _ _ r (either-false (eqb n 0) _ (ne-eqb n 0 p) (either-false (leb (startOf k) a) _ (lt-leb (startOf k) a q) (le-ltb k (pageOf a + n) s)))
 
   module _ (p : n ≡ 0 → ⊥) (q : a < startOf k) (s : pageOf a + n ≤ k) where
-    pub erase-protected : protectedPages (l .protection) (pageOf a) (pageOf a + n) ≡ true → first (eraseRows k l a n) r ≡ refused 8
+    pub erase-protected : protectedPages (l .protection) (pageOf a) (pageOf a + n) ≡ true
+        → first (eraseRows k l a n) r ≡ refused 8
     erase-protected t = erase-inside p q s ∙ stop 8 _ _ r t
 
-    pub erase-passes : protectedPages (l .protection) (pageOf a) (pageOf a + n) ≡ false → first (eraseRows k l a n) r ≡ r
+    pub erase-passes : protectedPages (l .protection) (pageOf a) (pageOf a + n) ≡ false
+        → first (eraseRows k l a n) r ≡ r
     erase-passes t = erase-inside p q s ∙ skip 8 _ _ r t ∙ done r
 
--- what is let through lies in flash, and is not protected
-pub erase-let : {A : Type 0} {y : A} (k : ℕ) (l : Loader) (a n : ℕ) (r : Answer A) → first (eraseRows k l a n) r ≡ given y → (a < startOf k) × (pageOf a + n ≤ k) × (protectedPages (l .protection) (pageOf a) (pageOf a + n) ≡ false)
+-- what is let through has pages, lies in flash, and is not protected
+pub erase-let : {A : Type 0} {y : A} (k : ℕ) (l : Loader) (a n : ℕ) (r : Answer A)
+    → first (eraseRows k l a n) r ≡ given y
+    → (n ≡ 0 → ⊥) × (a < startOf k) × (pageOf a + n ≤ k)
+    × (protectedPages (l .protection) (pageOf a) (pageOf a + n) ≡ false)
 unfolding eraseRows
 erase-let k l a n r e =
     let p = passed 7 _ _ _ e in
     let q = either-none (eqb n 0) _ (p .0) in
     let s = either-none (leb (startOf k) a) _ (q .1) in
-    (leb-false _ _ (s .0), ltb-false _ _ (s .1), passed 8 _ _ _ (p .1) .0)
+    (eqb-false n 0 (q .0), leb-false _ _ (s .0), ltb-false _ _ (s .1), passed 8 _ _ _ (p .1) .0)
 
 module _ (k : ℕ) (l : Loader) (a n : ℕ) (f : List ℕ) where
   pub erasing-open : l .sequence .opened ≡ true → erasing k l a n f ≡ refused 9
@@ -84,11 +97,15 @@ module _ (k : ℕ) (l : Loader) (a n : ℕ) (f : List ℕ) where
   erasing-open h = stop 9 _ _ _ h
 
   module _ (p : l .sequence .opened ≡ false) where
-    pub erasing-mass : massErase a n ≡ true → erasing k l a n f ≡ given (record { loader = clearedOf l; flash = eraseOf f 0 (length f) })
+    pub erasing-mass : massErase a n ≡ true
+        → erasing k l a n f ≡ given (record { loader = clearedOf l; flash = eraseOf f 0 (length f) })
     unfolding erasing
     erasing-mass h = skip 9 _ _ _ p ∙ done _ ∙ simp h
 
-    pub erasing-pages : massErase a n ≡ false → erasing k l a n f ≡ first (eraseRows k l a n) (given (record { loader = l; flash = eraseOf f (startOf (pageOf a)) (n * pageSize) }))
+    pub erasing-pages : massErase a n ≡ false
+        → erasing k l a n f
+        ≡ first (eraseRows k l a n)
+        (given (record { loader = l; flash = eraseOf f (startOf (pageOf a)) (n * pageSize) }))
     unfolding erasing
     erasing-pages h = skip 9 _ _ _ p ∙ done _ ∙ simp h
 
@@ -104,15 +121,19 @@ module _ {A : Type 0} (k : ℕ) (l : Loader) (a x : ℕ) (r : Answer A) where
     unfolding writeRows
     write-past h = skip 9 _ _ r p ∙ stop 7 _ _ r (lt-ltb _ _ h)
 
-    pub write-protected : a + x ≤ startOf k → protectedBytes (l .protection) a (a + x) ≡ true → first (writeRows k l a x) r ≡ refused 8
+    pub write-protected : a + x ≤ startOf k → protectedBytes (l .protection) a (a + x) ≡ true
+        → first (writeRows k l a x) r ≡ refused 8
     unfolding writeRows
     write-protected q t = skip 9 _ _ r p ∙ skip 7 _ _ r (le-ltb _ _ q) ∙ stop 8 _ _ r t
 
-    pub write-passes : a + x ≤ startOf k → protectedBytes (l .protection) a (a + x) ≡ false → first (writeRows k l a x) r ≡ r
+    pub write-passes : a + x ≤ startOf k → protectedBytes (l .protection) a (a + x) ≡ false
+        → first (writeRows k l a x) r ≡ r
     unfolding writeRows
     write-passes q t = skip 9 _ _ r p ∙ skip 7 _ _ r (le-ltb _ _ q) ∙ skip 8 _ _ r t ∙ done r
 
-pub write-let : {A : Type 0} {y : A} (k : ℕ) (l : Loader) (a x : ℕ) (r : Answer A) → first (writeRows k l a x) r ≡ given y → (l .sequence .opened ≡ false) × (a + x ≤ startOf k) × (protectedBytes (l .protection) a (a + x) ≡ false)
+pub write-let : {A : Type 0} {y : A} (k : ℕ) (l : Loader) (a x : ℕ) (r : Answer A)
+    → first (writeRows k l a x) r ≡ given y
+    → (l .sequence .opened ≡ false) × (a + x ≤ startOf k) × (protectedBytes (l .protection) a (a + x) ≡ false)
 unfolding writeRows
 write-let k l a x r e =
     let p = passed 9 _ _ _ e in
@@ -122,18 +143,28 @@ write-let k l a x r e =
 -- ---- V, P and R leave flash as it was
 
 module _ (l : Loader) (f : List ℕ) where
-  -- what turns the loader alone
-  pub changed-does : (x : Answer Loader) {v : Answer (Unit {0})} {next : Loader} → Changes x l v next → Does (keeping f x) l f v next f
-  changed-does (refused n) t = record { verdict-is = t .verdict-is; loader-is = t .loader-is; flash-is = refl }
+  pub keeping-is : (x : Answer Loader)
+      → effectAfter l f (keeping f x) ≡ record { loader = loaderAfter l x; flash = f }
+  keeping-is (refused n) = refl
+  keeping-is (given m) = refl
+
+  -- what changes the loader alone
+  pub changed-does : (x : Answer Loader) {v : Answer (Unit {0})} {next : Loader} → Changes x l v next
+      → Does (keeping f x) l f v next f
+  changed-does (refused n) t =
+      record { verdict-is = t .verdict-is; loader-is = t .loader-is; flash-is = refl }
   changed-does (given m) t = record { verdict-is = t .verdict-is; loader-is = t .loader-is; flash-is = refl }
 
-  -- what turns nothing: the table decides
-  pub judged-does : (t : List Rule) {v : Answer (Unit {0})} → v ≡ first t (given tt) → Does (keeping f (first t (given l))) l f v l f
+  -- what changes nothing: the table decides
+  pub judged-does : (t : List Rule) {v : Answer (Unit {0})} → v ≡ first t (given tt)
+      → Does (keeping f (first t (given l))) l f v l f
   unfolding first
   judged-does [] e = record { verdict-is = e; loader-is = refl; flash-is = refl }
   judged-does (r ∷ t) {v} e = go (r .holds) e (judged-does t)
     where
-      go : (b : Bool) → v ≡ pick b (refused (r .number)) (first t (given tt)) → (v ≡ first t (given tt) → Does (keeping f (first t (given l))) l f v l f) → Does (keeping f (pick b (refused (r .number)) (first t (given l)))) l f v l f
+      go : (b : Bool) → v ≡ pick b (refused (r .number)) (first t (given tt))
+          → (v ≡ first t (given tt) → Does (keeping f (first t (given l))) l f v l f)
+          → Does (keeping f (pick b (refused (r .number)) (first t (given l)))) l f v l f
       go true e h = record { verdict-is = e; loader-is = refl; flash-is = refl }
       go false e h = h e
 
@@ -160,28 +191,34 @@ module _ (k : ℕ) (l : Loader) (a : ℕ) (d f : List ℕ) where
   unfolding obeyOf
   obey-run = refl
 
--- ---- V: let through exactly when no sequence is open, the range lies in flash, reading is free and the bytes are equal
+-- ---- V: let through exactly when no sequence is open, the range fits, reading is free and the bytes are equal
 
 module _ {A : Type 0} (k : ℕ) (l : Loader) (a : ℕ) (d f : List ℕ) (r : Answer A) where
-  pub verify-passes : l .sequence .opened ≡ false → a + length d ≤ startOf k → l .protection .read ≡ false → equalsOf f a d ≡ true → first (verifyRows k l a d f) r ≡ r
+  pub verify-passes : l .sequence .opened ≡ false → a + length d ≤ startOf k → l .protection .read ≡ false
+      → equalsOf f a d ≡ true → first (verifyRows k l a d f) r ≡ r
   unfolding verifyRows
-  verify-passes p q s t = skip 9 _ _ r p ∙ skip 7 _ _ r (le-ltb _ _ q) ∙ skip 8 _ _ r s ∙ skip 10 _ _ r (ap not t) ∙ done r
+  verify-passes p q s t =
+      skip 9 _ _ r p ∙ skip 7 _ _ r (le-ltb _ _ q) ∙ skip 8 _ _ r s ∙ skip 10 _ _ r (ap not t) ∙ done r
 
-  pub verify-let : {y : A} → first (verifyRows k l a d f) r ≡ given y → (a + length d ≤ startOf k) × (equalsOf f a d ≡ true)
+  pub verify-let : {y : A} → first (verifyRows k l a d f) r ≡ given y
+      → (l .sequence .opened ≡ false) × (a + length d ≤ startOf k) × (l .protection .read ≡ false)
+      × (equalsOf f a d ≡ true)
   unfolding verifyRows
   verify-let e =
       let p = passed 9 _ _ _ e in
       let q = passed 7 _ _ _ (p .1) in
       let s = passed 8 _ _ _ (q .1) in
-      (ltb-false _ _ (q .0), not-false _ (passed 10 _ _ _ (s .1) .0))
+      (p .0, ltb-false _ _ (q .0), s .0, not-false _ (passed 10 _ _ _ (s .1) .0))
 
 -- ---- R
 
-pub run-passes : (l : Loader) (a : ℕ) → l .sequence .opened ≡ false → a ≤ 1 → running l a ≡ given (withCondition l Left)
+pub run-passes : (l : Loader) (a : ℕ) → l .sequence .opened ≡ false → a ≤ 1
+    → running l a ≡ given (withCondition l Left)
 unfolding running
 run-passes l a p h = skip 9 _ _ _ p ∙ skip 7 _ _ _ (le-ltb _ _ h) ∙ done _
 
-pub run-let : {m : Loader} (l : Loader) (a : ℕ) → running l a ≡ given m → (l .sequence .opened ≡ false) × (a ≤ 1)
+pub run-let : {m : Loader} (l : Loader) (a : ℕ) → running l a ≡ given m
+    → (l .sequence .opened ≡ false) × (a ≤ 1)
 unfolding running
 run-let l a e =
     let p = passed 9 _ _ _ e in

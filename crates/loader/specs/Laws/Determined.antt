@@ -20,7 +20,13 @@ use Rattle.packet.specs.declared.table.Refusal.the-variants as unread
 -- the refusal of a number
 refusalBy : ℕ → Refusal
 refusalBy n =
-    pick (eqb n 20) Size (pick (eqb n 11) Unheard (pick (eqb n 9) Sequence (pick (eqb n 7) Address (pick (eqb n 8) Protected (pick (eqb n 10) Differs (Unread (unreadBy n)))))))
+    pick (eqb n 20) Size
+    (pick (eqb n 11) Unheard
+    (pick (eqb n 9) Sequence
+    (pick (eqb n 7) Address
+    (pick (eqb n 8) Protected
+    (pick (eqb n 10) Differs
+    (Unread (unreadBy n)))))))
 
 back : (x : Refusal) → refusalBy (paperRefusal x) ≡ x
 unfolding refusalBy unreadBy
@@ -43,8 +49,10 @@ verdict-one Accepted (Refused y) e = absurd (apart (sym e))
 verdict-one (Refused x) Accepted e = absurd (apart e)
 verdict-one (Refused x) (Refused y) e = ap Refused (sym (back x) ∙ ap refusalBy (refused-one e) ∙ back y)
 
-pub take-determined : {x : Answer Effect} {l : Loader} {f old : List ℕ} (v w : Verdict) (m n : Loader) (i j : ℕ) (g h a b : List ℕ)
-    → Takes x l f old (paperVerdict v) m i g a → Takes x l f old (paperVerdict w) n j h b → (v ≡ w) × (m ≡ n) × (i ≡ j) × (g ≡ h) × (a ≡ b)
+pub take-determined : {x : Answer Effect} {l : Loader} {f old : List ℕ}
+    (v w : Verdict) (m n : Loader) (i j : ℕ) (g h a b : List ℕ)
+    → Takes x l f old (paperVerdict v) m i g a → Takes x l f old (paperVerdict w) n j h b
+    → (v ≡ w) × (m ≡ n) × (i ≡ j) × (g ≡ h) × (a ≡ b)
 take-determined v w m n i j g h a b p q = (
   determined paperVerdict verdict-one v w (p .does-is .verdict-is) (q .does-is .verdict-is),
   p .does-is .loader-is ∙ sym (q .does-is .loader-is),

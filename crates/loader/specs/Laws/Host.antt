@@ -1,33 +1,36 @@
 -- The packets of the host, as a serving loader takes them.
 use Prim.Native.Nat.{ℕ, _^_, _≤_, _<_}
-use mathlib.Core.Bool.{Bool, true, false, not}
+use mathlib.Core.Bool.{Bool, true, false}
 use mathlib.Core.List.{List, [], _∷_, map}
 use mathlib.Core.Path.{_≡_, refl, ap, _∙_}
 use borrow.Author.Tests.{ne-eqb}
-use lib.Dec.{ltb, eqb}
-use lib.ListN.{length, getD, take, drop}
-use Rattle.basis.specs.Choice.{pick, both, either}
-use Rattle.basis.specs.Refusals.{Answer, refused, given, first}
+use lib.Dec.{eqb}
+use lib.ListN.{length, getD}
+use Rattle.basis.specs.Board.{answerMost, openingByte}
+use Rattle.basis.specs.Choice.{pick}
+use Rattle.basis.specs.Refusals.{Answer, given, first}
 use Rattle.basis.specs.Units.{startOf}
-use Rattle.loader.specs.Commands.{effectAfter, keeping, erasing, writing, verifyRows, protecting, running, obeyOf}
-use Rattle.loader.specs.Laws.Commands.{obey-erase, obey-write, obey-verify, obey-run}
-use Rattle.loader.specs.Laws.Take.{heard-waiting, heard-serving, served-packet, take-heard}
+use Rattle.loader.specs.Commands.{effectAfter, keeping, erasing, writing, verifyRows, running, obeyOf, Effect, protecting}
+use Rattle.loader.specs.Laws.Commands.{obey-erase, obey-write, obey-verify, obey-run, keeping-is}
+use Rattle.loader.specs.Laws.Take.{heard-waiting, heard-serving, served-packet, take-heard, any-input}
 use Rattle.loader.specs.State.{withCondition}
-use Rattle.loader.specs.Take.{waiting, left, opens, obeyed, serveOf, hearOf, takeOf}
+use Rattle.loader.specs.Take.{takeOf, dataIn}
 use Rattle.loader.specs.declared.state.Condition.the-variants.{Waiting, Serving}
 use Rattle.loader.specs.declared.state.Loader.{Loader}
 use Rattle.packet.specs.Laws.Packet.{packet-data, carried-plainly, read-erase, read-write, read-verify, read-run}
 use Rattle.packet.specs.Packet.{carriedOf, packet, Parts, said, readOf, dataMost}
 use Rattle.packet.specs.Turn.{turnedOf}
-use Rattle.basis.specs.Board.{answerMost}
 
 module _ (k : ℕ) (l : Loader) (f : List ℕ) (room : ℕ) (size : length f ≡ startOf k) (fits : answerMost ≤ room) where
   -- the opening byte
-  pub sent-opening : l .condition ≡ Waiting → takeOf k l (0x08 ∷ []) f room ≡ given (record { loader = withCondition l Serving; flash = f })
-  sent-opening c = take-heard k l (0x08 ∷ []) f room size fits ∙ heard-waiting k l (0x08 ∷ []) f c refl
+  pub sent-opening : l .condition ≡ Waiting
+      → takeOf k l (openingByte ∷ []) f room ≡ given (record { loader = withCondition l Serving; flash = f })
+  sent-opening c =
+      take-heard k l (openingByte ∷ []) f room size fits ∙ heard-waiting k l (openingByte ∷ []) f c refl
 
   module _ (c : l .condition ≡ Serving) where
-    sent : (b a : ℕ) (d : List ℕ) → readOf (packet b a d) ≡ given (said b a d) → takeOf k l (packet b a d) f room ≡ obeyOf k l b a (map (carriedOf b) d) f
+    sent : (b a : ℕ) (d : List ℕ) → readOf (packet b a d) ≡ given (said b a d)
+        → takeOf k l (packet b a d) f room ≡ obeyOf k l b a (map (carriedOf b) d) f
     sent b a d e =
         take-heard k l (packet b a d) f room size fits
         ∙ heard-serving k l (packet b a d) f c
@@ -38,10 +41,16 @@ module _ (k : ℕ) (l : Loader) (f : List ℕ) (room : ℕ) (size : length f ≡
       pub sent-erase : (n : ℕ) → takeOf k l (packet 0x45 a (n ∷ [])) f room ≡ erasing k l a n f
       sent-erase n = sent 0x45 a (n ∷ []) (read-erase a h n) ∙ obey-erase k l a (n ∷ []) f
 
-      pub sent-write : (d : List ℕ) → 0 < length d → length d ≤ dataMost → takeOf k l (packet 0x57 a d) f room ≡ writing k l a d f
-      sent-write d p q = sent 0x57 a d (read-write a h d p q) ∙ obey-write k l a (map (carriedOf 0x57) d) f ∙ ap (λ (s : List ℕ). writing k l a s f) (carried-plainly 0x57 d refl)
+      pub sent-write : (d : List ℕ) → 0 < length d → length d ≤ dataMost
+          → takeOf k l (packet 0x57 a d) f room ≡ writing k l a d f
+      sent-write d p q =
+          sent 0x57 a d (read-write a h d p q)
+          ∙ obey-write k l a (map (carriedOf 0x57) d) f
+          ∙ ap (λ (s : List ℕ). writing k l a s f) (carried-plainly 0x57 d refl)
 
-      pub sent-verify : (d : List ℕ) → 0 < length d → length d ≤ dataMost → takeOf k l (packet 0x56 a d) f room ≡ keeping f (first (verifyRows k l a (map turnedOf d) f) (given l))
+      pub sent-verify : (d : List ℕ) → 0 < length d → length d ≤ dataMost
+          → takeOf k l (packet 0x56 a d) f room
+          ≡ keeping f (first (verifyRows k l a (map turnedOf d) f) (given l))
       sent-verify d p q = sent 0x56 a d (read-verify a h d p q) ∙ obey-verify k l a (map (carriedOf 0x56) d) f
 
       pub sent-run : takeOf k l (packet 0x52 a []) f room ≡ keeping f (running l a)
@@ -49,26 +58,25 @@ module _ (k : ℕ) (l : Loader) (f : List ℕ) (room : ℕ) (size : length f ≡
 
 -- V, P and R never change flash
 pub kept : (l : Loader) (f : List ℕ) (x : Answer Loader) → effectAfter l f (keeping f x) .flash ≡ f
-kept l f (refused n) = refl
-kept l f (given m) = refl
+kept l f x = ap (λ (e : Effect). e .flash) (keeping-is l f x)
 
-pub flash-kept : (k : ℕ) (l : Loader) (c a : ℕ) (d f : List ℕ) → (c ≡ 0x45 → ⊥) → (c ≡ 0x57 → ⊥) → effectAfter l f (obeyOf k l c a d f) .flash ≡ f
+flash-kept : (k : ℕ) (l : Loader) (c a : ℕ) (d f : List ℕ) → (c ≡ 0x45 → ⊥) → (c ≡ 0x57 → ⊥)
+    → effectAfter l f (obeyOf k l c a d f) .flash ≡ f
 unfolding obeyOf
-flash-kept k l c a d f e w = rw (ne-eqb c 0x45 e, ne-eqb c 0x57 w) (go (eqb c 0x56) (eqb c 0x50))
+flash-kept k l c a d f e w =
+    rw (ne-eqb c 0x45 e, ne-eqb c 0x57 w)
+    (go (eqb c 0x56) (eqb c 0x50) (first (verifyRows k l a d f) (given l)) (protecting k l a (getD d 0 0)) (running l a))
   where
-    go : (v p : Bool) → effectAfter l f (pick v (keeping f (first (verifyRows k l a d f) (given l))) (pick p (keeping f (protecting k l a (getD d 0 0))) (keeping f (running l a)))) .flash ≡ f
-    go true p = kept l f (first (verifyRows k l a d f) (given l))
-    go false true = kept l f (protecting k l a (getD d 0 0))
-    go false false = kept l f (running l a)
+    go : (v p : Bool) (x y z : Answer Loader)
+        → effectAfter l f (pick v (keeping f x) (pick p (keeping f y) (keeping f z))) .flash ≡ f
+    go true p x y z = kept l f x
+    go false true x y z = kept l f y
+    go false false x y z = kept l f z
 
 -- so only a packet of E or W changes it
-pub flash-by : (k : ℕ) (l : Loader) (s f : List ℕ) (room : ℕ) → ((p : Parts) → readOf s ≡ given p → (p .command ≡ 0x45 → ⊥) × (p .command ≡ 0x57 → ⊥)) → effectAfter l f (takeOf k l s f room) .flash ≡ f
-unfolding takeOf hearOf serveOf first
-flash-by k l s f room h = go (either (not (eqb (length f) (startOf k))) (ltb room answerMost)) (either (left (l .condition)) (both (waiting (l .condition)) (not (opens s)))) (waiting (l .condition)) (readOf s) refl
-  where
-    go : (a b w : Bool) (r : Answer Parts) → readOf s ≡ r → effectAfter l f (pick a (refused 20) (pick b (refused 11) (pick w (given (record { loader = withCondition l Serving; flash = f })) (obeyed k l s f r)))) .flash ≡ f
-    go true b w r e = refl
-    go false true w r e = refl
-    go false false true r e = refl
-    go false false false (refused n) e = refl
-    go false false false (given p) e = let q = h p e in flash-kept k l (p .command) (p .address) (take (p .size) (drop (p .place) s)) f (q .0) (q .1)
+pub flash-by : (k : ℕ) (l : Loader) (s f : List ℕ) (room : ℕ)
+    → ((p : Parts) → readOf s ≡ given p → (p .command ≡ 0x45 → ⊥) × (p .command ≡ 0x57 → ⊥))
+    → effectAfter l f (takeOf k l s f room) .flash ≡ f
+flash-by k l s f room h =
+    any-input (λ (e : Effect). e .flash ≡ f) k l s f room refl refl
+    (λ p e. let q = h p e in flash-kept k l (p .command) (p .address) (dataIn s p) f (q .0) (q .1))

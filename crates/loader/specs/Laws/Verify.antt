@@ -17,29 +17,35 @@ use Rattle.loader.specs.Verify.{equalsOf}
 use Rattle.packet.specs.Laws.Turn.{restored-turned, undone}
 use Rattle.packet.specs.Turn.{turnedOf, restoredOf}
 
-part : (f : List ℕ) (a n : ℕ) → a + suc n ≤ length f → take (suc n) (drop a f) ≡ getD f a 0 ∷ take n (drop (a + 1) f)
+part : (f : List ℕ) (a n : ℕ) → a + suc n ≤ length f
+    → take (suc n) (drop a f) ≡ getD f a 0 ∷ take n (drop (a + 1) f)
 part f a n h = rw (add-one, drop-cons f a 0 (omega arith))
 
 -- accepted: flash has the bytes, turned back
-pub same-stands : (f : List ℕ) (a : ℕ) (s : List ℕ) → a + length s ≤ length f → equalsOf f a s ≡ true → take (length s) (drop a f) ≡ map restoredOf s
+pub same-stands : (f : List ℕ) (a : ℕ) (s : List ℕ) → a + length s ≤ length f → equalsOf f a s ≡ true
+    → take (length s) (drop a f) ≡ map restoredOf s
 unfolding equalsOf
 same-stands f a [] h e = refl
 same-stands f a (t ∷ s) h e =
     let p = both-true (eqb (getD f a 0) (restoredOf t)) (equalsOf f (a + 1) s) e in
-    part f a (length s) h ∙ rw (eqb-true (getD f a 0) (restoredOf t) (p .0), same-stands f (a + 1) s (omega arith) (p .1))
+    part f a (length s) h
+    ∙ rw (eqb-true (getD f a 0) (restoredOf t) (p .0), same-stands f (a + 1) s (omega arith) (p .1))
 
 -- and where flash has them it is accepted
-pub stands-same : (f : List ℕ) (a : ℕ) (s : List ℕ) → a + length s ≤ length f → take (length s) (drop a f) ≡ map restoredOf s → equalsOf f a s ≡ true
+pub stands-same : (f : List ℕ) (a : ℕ) (s : List ℕ) → a + length s ≤ length f
+    → take (length s) (drop a f) ≡ map restoredOf s → equalsOf f a s ≡ true
 unfolding equalsOf
 stands-same f a [] h e = refl
 stands-same f a (t ∷ s) h e =
     let p : getD f a 0 ∷ take (length s) (drop (a + 1) f) ≡ restoredOf t ∷ map restoredOf s = sym (part f a (length s) h) ∙ e in
     let q : getD f a 0 ≡ restoredOf t = cc in
     let r : take (length s) (drop (a + 1) f) ≡ map restoredOf s = cc in
-    both-second (eqb (getD f a 0) (restoredOf t)) (equalsOf f (a + 1) s) (eq-eqb _ _ q) ∙ stands-same f (a + 1) s (omega arith) r
+    both-second (eqb (getD f a 0) (restoredOf t)) (equalsOf f (a + 1) s) (eq-eqb _ _ q)
+    ∙ stands-same f (a + 1) s (omega arith) r
 
 -- what W stored over blank flash, V accepts when turned
-pub stored-same : (f : List ℕ) (a : ℕ) (d : List ℕ) → a + length d ≤ length f → Blank f a (length d) → Bytes d → equalsOf (storeOf f a d) a (map turnedOf d) ≡ true
+pub stored-same : (f : List ℕ) (a : ℕ) (d : List ℕ) → a + length d ≤ length f → Blank f a (length d) → Bytes d
+    → equalsOf (storeOf f a d) a (map turnedOf d) ≡ true
 stored-same f a d h blank bytes =
     stands-same (storeOf f a d) a (map turnedOf d) (simp (length-map, length-store) h)
     (rw (length-map d turnedOf, undone restoredOf turnedOf restored-turned d bytes) (store-blank f a d h blank bytes))

@@ -13,13 +13,13 @@ use Rattle.basis.specs.Laws.Choice.{both-true, both-second, true-false}
 use Rattle.basis.specs.Laws.Refusals.{passed, done, given-one}
 use Rattle.basis.specs.Refusals.{refused, given}
 use Rattle.runs.specs.Pieces.{namedCount}
-use Rattle.session.specs.Laws.Series.{Came, waits, stands, fails, ends, failing}
+use Rattle.session.specs.Laws.Series.{came}
 use Rattle.session.specs.Laws.States.{phase-open}
 use Rattle.session.specs.Laws.Totals.{total-fits, total-least, named-fits}
 use Rattle.session.specs.Paper.{paperOutcome}
 use Rattle.session.specs.Phases.{ended}
 use Rattle.session.specs.Plan.{total}
-use Rattle.session.specs.Session.{sessionIn}
+use Rattle.session.specs.Session.{sessionIn, Came, waits, stands, fails, ends, failing, atGreeting, series}
 use Rattle.session.specs.declared.phase.Outcome.{Outcome}
 use Rattle.session.specs.declared.phase.Phase.{Phase}
 use Rattle.session.specs.declared.phase.RunKind.{RunKind}
@@ -28,6 +28,7 @@ use Rattle.service_log.specs.Laws.FalseRecords.{valid, greeted, ungreete
 use Rattle.service_log.specs.Laws.Log.{write-given, read-given}
 use Rattle.service_log.specs.Log.{known, isFalseOf, outcomeIn, twoBytes, fitTwo, recordBytes, writeOf, recordAt, pairAt, readOf}
 use Rattle.service_log.specs.declared.read.Record.{Record}
+use Rattle.session.specs.declared.event.Event.{Event}
 
 -- ---- what is written reads back
 
@@ -116,3 +117,8 @@ module _ (m : List ℕ) (long : length m ≡ mapSize) (some : 0 < namedCount m) 
         rw e (write-given room (sessionIn m kind (Phase.Ended o) k) refl (counts-fit k (omega arith)) (paperOutcome o) refl (failed-true o k b f) l)
     came-logged s (ends e) h =
         rw e (write-given room (sessionIn m kind (Phase.Ended Outcome.Valid) (total m)) refl (counts-fit (total m) (omega arith)) 0 refl valid-true l)
+
+    -- so it is of every series of events
+    pub series-logged : (es : List Event) → (let s = series m (atGreeting m kind) es in ended (s .phase) ≡ true
+        → writeOf room s ≡ given (recordBytes (outcomeIn (s .phase)) (s .acknowledged) (total m) (namedCount m)))
+    series-logged es = came-logged _ (came m long some kind es)

@@ -17,7 +17,11 @@ use Rattle.session.specs.declared.session.Stepped.{Stepped}
 
 -- the refusal of a number
 refusalBy : ℕ → Refusal
-refusalBy n = pick (eqb n 20) Refusal.Size (pick (eqb n 32) Refusal.Empty (pick (eqb n 44) Refusal.Ended Refusal.Foreign))
+refusalBy n =
+    pick (eqb n 20) Refusal.Size
+    (pick (eqb n 32) Refusal.Empty
+    (pick (eqb n 44) Refusal.Ended
+    Refusal.Foreign))
 
 refusal-back : (x : Refusal) → refusalBy (paperRefusal x) ≡ x
 unfolding refusalBy
@@ -36,20 +40,21 @@ stepped-one (Stepped.Next x) (Stepped.Refused y) e = absurd (apart (sym e))
 stepped-one (Stepped.Refused x) (Stepped.Next y) e = absurd (apart e)
 stepped-one (Stepped.Refused x) (Stepped.Refused y) e = ap Stepped.Refused (refusal-one x y (refused-one e))
 
-pub step-determined : (a : Answer Sent) (r s : Stepped) (x y old : List ℕ) → (paperStepped r ≡ measured a) × (x ≡ overlay (sentBytes a) old)
+pub step-determined : (a : Answer Sent) (r s : Stepped) (x y old : List ℕ)
+    → (paperStepped r ≡ measured a) × (x ≡ overlay (sentBytes a) old)
     → (paperStepped s ≡ measured a) × (y ≡ overlay (sentBytes a) old) → (r ≡ s) × (x ≡ y)
 step-determined a r s x y old p q = (determined paperStepped stepped-one r s (p .0) (q .0), p .1 ∙ sym (q .1))
 
 -- asking for a mark
 mark-one : (r s : Mark) → paperMark r ≡ paperMark s → r ≡ s
 mark-one Mark.Proved Mark.Proved e = refl
-mark-one Mark.Proved Mark.Open e = absurd (true-false (given-one e))
+mark-one Mark.Proved Mark.Unproved e = absurd (true-false (given-one e))
 mark-one Mark.Proved Mark.Size e = absurd (apart (sym e))
-mark-one Mark.Open Mark.Proved e = absurd (true-false (sym (given-one e)))
-mark-one Mark.Open Mark.Open e = refl
-mark-one Mark.Open Mark.Size e = absurd (apart (sym e))
+mark-one Mark.Unproved Mark.Proved e = absurd (true-false (sym (given-one e)))
+mark-one Mark.Unproved Mark.Unproved e = refl
+mark-one Mark.Unproved Mark.Size e = absurd (apart (sym e))
 mark-one Mark.Size Mark.Proved e = absurd (apart e)
-mark-one Mark.Size Mark.Open e = absurd (apart e)
+mark-one Mark.Size Mark.Unproved e = absurd (apart e)
 mark-one Mark.Size Mark.Size e = refl
 
 pub proved-determined : {a : Answer Bool} (r s : Mark) → paperMark r ≡ a → paperMark s ≡ a → r ≡ s

@@ -1,29 +1,21 @@
 -- Laws of 46: what it is that a session fits a file.
-use Prim.Native.Nat.{ℕ, _≤_, _<_}
+use Prim.Native.Nat.{ℕ, _<_}
 use mathlib.Core.Bool.{true}
 use mathlib.Core.List.{List}
 use mathlib.Core.Path.{_≡_, refl}
-use borrow.Author.Tests.{eq-eqb, eqb-true, ltb-true, lt-ltb, leb-true}
-use lib.Dec.{eqb, leb, ltb}
+use borrow.Author.Tests.{eq-eqb, eqb-true, ltb-true, lt-ltb}
+use lib.Dec.{eqb, ltb}
 use lib.ListN.{length}
-use Rattle.basis.specs.Board.{flashSize, mapSize}
+use Rattle.basis.specs.Board.{mapSize}
 use Rattle.basis.specs.Laws.Choice.{both-true}
 use Rattle.runs.specs.Pieces.{namedCount}
 use Rattle.session.specs.Laws.Phases.{after-start}
 use Rattle.session.specs.Phases.{atStart, standsIn}
 use Rattle.session.specs.Plan.{total}
-use Rattle.session.specs.Session.{rightSizes, judgeOf, heardOf, tookOf, fitsOf}
+use Rattle.session.specs.Session.{judgeOf, heardOf, tookOf, fitsOf}
 use Rattle.session.specs.declared.event.Event.{Event}
-use Rattle.session.specs.declared.session.Session.{Session}
 use Rattle.session.specs.declared.session.Meaning.{Meaning}
-use Rattle.packet.specs.Packet.{packetMost}
-
--- what right sizes are
-pub sizes-right : (i m p : ℕ) → rightSizes i m p ≡ true → (i ≡ flashSize) × (m ≡ mapSize) × (packetMost ≤ p)
-sizes-right i m p e =
-    let a = both-true (eqb i flashSize) _ e in
-    let b = both-true (eqb m mapSize) (leb packetMost p) (a .1) in
-    (eqb-true i flashSize (a .0), eqb-true m mapSize (b .0), leb-true packetMost p (b .1))
+use Rattle.session.specs.declared.session.Session.{Session}
 
 -- the file has a named byte, the session's counts are the file's, and its phase stands in the file
 pub record Fitting (m : List ℕ) (s : Session) : Type 0 where
@@ -46,7 +38,8 @@ fits-by m s f =
     rw (lt-ltb 0 (namedCount m) (f .some), eq-eqb (s .named) (namedCount m) (f .named-is), eq-eqb (s .total) (total m) (f .total-is)) (f .stands)
 
 -- after any event the cursor stands at a start
-pub took-start : (m : List ℕ) → length m ≡ mapSize → (s : Session) (e : Event) → fitsOf m s ≡ true → atStart m (tookOf m s e .phase) ≡ true
+pub took-start : (m : List ℕ) → length m ≡ mapSize → (s : Session) (e : Event) → fitsOf m s ≡ true
+    → atStart m (tookOf m s e .phase) ≡ true
 unfolding tookOf
 took-start m long s e h = go (judgeOf (s .phase) e)
   where

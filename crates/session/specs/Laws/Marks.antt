@@ -1,5 +1,5 @@
--- Laws of marks: a byte is marked by the ACK to the V that holds it, and R is out only when every named byte is.
-use Prim.Native.Nat.{ℕ, _+_, _*_, _≤_, _<_}
+-- Laws of marks: a byte is marked by the ACK to the V that holds it, and R is out only when all named bytes are.
+use Prim.Native.Nat.{ℕ, _+_, _≤_, _<_}
 use mathlib.Core.Bool.{true, not}
 use mathlib.Core.List.{List}
 use mathlib.Core.Path.{_≡_, refl, sym, ap, subst, _∙_}
@@ -15,33 +15,26 @@ use Rattle.runs.specs.Laws.Files.{bytes-past}
 use Rattle.runs.specs.Laws.Pieces.{piece-passes, in-piece, rank-in, rank-some, passes-below}
 use Rattle.runs.specs.Laws.Runs.{count-mono}
 use Rattle.runs.specs.Map.{named}
-use Rattle.runs.specs.Pieces.{pieceMost, pieceStarts, pieceLen, runCount, pieceCount}
+use Rattle.runs.specs.Pieces.{pieceMost, pieceStarts, pieceLen}
 use Rattle.runs.specs.Runs.{count, home}
 use Rattle.session.specs.Laws.Fits.{fitting}
 use Rattle.session.specs.Laws.Phases.{ranked-is, ranked-by, stands-below, stands-at, at-stands}
 use Rattle.session.specs.Laws.Plan.{plan-at}
 use Rattle.session.specs.Laws.States.{stands-run}
-use Rattle.session.specs.Phases.{packetOut, verifyAt, phaseAt, standsIn}
-use Rattle.session.specs.Plan.{verifyPacket, plan, total}
-use Rattle.session.specs.Session.{fitsOf, marked, provedOf}
+use Rattle.session.specs.Phases.{packetOut, verifyAt, standsIn}
+use Rattle.session.specs.Plan.{verifyPacket, plan, total, beforeRun, beforeVerify}
+use Rattle.session.specs.Session.{fitsOf, marked, provedOf, Held, markedFrom}
 use Rattle.session.specs.declared.phase.Phase.{Phase}
 use Rattle.session.specs.declared.phase.RunKind.{RunKind}
 use Rattle.session.specs.declared.session.Session.{Session}
-
--- the packet after j acknowledgements is the V of the piece at s, which holds the byte at a
-pub record Held (m : List ℕ) (j s a : ℕ) : Type 0 where
-  pub planned : j < total m
-  pub phase : phaseAt m j ≡ verifyAt s
-  pub from : s ≤ a
-  pub below : a < s + pieceLen m s
 
 module _ (m : List ℕ) where
   -- the ACK to it marks the byte
   pub held-marked : (j k s a : ℕ) → Held m j s a → j < k → marked m k a ≡ true
   unfolding marked standsIn
   held-marked j k s a h l =
-      let t = ranked-is (pieceStarts m) (runCount m + pieceCount m) s j (sym (ap (λ (ph : Phase). standsIn m ph j) (h .phase)) ∙ at-stands m j (h .planned)) in
-      let r : runCount m + pieceCount m + count (pieceStarts m) (a + 1) ≤ k = omega (arith, rank-in (named m) pieceMost s a (t .0) (h .from) (h .below)) in
+      let t = ranked-is (pieceStarts m) (beforeVerify m) s j (sym (ap (λ (ph : Phase). standsIn m ph j) (h .phase)) ∙ at-stands m j (h .planned)) in
+      let r : markedFrom m a ≤ k = omega (arith, rank-in (named m) pieceMost s a (t .0) (h .from) (h .below)) in
       both-second _ _ (piece-passes (named m) pieceMost s a (h .from) (h .below)) ∙ le-leb _ _ r
 
   -- a mark stays, and only what is named is marked
@@ -49,7 +42,7 @@ module _ (m : List ℕ) where
   unfolding marked
   marked-kept j k a l h =
       let b = both-true (named m a) _ h in
-      let r : runCount m + pieceCount m + count (pieceStarts m) (a + 1) ≤ k = omega (arith, leb-true (runCount m + pieceCount m + count (pieceStarts m) (a + 1)) j (b .1)) in
+      let r : markedFrom m a ≤ k = omega (arith, leb-true (markedFrom m a) j (b .1)) in
       both-second _ _ (b .0) ∙ le-leb _ _ r
 
   pub marked-named : (k a : ℕ) → marked m k a ≡ true → named m a ≡ true
@@ -58,13 +51,15 @@ module _ (m : List ℕ) where
 
 module _ (m : List ℕ) (long : length m ≡ mapSize) where
   -- every named byte is in the piece of one V of the plan, behind every E and W
-  pub named-held : (a : ℕ) → named m a ≡ true → (j : ℕ) × (s : ℕ) × (Held m j s a) × (j + 1 ≡ runCount m + pieceCount m + count (pieceStarts m) (a + 1))
+  named-held : (a : ℕ) → named m a ≡ true
+      → (j : ℕ) × (s : ℕ) × (Held m j s a)
+      × (j + 1 ≡ markedFrom m a)
   unfolding standsIn
   named-held a t =
       let i = in-piece (named m) pieceMost (omega arith) a t in
       let s : ℕ = home (named m) pieceMost a in
-      let j : ℕ = runCount m + pieceCount m + count (pieceStarts m) s in
-      let h : standsIn m (verifyAt s) j ≡ true = ranked-by (pieceStarts m) (runCount m + pieceCount m) s j (i .0) refl in (
+      let j : ℕ = beforeVerify m + count (pieceStarts m) s in
+      let h : standsIn m (verifyAt s) j ≡ true = ranked-by (pieceStarts m) (beforeVerify m) s j (i .0) refl in (
         j,
         s,
         record { planned = stands-below m long (verifyAt s) j h; phase = sym (stands-at m long (verifyAt s) j refl h); from = i .1; below = i .2 },
@@ -77,41 +72,44 @@ module _ (m : List ℕ) (long : length m ≡ mapSize) where
   marked-held k a h =
       let b = both-true (named m a) _ h in
       let v = named-held a (b .0) in
-      (v .0, v .1, omega (arith, v .3, leb-true (runCount m + pieceCount m + count (pieceStarts m) (a + 1)) k (b .1)), v .2)
+      (v .0, v .1, omega (arith, v .3, leb-true (markedFrom m a) k (b .1)), v .2)
 
   -- once every V is acknowledged every named byte is marked
-  pub all-marked : (k a : ℕ) → runCount m + 2 * pieceCount m ≤ k → marked m k a ≡ named m a
+  pub all-marked : (k a : ℕ) → beforeRun m ≤ k → marked m k a ≡ named m a
   unfolding marked
   all-marked k a l =
       decide (named m a)
       (λ t. let b = passes-below (named m) pieceMost flashSize (omega arith) (bytes-past m long) a t in
-      let r : runCount m + pieceCount m + count (pieceStarts m) (a + 1) ≤ k = omega (arith, count-mono (pieceStarts m) flashSize (a + 1) (omega arith)) in
+      let r : markedFrom m a ≤ k = omega (arith, count-mono (pieceStarts m) flashSize (a + 1) (omega arith)) in
       both-second _ _ t ∙ le-leb _ _ r ∙ sym t)
       (λ t. both-false _ _ t ∙ sym t)
 
   -- so R is out only when every named byte is marked
-  pub run-marked : (s : Session) (a : ℕ) → fitsOf m s ≡ true → s .phase ≡ Phase.Run → marked m (s .acknowledged) a ≡ named m a
+  pub run-marked : (s : Session) (a : ℕ) → fitsOf m s ≡ true → s .phase ≡ Phase.Run
+      → marked m (s .acknowledged) a ≡ named m a
   run-marked s a h e =
       all-marked (s .acknowledged) a
       (omega (arith, stands-run m (s .acknowledged) (sym (ap (λ (ph : Phase). standsIn m ph (s .acknowledged)) e) ∙ fitting m s h .stands)))
 
   -- in the plan's own terms
   pub named-verified : (image : List ℕ) (kind : RunKind) (a : ℕ) (d : List ℕ) → named m a ≡ true
-      → (j : ℕ) × (s : ℕ) × (j < total m) × (getD (plan image m kind) j d ≡ verifyPacket image m s) × (s ≤ a) × (a < s + pieceLen m s)
+      → (j : ℕ) × (s : ℕ) × (j < total m) × (getD (plan image m kind) j d ≡ verifyPacket image m s)
+      × (s ≤ a) × (a < s + pieceLen m s)
   named-verified image kind a d t =
       let v = named-held a t in
       let h = v .2 in
       (v .0, v .1, h .planned, plan-at image m kind (v .0) d (h .planned) ∙ ap (packetOut image m kind) (h .phase), h .from, h .below)
 
   -- no byte is marked before the first V is acknowledged
-  pub marked-late : (k a : ℕ) → marked m k a ≡ true → runCount m + pieceCount m < k
+  pub marked-late : (k a : ℕ) → marked m k a ≡ true → beforeVerify m < k
   unfolding marked
   marked-late k a h =
       let b = both-true (named m a) _ h in
-      omega (arith, rank-some (named m) pieceMost (omega arith) a (b .0), leb-true (runCount m + pieceCount m + count (pieceStarts m) (a + 1)) k (b .1))
+      omega (arith, rank-some (named m) pieceMost (omega arith) a (b .0), leb-true (markedFrom m a) k (b .1))
 
   -- one more acknowledgement marks the piece of its V, and nothing else
-  pub marked-more : {R : Type 0} (k a : ℕ) → marked m (k + 1) a ≡ true → (marked m k a ≡ true → R) → ((s : ℕ) → Held m k s a → R) → R
+  pub marked-more : {R : Type 0} (k a : ℕ) → marked m (k + 1) a ≡ true → (marked m k a ≡ true → R)
+      → ((s : ℕ) → Held m k s a → R) → R
   marked-more {R} k a h old new =
       let v = marked-held (k + 1) a h in
       decide (eqb (v .0) k)

@@ -1,5 +1,5 @@
--- Laws of phases: those that stand in a file are the phases after its acknowledgements, and each leads to the next.
-use Prim.Native.Nat.{ℕ, _+_, _-_, _*_, _≤_, _<_}
+-- Laws of phases: those that stand in a file are the ones after its acknowledgements; each leads to the next.
+use Prim.Native.Nat.{ℕ, _+_, _-_, _≤_, _<_}
 use mathlib.Core.Bool.{Bool, true, false}
 use mathlib.Core.List.{List}
 use mathlib.Core.Path.{_≡_, refl, sym, ap, subst, _∙_}
@@ -18,7 +18,7 @@ use Rattle.runs.specs.Pieces.{pieceMost, pieceStarts, runStarts, runCount, piec
 use Rattle.runs.specs.Runs.{count, starts, next, select, follow}
 use Rattle.session.specs.Laws.Starts.{run-below, piece-below, first-piece-below, first-run-below}
 use Rattle.session.specs.Phases.{eraseAt, writeAt, verifyAt, phaseAt, lowestPiece, nextRun, nextPiece, afterOf, atStart, ranked, standsIn}
-use Rattle.session.specs.Plan.{total}
+use Rattle.session.specs.Plan.{total, beforeRun, beforeVerify}
 use Rattle.session.specs.declared.phase.Phase.{Phase}
 
 -- ---- ranks
@@ -30,7 +30,7 @@ module _ (q : ℕ → Bool) (base a k : ℕ) where
   pub ranked-by : q a ≡ true → base + count q a ≡ k → ranked q base a k ≡ true
   ranked-by t e = rw t (eq-eqb _ _ e)
 
--- the first piece has rank 0, the one after a piece the next rank, and behind the last there are as many as there are
+-- the first piece has rank 0, the one after a piece the next, and behind the last piece all are counted
 module _ (p : ℕ → Bool) (cap n : ℕ) (z : 0 < cap) (past : (a : ℕ) → n ≤ a → p a ≡ false) (base : ℕ) where
   first-ranked : next p 0 (n - 0) < n → ranked (starts p cap) base (next p 0 (n - 0)) base ≡ true
   first-ranked l = ranked-by (starts p cap) base _ base (first-starts p cap n z past l) (omega (arith, first-rank p cap n z past))
@@ -66,8 +66,8 @@ module _ (m : List ℕ) (long : length m ≡ mapSize) where
   stands-below Phase.Greeting k h = omega (arith, eqb-true k 0 h)
   stands-below (Phase.Erase p) k h = omega (arith, run-rank (p .0) k h)
   stands-below (Phase.Write a) k h = omega (arith, piece-rank (runCount m) (a .0) k h)
-  stands-below (Phase.Verify a) k h = omega (arith, piece-rank (runCount m + pieceCount m) (a .0) k h)
-  stands-below Phase.Run k h = omega (arith, eqb-true (runCount m + 2 * pieceCount m) k h)
+  stands-below (Phase.Verify a) k h = omega (arith, piece-rank (beforeVerify m) (a .0) k h)
+  stands-below Phase.Run k h = omega (arith, eqb-true (beforeRun m) k h)
   stands-below (Phase.Ended o) k h = absurd (true-false (sym h))
 
   -- the cursor stands at a start
@@ -76,7 +76,7 @@ module _ (m : List ℕ) (long : length m ≡ mapSize) where
   stands-start Phase.Greeting k h = refl
   stands-start (Phase.Erase p) k h = ranked-is (runStarts m) 0 (p .0) k h .0
   stands-start (Phase.Write a) k h = ranked-is (pieceStarts m) (runCount m) (a .0) k h .0
-  stands-start (Phase.Verify a) k h = ranked-is (pieceStarts m) (runCount m + pieceCount m) (a .0) k h .0
+  stands-start (Phase.Verify a) k h = ranked-is (pieceStarts m) (beforeVerify m) (a .0) k h .0
   stands-start Phase.Run k h = refl
   stands-start (Phase.Ended o) k h = refl
 
@@ -106,18 +106,18 @@ module _ (m : List ℕ) (long : length m ≡ mapSize) where
       rw (le-ltb _ _ d, lt-ltb _ _ (piece-rank m long (runCount m) (a .0) k h))
       (ap writeAt (sym (select-at (pieceStarts m) flashSize (a .0) (piece-below m long (a .0) (t .0)) (t .0)) ∙ ap (λ (x : ℕ). select (pieceStarts m) x flashSize) c))
   stands-at (Phase.Verify a) k g h =
-      let t = ranked-is (pieceStarts m) (runCount m + pieceCount m) (a .0) k h in
-      let c : count (pieceStarts m) (a .0) ≡ k - (runCount m + pieceCount m) = omega arith in
-      let b : k < runCount m + 2 * pieceCount m = omega (arith, piece-rank m long (runCount m + pieceCount m) (a .0) k h) in
+      let t = ranked-is (pieceStarts m) (beforeVerify m) (a .0) k h in
+      let c : count (pieceStarts m) (a .0) ≡ k - beforeVerify m = omega arith in
+      let b : k < beforeRun m = omega (arith, piece-rank m long (beforeVerify m) (a .0) k h) in
       let d : runCount m ≤ k = omega arith in
-      let f : runCount m + pieceCount m ≤ k = omega arith in
+      let f : beforeVerify m ≤ k = omega arith in
       rw (le-ltb _ _ d, le-ltb _ _ f, lt-ltb _ _ b)
       (ap verifyAt (sym (select-at (pieceStarts m) flashSize (a .0) (piece-below m long (a .0) (t .0)) (t .0)) ∙ ap (λ (x : ℕ). select (pieceStarts m) x flashSize) c))
   stands-at Phase.Run k g h =
-      let e : runCount m + 2 * pieceCount m ≡ k = eqb-true _ _ h in
+      let e : beforeRun m ≡ k = eqb-true _ _ h in
       let d : runCount m ≤ k = omega arith in
-      let f : runCount m + pieceCount m ≤ k = omega arith in
-      let b : runCount m + 2 * pieceCount m ≤ k = omega arith in
+      let f : beforeVerify m ≤ k = omega arith in
+      let b : beforeRun m ≤ k = omega arith in
       rw (le-ltb _ _ d, le-ltb _ _ f, le-ltb _ _ b)
   stands-at (Phase.Ended o) k g h = absurd (true-false (sym h))
 
@@ -127,15 +127,15 @@ unfolding phaseAt standsIn
 at-stands m k l =
     decide (ltb k (runCount m))
     (λ d. let s = select-kth (runStarts m) pages k (ltb-true _ _ d) in rw d (ranked-by (runStarts m) 0 _ k (s .passes) (omega (arith, s .rank))))
-    (λ d. decide (ltb k (runCount m + pieceCount m))
+    (λ d. decide (ltb k (beforeVerify m))
     (λ f. let g : runCount m ≤ k = ltb-false _ _ d in
-    let s = select-kth (pieceStarts m) flashSize (k - runCount m) (omega (arith, ltb-true k (runCount m + pieceCount m) f)) in
+    let s = select-kth (pieceStarts m) flashSize (k - runCount m) (omega (arith, ltb-true k (beforeVerify m) f)) in
     rw (d, f) (ranked-by (pieceStarts m) (runCount m) _ k (s .passes) (omega (arith, s .rank))))
-    (λ f. decide (ltb k (runCount m + 2 * pieceCount m))
-    (λ b. let g : runCount m + pieceCount m ≤ k = ltb-false _ _ f in
-    let s = select-kth (pieceStarts m) flashSize (k - (runCount m + pieceCount m)) (omega (arith, ltb-true k (runCount m + 2 * pieceCount m) b)) in
-    rw (d, f, b) (ranked-by (pieceStarts m) (runCount m + pieceCount m) _ k (s .passes) (omega (arith, s .rank))))
-    (λ b. rw (d, f, b) (eq-eqb (runCount m + 2 * pieceCount m) k (omega (arith, ltb-false k (runCount m + 2 * pieceCount m) b))))))
+    (λ f. decide (ltb k (beforeRun m))
+    (λ b. let g : beforeVerify m ≤ k = ltb-false _ _ f in
+    let s = select-kth (pieceStarts m) flashSize (k - beforeVerify m) (omega (arith, ltb-true k (beforeRun m) b)) in
+    rw (d, f, b) (ranked-by (pieceStarts m) (beforeVerify m) _ k (s .passes) (omega (arith, s .rank))))
+    (λ b. rw (d, f, b) (eq-eqb (beforeRun m) k (omega (arith, ltb-false k (beforeRun m) b))))))
 
 -- ---- from phase to phase
 
@@ -145,9 +145,11 @@ module _ (m : List ℕ) (long : length m ≡ mapSize) (some : 0 < namedCount m) 
 
   pub greeting-stands : standsIn m (afterOf m Phase.Greeting) 0 ≡ true
   unfolding afterOf standsIn
-  greeting-stands = first-ranked (touched m) pages pages (omega arith) (pages-past m long) 0 (first-run-below m long some)
+  greeting-stands =
+      first-ranked (touched m) pages pages (omega arith) (pages-past m long) 0 (first-run-below m long some)
 
-  pub erase-stands : (q k : ℕ) → standsIn m (eraseAt q) k ≡ true → standsIn m (afterOf m (eraseAt q)) (k + 1) ≡ true
+  pub erase-stands : (q k : ℕ) → standsIn m (eraseAt q) k ≡ true
+      → standsIn m (afterOf m (eraseAt q)) (k + 1) ≡ true
   unfolding afterOf standsIn
   erase-stands q k h =
       decide (ltb (nextRun m q) pages)
@@ -156,22 +158,24 @@ module _ (m : List ℕ) (long : length m ≡ mapSize) (some : 0 < namedCount m) 
       (omega (arith, follow-last (touched m) pages pages (omega arith) (pages-past m long) 0 q k h (ltb-false _ _ d)))
       (first-piece-ranked (runCount m))))
 
-  pub write-stands : (a k : ℕ) → standsIn m (writeAt a) k ≡ true → standsIn m (afterOf m (writeAt a)) (k + 1) ≡ true
+  pub write-stands : (a k : ℕ) → standsIn m (writeAt a) k ≡ true
+      → standsIn m (afterOf m (writeAt a)) (k + 1) ≡ true
   unfolding afterOf standsIn
   write-stands a k h =
       decide (ltb (nextPiece m a) flashSize)
       (λ d. rw d (follow-ranked (named m) pieceMost flashSize (omega arith) (bytes-past m long) (runCount m) a k h (ltb-true _ _ d)))
-      (λ d. rw d (subst (λ (j : ℕ). ranked (pieceStarts m) (runCount m + pieceCount m) (lowestPiece m) j ≡ true)
+      (λ d. rw d (subst (λ (j : ℕ). ranked (pieceStarts m) (beforeVerify m) (lowestPiece m) j ≡ true)
       (follow-last (named m) pieceMost flashSize (omega arith) (bytes-past m long) (runCount m) a k h (ltb-false _ _ d))
-      (first-piece-ranked (runCount m + pieceCount m))))
+      (first-piece-ranked (beforeVerify m))))
 
-  pub verify-stands : (a k : ℕ) → standsIn m (verifyAt a) k ≡ true → standsIn m (afterOf m (verifyAt a)) (k + 1) ≡ true
+  pub verify-stands : (a k : ℕ) → standsIn m (verifyAt a) k ≡ true
+      → standsIn m (afterOf m (verifyAt a)) (k + 1) ≡ true
   unfolding afterOf standsIn
   verify-stands a k h =
       decide (ltb (nextPiece m a) flashSize)
-      (λ d. rw d (follow-ranked (named m) pieceMost flashSize (omega arith) (bytes-past m long) (runCount m + pieceCount m) a k h (ltb-true _ _ d)))
-      (λ d. rw d (eq-eqb (runCount m + 2 * pieceCount m) (k + 1)
-      (omega (arith, follow-last (named m) pieceMost flashSize (omega arith) (bytes-past m long) (runCount m + pieceCount m) a k h (ltb-false _ _ d)))))
+      (λ d. rw d (follow-ranked (named m) pieceMost flashSize (omega arith) (bytes-past m long) (beforeVerify m) a k h (ltb-true _ _ d)))
+      (λ d. rw d (eq-eqb (beforeRun m) (k + 1)
+      (omega (arith, follow-last (named m) pieceMost flashSize (omega arith) (bytes-past m long) (beforeVerify m) a k h (ltb-false _ _ d)))))
 
   -- a cursor that moves on stands at a start
   pub after-start : (ph : Phase) (k : ℕ) → standsIn m ph k ≡ true → atStart m (afterOf m ph) ≡ true

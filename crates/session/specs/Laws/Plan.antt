@@ -1,5 +1,5 @@
 -- Laws of the plan: it has e + 2w + 1 packets, and the k-th is the one that is out after k acknowledgements.
-use Prim.Native.Nat.{ℕ, zero, suc, _+_, _-_, _*_, _≤_, _<_}
+use Prim.Native.Nat.{ℕ, zero, suc, _+_, _-_, _≤_, _<_}
 use mathlib.Core.Bool.{Bool}
 use mathlib.Core.List.{List, [], _∷_, _++_, map}
 use mathlib.Core.Path.{_≡_, refl, sym, ap, _∙_}
@@ -13,12 +13,12 @@ use Rattle.basis.specs.Laws.Choice.{decide}
 use Rattle.runs.specs.Laws.Runs.{count-zero, count-yes, count-no}
 use Rattle.runs.specs.Pieces.{pieceStarts, runStarts, runCount, pieceCount}
 use Rattle.runs.specs.Runs.{count, select}
-use Rattle.session.specs.Phases.{packetOut, phaseAt}
-use Rattle.session.specs.Plan.{erasePacket, writePacket, verifyPacket, places, plan, total}
+use Rattle.session.specs.Phases.{phaseAt, packetAt}
+use Rattle.session.specs.Plan.{erasePacket, writePacket, verifyPacket, places, plan, total, beforeRun, beforeVerify}
 use Rattle.session.specs.declared.phase.RunKind.{RunKind}
 
 -- the places that pass are as many as are counted, and the k-th is the one of rank k
-pub places-length : (p : ℕ → Bool) (n : ℕ) → length (places p n) ≡ count p n
+places-length : (p : ℕ → Bool) (n : ℕ) → length (places p n) ≡ count p n
 unfolding places
 places-length p zero = sym (count-zero p)
 places-length p (suc n) =
@@ -26,7 +26,7 @@ places-length p (suc n) =
     (λ t. rw t (length-append (places p n) (n ∷ []) ∙ omega (arith, places-length p n, count-yes p n t)))
     (λ t. rw t (places-length p n ∙ sym (count-no p n t)))
 
-pub places-at : (p : ℕ → Bool) (n k d : ℕ) → k < count p n → getD (places p n) k d ≡ select p k n
+places-at : (p : ℕ → Bool) (n k d : ℕ) → k < count p n → getD (places p n) k d ≡ select p k n
 unfolding places select
 places-at p zero k d l = absurd (omega (arith, count-zero p))
 places-at p (suc n) k d l =
@@ -44,16 +44,21 @@ module _ {A : Type 0} where
   map-at f (x ∷ l) (suc k) e d h = map-at f l k e d (omega arith)
 
   -- in a part of a plan, and past it
-  part-at : (f : ℕ → A) (p : ℕ → Bool) (n k : ℕ) (ys : List A) (d : A) → k < count p n → getD (map f (places p n) ++ ys) k d ≡ f (select p k n)
+  part-at : (f : ℕ → A) (p : ℕ → Bool) (n k : ℕ) (ys : List A) (d : A) → k < count p n
+      → getD (map f (places p n) ++ ys) k d ≡ f (select p k n)
   part-at f p n k ys d l =
       let y : k < length (places p n) = omega (arith, places-length p n) in
       let x : k < length (map f (places p n)) = omega (arith, length-map (places p n) f) in
-      List·getD-append (map f (places p n)) ys d k x ∙ map-at f (places p n) k 0 d y ∙ ap f (places-at p n k 0 l)
+      List·getD-append (map f (places p n)) ys d k x
+      ∙ map-at f (places p n) k 0 d y
+      ∙ ap f (places-at p n k 0 l)
 
-  part-past : (f : ℕ → A) (p : ℕ → Bool) (n k : ℕ) (ys : List A) (d : A) → count p n ≤ k → getD (map f (places p n) ++ ys) k d ≡ getD ys (k - count p n) d
+  part-past : (f : ℕ → A) (p : ℕ → Bool) (n k : ℕ) (ys : List A) (d : A) → count p n ≤ k
+      → getD (map f (places p n) ++ ys) k d ≡ getD ys (k - count p n) d
   part-past f p n k ys d l =
       let x : k ≡ length (map f (places p n)) + (k - count p n) = omega (arith, length-map (places p n) f, places-length p n) in
-      ap (λ (j : ℕ). getD (map f (places p n) ++ ys) j d) x ∙ getD-append-add (map f (places p n)) ys (k - count p n) d
+      ap (λ (j : ℕ). getD (map f (places p n) ++ ys) j d) x
+      ∙ getD-append-add (map f (places p n)) ys (k - count p n) d
 
 module _ (image m : List ℕ) (kind : RunKind) where
   -- the plan has e + 2w + 1 packets
@@ -64,17 +69,17 @@ module _ (image m : List ℕ) (kind : RunKind) where
       (omega (arith, places-length (runStarts m) pages, places-length (pieceStarts m) flashSize))
 
   -- the k-th, counted from 0, is out after k acknowledgements
-  pub plan-at : (k : ℕ) (d : List ℕ) → k < total m → getD (plan image m kind) k d ≡ packetOut image m kind (phaseAt m k)
+  pub plan-at : (k : ℕ) (d : List ℕ) → k < total m → getD (plan image m kind) k d ≡ packetAt image m kind k
   unfolding phaseAt plan
   plan-at k d l =
       decide (ltb k (runCount m))
       (λ a. rw a (part-at (erasePacket m) (runStarts m) pages k _ d (ltb-true _ _ a)))
-      (λ a. let ka : runCount m ≤ k = ltb-false _ _ a in rw a (part-past (erasePacket m) (runStarts m) pages k _ d ka ∙ decide (ltb k (runCount m + pieceCount m))
-      (λ b. rw b (part-at (writePacket image m) (pieceStarts m) flashSize (k - runCount m) _ d (omega (arith, ltb-true k (runCount m + pieceCount m) b))))
-      (λ b. let kb : pieceCount m ≤ k - runCount m = omega (arith, ltb-false k (runCount m + pieceCount m) b) in
-      let e : k - runCount m - pieceCount m ≡ k - (runCount m + pieceCount m) = omega arith in
-      rw b (part-past (writePacket image m) (pieceStarts m) flashSize (k - runCount m) _ d kb ∙ rw e (decide (ltb k (runCount m + 2 * pieceCount m))
-      (λ c. rw c (part-at (verifyPacket image m) (pieceStarts m) flashSize (k - (runCount m + pieceCount m)) _ d (omega (arith, ltb-true k (runCount m + 2 * pieceCount m) c))))
-      (λ c. let kc : pieceCount m ≤ k - (runCount m + pieceCount m) = omega (arith, ltb-false k (runCount m + 2 * pieceCount m) c) in
-      let z : k - (runCount m + pieceCount m) - pieceCount m ≡ 0 = omega arith in
-      rw c (part-past (verifyPacket image m) (pieceStarts m) flashSize (k - (runCount m + pieceCount m)) _ d kc ∙ rw z)))))))
+      (λ a. let ka : runCount m ≤ k = ltb-false _ _ a in rw a (part-past (erasePacket m) (runStarts m) pages k _ d ka ∙ decide (ltb k (beforeVerify m))
+      (λ b. rw b (part-at (writePacket image m) (pieceStarts m) flashSize (k - runCount m) _ d (omega (arith, ltb-true k (beforeVerify m) b))))
+      (λ b. let kb : pieceCount m ≤ k - runCount m = omega (arith, ltb-false k (beforeVerify m) b) in
+      let e : k - runCount m - pieceCount m ≡ k - beforeVerify m = omega arith in
+      rw b (part-past (writePacket image m) (pieceStarts m) flashSize (k - runCount m) _ d kb ∙ rw e (decide (ltb k (beforeRun m))
+      (λ c. rw c (part-at (verifyPacket image m) (pieceStarts m) flashSize (k - beforeVerify m) _ d (omega (arith, ltb-true k (beforeRun m) c))))
+      (λ c. let kc : pieceCount m ≤ k - beforeVerify m = omega (arith, ltb-false k (beforeRun m) c) in
+      let z : k - beforeVerify m - pieceCount m ≡ 0 = omega arith in
+      rw c (part-past (verifyPacket image m) (pieceStarts m) flashSize (k - beforeVerify m) _ d kc ∙ rw z)))))))

@@ -1,21 +1,21 @@
--- Laws of whole sessions: every series of events from a start over one file.
-use Prim.Native.Nat.{ℕ, zero, suc, _+_, _*_, _≤_, _<_}
-use native.Mathlib.Nat.{add-zero, zero-add}
+-- Laws of whole sessions: every series of events from a start is-over one file.
+use Prim.Native.Nat.{ℕ, zero, suc, _+_, _≤_, _<_}
 use mathlib.Core.Bool.{Bool, true, false}
 use mathlib.Core.List.{List, [], _∷_, _++_}
 use mathlib.Core.Path.{_≡_, refl, sym, ap, subst, _∙_}
+use native.Mathlib.Nat.{add-zero, zero-add}
 use native.Mathlib.Omega.{arith}
 use borrow.Author.Tests.{ltb-true, ltb-false}
-use lib.Dec.{eqb, ltb}
+use lib.Dec.{ltb}
 use lib.ListN.{length, replicate}
 use Rattle.basis.specs.Board.{mapSize}
 use Rattle.basis.specs.Choice.{pick}
 use Rattle.basis.specs.Laws.Choice.{decide, true-false}
-use Rattle.runs.specs.Pieces.{runCount, pieceCount, namedCount}
+use Rattle.runs.specs.Pieces.{namedCount}
 use Rattle.session.specs.Laws.States.{phase-open, phase-later, greeting-state, ack-next, ack-last}
-use Rattle.session.specs.Phases.{ended, phaseAt}
-use Rattle.session.specs.Plan.{total}
-use Rattle.session.specs.Session.{sessionIn, atGreeting, stateAt, valid, judgeOf, heardOf, tookOf, series}
+use Rattle.session.specs.Phases.{ended, phaseAt, isValid}
+use Rattle.session.specs.Plan.{total, beforeRun}
+use Rattle.session.specs.Session.{sessionIn, atGreeting, stateAt, valid, judgeOf, heardOf, tookOf, series, Came, waits, stands, fails, ends, failing}
 use Rattle.session.specs.declared.event.Event.{Event}
 use Rattle.session.specs.declared.phase.Outcome.{Outcome}
 use Rattle.session.specs.declared.phase.Phase.{Phase}
@@ -23,7 +23,7 @@ use Rattle.session.specs.declared.phase.RunKind.{RunKind}
 use Rattle.session.specs.declared.session.Session.{Session}
 
 -- after the end nothing changes
-pub series-ended : (m : List ℕ) (s : Session) (es : List Event) → ended (s .phase) ≡ true → series m s es ≡ s
+series-ended : (m : List ℕ) (s : Session) (es : List Event) → ended (s .phase) ≡ true → series m s es ≡ s
 unfolding series
 series-ended m s [] h = refl
 series-ended m s (e ∷ es) h = rw h (series-ended m s es h)
@@ -41,34 +41,19 @@ silence-ends m s = go (s .phase)
     go Phase.Run = refl
     go (Phase.Ended o) = refl
 
--- an outcome that k acknowledgements allow, other than valid: 42 only before the first packet
-abbrev pub failing : Outcome → ℕ → Bool
-failing Outcome.Valid k = false
-failing Outcome.Silence k = true
-failing Outcome.Bel k = true
-failing Outcome.NoGreeting k = eqb k 0
-failing Outcome.Other k = true
-
--- what a start and events lead to: it waits for the greeting, has k acknowledged, has failed with k acknowledged, or is valid
-pub data Came (m : List ℕ) (kind : RunKind) (s : Session) : Type 0 where
-  waits : s ≡ atGreeting m kind → Came m kind s
-  stands : (k : ℕ) → k < total m → s ≡ stateAt m kind k → Came m kind s
-  fails : (o : Outcome) (k : ℕ) → k < total m → failing o k ≡ true → s ≡ sessionIn m kind (Phase.Ended o) k → Came m kind s
-  ends : s ≡ valid m kind → Came m kind s
-
 -- its counts are the file's: no total is invented
 module _ (m : List ℕ) (kind : RunKind) (s : Session) where
+  came-in : Came m kind s → (ph : Phase) × (k : ℕ) × (s ≡ sessionIn m kind ph k)
+  came-in (waits e) = (Phase.Greeting, 0, e)
+  came-in (stands k l e) = (phaseAt m k, k, e)
+  came-in (fails o k l f e) = (Phase.Ended o, k, e)
+  came-in (ends e) = (Phase.Ended Outcome.Valid, total m, e)
+
   pub came-total : Came m kind s → s .total ≡ total m
-  came-total (waits e) = ap (λ (x : Session). x .total) e
-  came-total (stands k l e) = ap (λ (x : Session). x .total) e
-  came-total (fails o k l f e) = ap (λ (x : Session). x .total) e
-  came-total (ends e) = ap (λ (x : Session). x .total) e
+  came-total c = ap (λ (x : Session). x .total) (came-in c .2)
 
   pub came-named : Came m kind s → s .named ≡ namedCount m
-  came-named (waits e) = ap (λ (x : Session). x .named) e
-  came-named (stands k l e) = ap (λ (x : Session). x .named) e
-  came-named (fails o k l f e) = ap (λ (x : Session). x .named) e
-  came-named (ends e) = ap (λ (x : Session). x .named) e
+  came-named c = ap (λ (x : Session). x .named) (came-in c .2)
 
 abbrev pub isAck : Event → Bool
 isAck Event.Greeting = false
@@ -76,18 +61,6 @@ isAck Event.Ack = true
 isAck Event.Bel = false
 isAck Event.Other = false
 isAck Event.Silence = false
-
-abbrev isValid : Phase → Bool
-isValid Phase.Greeting = false
-isValid (Phase.Erase p) = false
-isValid (Phase.Write a) = false
-isValid (Phase.Verify a) = false
-isValid Phase.Run = false
-isValid (Phase.Ended Outcome.Valid) = true
-isValid (Phase.Ended Outcome.Silence) = false
-isValid (Phase.Ended Outcome.Bel) = false
-isValid (Phase.Ended Outcome.NoGreeting) = false
-isValid (Phase.Ended Outcome.Other) = false
 
 pub ack-or : {R : Type 0} (e : Event) → (e ≡ Event.Ack → R) → (isAck e ≡ false → R) → R
 ack-or Event.Greeting f g = g refl
@@ -103,7 +76,7 @@ isGreeting Event.Bel = false
 isGreeting Event.Other = false
 isGreeting Event.Silence = false
 
-pub greeting-or : {R : Type 0} (e : Event) → (e ≡ Event.Greeting → R) → (isGreeting e ≡ false → R) → R
+greeting-or : {R : Type 0} (e : Event) → (e ≡ Event.Greeting → R) → (isGreeting e ≡ false → R) → R
 greeting-or Event.Greeting f g = f refl
 greeting-or Event.Ack f g = g refl
 greeting-or Event.Bel f g = g refl
@@ -122,16 +95,13 @@ open-valid (Phase.Verify a) h = refl
 open-valid Phase.Run h = refl
 open-valid (Phase.Ended o) h = absurd (true-false h)
 
--- e + 2w
-abbrev runsAndPieces : List ℕ → ℕ
-runsAndPieces m = runCount m + 2 * pieceCount m
-
 module _ (m : List ℕ) (long : length m ≡ mapSize) (some : 0 < namedCount m) (kind : RunKind) where
   -- ---- one event
 
   -- an event that is no ACK ends the session, and not valid
   pub not-ack : (k : ℕ) (e : Event) → isAck e ≡ false → k < total m
-      → (o : Outcome) × (failing o k ≡ true) × (tookOf m (stateAt m kind k) e ≡ sessionIn m kind (Phase.Ended o) k)
+      → (o : Outcome) × (failing o k ≡ true)
+      × (tookOf m (stateAt m kind k) e ≡ sessionIn m kind (Phase.Ended o) k)
   unfolding tookOf
   not-ack k Event.Greeting h l = (Outcome.Other, refl, rw (phase-later m k Event.Greeting, add-zero))
   not-ack k Event.Ack h l = absurd (true-false h)
@@ -152,7 +122,9 @@ module _ (m : List ℕ) (long : length m ≡ mapSize) (some : 0 < namedCount m) 
       (λ a. let f = not-ack k e a l in fails (f .0) k l (f .1) (f .2))
 
   -- all but the greeting ends the session that waits for it
-  pub not-greeting : (e : Event) → isGreeting e ≡ false → (o : Outcome) × (failing o 0 ≡ true) × (tookOf m (atGreeting m kind) e ≡ sessionIn m kind (Phase.Ended o) 0)
+  pub not-greeting : (e : Event) → isGreeting e ≡ false
+      → (o : Outcome) × (failing o 0 ≡ true)
+      × (tookOf m (atGreeting m kind) e ≡ sessionIn m kind (Phase.Ended o) 0)
   unfolding tookOf
   not-greeting Event.Greeting h = absurd (true-false h)
   not-greeting Event.Ack h = (Outcome.NoGreeting, refl, refl)
@@ -166,7 +138,8 @@ module _ (m : List ℕ) (long : length m ≡ mapSize) (some : 0 < namedCount m) 
       (λ a. subst (λ (x : Event). Came m kind (tookOf m (atGreeting m kind) x)) (sym a) (stands 0 (omega arith) (greeting-state m long some kind)))
       (λ a. let f = not-greeting e a in fails (f .0) 0 (omega arith) (f .1) (f .2))
 
-  event-came : (s : Session) (e : Event) → Came m kind s → Came m kind (pick (ended (s .phase)) s (tookOf m s e))
+  event-came : (s : Session) (e : Event) → Came m kind s
+      → Came m kind (pick (ended (s .phase)) s (tookOf m s e))
   event-came s e (waits q) = rw q (first-came e)
   event-came s e (stands k l q) = rw (q, phase-open m k) (state-came k e l)
   event-came s e (fails o k l f q) = rw q (fails o k l f refl)
@@ -174,7 +147,7 @@ module _ (m : List ℕ) (long : length m ≡ mapSize) (some : 0 < namedCount m) 
 
   -- ---- every series
 
-  pub series-came : (es : List Event) (s : Session) → Came m kind s → Came m kind (series m s es)
+  series-came : (es : List Event) (s : Session) → Came m kind s → Came m kind (series m s es)
   unfolding series
   series-came [] s c = c
   series-came (e ∷ es) s c = series-came es (pick (ended (s .phase)) s (tookOf m s e)) (event-came s e c)
@@ -183,77 +156,99 @@ module _ (m : List ℕ) (long : length m ≡ mapSize) (some : 0 < namedCount m) 
   came es = series-came es (atGreeting m kind) (waits refl)
 
   -- an event taken
-  taken : (s : Session) (e : Event) (es : List Event) {t : Session} → ended (s .phase) ≡ false → tookOf m s e ≡ t → series m s (e ∷ es) ≡ series m t es
+  event-taken : (s : Session) (e : Event) (es : List Event) {t : Session} → ended (s .phase) ≡ false
+      → tookOf m s e ≡ t → series m s (e ∷ es) ≡ series m t es
   unfolding series
-  taken s e es h q = rw h (ap (λ (x : Session). series m x es) q)
+  event-taken s e es h q = rw h (ap (λ (x : Session). series m x es) q)
 
-  series-ack : (k : ℕ) (es : List Event) → k + 1 < total m → series m (stateAt m kind k) (Event.Ack ∷ es) ≡ series m (stateAt m kind (k + 1)) es
-  series-ack k es l = taken (stateAt m kind k) Event.Ack es (phase-open m k) (ack-next m long some kind k l)
+  series-ack : (k : ℕ) (es : List Event) → k + 1 < total m
+      → series m (stateAt m kind k) (Event.Ack ∷ es) ≡ series m (stateAt m kind (k + 1)) es
+  series-ack k es l =
+      event-taken (stateAt m kind k) Event.Ack es (phase-open m k) (ack-next m long some kind k l)
 
-  series-last : (k : ℕ) (es : List Event) → k + 1 ≡ total m → series m (stateAt m kind k) (Event.Ack ∷ es) ≡ valid m kind
-  series-last k es l = taken (stateAt m kind k) Event.Ack es (phase-open m k) (ack-last m long some kind k l) ∙ series-ended m (valid m kind) es refl
+  series-last : (k : ℕ) (es : List Event) → k + 1 ≡ total m
+      → series m (stateAt m kind k) (Event.Ack ∷ es) ≡ valid m kind
+  series-last k es l =
+      event-taken (stateAt m kind k) Event.Ack es (phase-open m k) (ack-last m long some kind k l)
+      ∙ series-ended m (valid m kind) es refl
 
   series-fails : (k : ℕ) (e : Event) (es : List Event) → isAck e ≡ false → k < total m
-      → (o : Outcome) × (failing o k ≡ true) × (series m (stateAt m kind k) (e ∷ es) ≡ sessionIn m kind (Phase.Ended o) k)
+      → (o : Outcome) × (failing o k ≡ true)
+      × (series m (stateAt m kind k) (e ∷ es) ≡ sessionIn m kind (Phase.Ended o) k)
   series-fails k e es a l =
       let f = not-ack k e a l in
-      (f .0, f .1, taken (stateAt m kind k) e es (phase-open m k) (f .2) ∙ series-ended m (sessionIn m kind (Phase.Ended (f .0)) k) es refl)
+      (f .0, f .1, event-taken (stateAt m kind k) e es (phase-open m k) (f .2) ∙ series-ended m (sessionIn m kind (Phase.Ended (f .0)) k) es refl)
 
-  series-first : (es : List Event) → series m (atGreeting m kind) (Event.Greeting ∷ es) ≡ series m (stateAt m kind 0) es
-  series-first es = taken (atGreeting m kind) Event.Greeting es refl (greeting-state m long some kind)
+  series-first : (es : List Event)
+      → series m (atGreeting m kind) (Event.Greeting ∷ es) ≡ series m (stateAt m kind 0) es
+  series-first es = event-taken (atGreeting m kind) Event.Greeting es refl (greeting-state m long some kind)
 
   -- ---- the greeting and k acknowledgements lead to the state after k
 
-  acks-on : (n k : ℕ) → k + n < total m → series m (stateAt m kind k) (replicate n Event.Ack) ≡ stateAt m kind (k + n)
+  acks-on : (n k : ℕ) → k + n < total m
+      → series m (stateAt m kind k) (replicate n Event.Ack) ≡ stateAt m kind (k + n)
   acks-on zero k l = none ∙ ap (stateAt m kind) (omega arith)
     where
       none : series m (stateAt m kind k) [] ≡ stateAt m kind k
       none = series-nil m (stateAt m kind k)
   acks-on (suc n) k l =
-      series-ack k (replicate n Event.Ack) (omega arith) ∙ acks-on n (k + 1) (omega arith) ∙ ap (stateAt m kind) (omega arith)
+      series-ack k (replicate n Event.Ack) (omega arith)
+      ∙ acks-on n (k + 1) (omega arith)
+      ∙ ap (stateAt m kind) (omega arith)
 
-  pub acks-state : (k : ℕ) → k < total m → series m (atGreeting m kind) (Event.Greeting ∷ replicate k Event.Ack) ≡ stateAt m kind k
-  acks-state k l = series-first (replicate k Event.Ack) ∙ acks-on k 0 (omega arith) ∙ ap (stateAt m kind) (zero-add k)
+  pub acks-state : (k : ℕ) → k < total m
+      → series m (atGreeting m kind) (Event.Greeting ∷ replicate k Event.Ack) ≡ stateAt m kind k
+  acks-state k l =
+      series-first (replicate k Event.Ack) ∙ acks-on k 0 (omega arith) ∙ ap (stateAt m kind) (zero-add k)
 
-  acks-end : (n k : ℕ) → k + suc n ≡ total m → series m (stateAt m kind k) (replicate (suc n) Event.Ack) ≡ valid m kind
+  acks-end : (n k : ℕ) → k + suc n ≡ total m
+      → series m (stateAt m kind k) (replicate (suc n) Event.Ack) ≡ valid m kind
   acks-end zero k l = series-last k [] (omega arith)
-  acks-end (suc n) k l = series-ack k (replicate (suc n) Event.Ack) (omega arith) ∙ acks-end n (k + 1) (omega arith)
+  acks-end (suc n) k l =
+      series-ack k (replicate (suc n) Event.Ack) (omega arith) ∙ acks-end n (k + 1) (omega arith)
 
   -- as many as the total end it valid
-  pub acks-valid : (n : ℕ) → suc n ≡ total m → series m (atGreeting m kind) (Event.Greeting ∷ replicate (suc n) Event.Ack) ≡ valid m kind
+  pub acks-valid : (n : ℕ) → suc n ≡ total m
+      → series m (atGreeting m kind) (Event.Greeting ∷ replicate (suc n) Event.Ack) ≡ valid m kind
   acks-valid n e = series-first (replicate (suc n) Event.Ack) ∙ acks-end n 0 (omega arith)
 
   -- ---- a verdict within e + 2w + 2 events
 
-  over : {s : Session} {o : Outcome} {k : ℕ} → s ≡ sessionIn m kind (Phase.Ended o) k → ended (s .phase) ≡ true
-  over e = ap (λ (x : Session). ended (x .phase)) e
+  is-over : {s : Session} {o : Outcome} {k : ℕ} → s ≡ sessionIn m kind (Phase.Ended o) k
+      → ended (s .phase) ≡ true
+  is-over e = ap (λ (x : Session). ended (x .phase)) e
 
-  within : (n k : ℕ) (es : List Event) → k + suc n ≡ total m → suc n ≤ length es → ended (series m (stateAt m kind k) es .phase) ≡ true
+  within : (n k : ℕ) (es : List Event) → k + suc n ≡ total m → suc n ≤ length es
+      → ended (series m (stateAt m kind k) es .phase) ≡ true
   within n k [] l b = absurd (omega arith)
   within zero k (e ∷ es) l b =
       ack-or e
-      (λ a. rw a (over (series-last k es (omega arith))))
-      (λ a. over (series-fails k e es a (omega arith) .2))
+      (λ a. rw a (is-over (series-last k es (omega arith))))
+      (λ a. is-over (series-fails k e es a (omega arith) .2))
   within (suc n) k (e ∷ es) l b =
       ack-or e
       (λ a. rw a (ap (λ (s : Session). ended (s .phase)) (series-ack k es (omega arith)) ∙ within n (k + 1) es (omega arith) (omega arith)))
-      (λ a. over (series-fails k e es a (omega arith) .2))
+      (λ a. is-over (series-fails k e es a (omega arith) .2))
 
-  first-fails : (e : Event) (es : List Event) → isGreeting e ≡ false → (o : Outcome) × (failing o 0 ≡ true) × (series m (atGreeting m kind) (e ∷ es) ≡ sessionIn m kind (Phase.Ended o) 0)
+  first-fails : (e : Event) (es : List Event) → isGreeting e ≡ false
+      → (o : Outcome) × (failing o 0 ≡ true)
+      × (series m (atGreeting m kind) (e ∷ es) ≡ sessionIn m kind (Phase.Ended o) 0)
   first-fails e es a =
       let f = not-greeting e a in
-      (f .0, f .1, taken (atGreeting m kind) e es refl (f .2) ∙ series-ended m (sessionIn m kind (Phase.Ended (f .0)) 0) es refl)
+      (f .0, f .1, event-taken (atGreeting m kind) e es refl (f .2) ∙ series-ended m (sessionIn m kind (Phase.Ended (f .0)) 0) es refl)
 
-  pub verdict : (es : List Event) → total m + 1 ≤ length es → ended (series m (atGreeting m kind) es .phase) ≡ true
+  pub verdict : (es : List Event) → total m + 1 ≤ length es
+      → ended (series m (atGreeting m kind) es .phase) ≡ true
   verdict [] b = absurd (omega arith)
   verdict (e ∷ es) b =
       greeting-or e
-      (λ a. rw a (ap (λ (s : Session). ended (s .phase)) (series-first es) ∙ within (runsAndPieces m) 0 es (omega arith) (omega arith)))
-      (λ a. over (first-fails e es a .2))
+      (λ a. rw a (ap (λ (s : Session). ended (s .phase)) (series-first es) ∙ within (beforeRun m) 0 es (omega arith) (omega arith)))
+      (λ a. is-over (first-fails e es a .2))
 
   -- ---- valid only after every acknowledgement
 
-  not-valid : {s : Session} {o : Outcome} {k : ℕ} → failing o k ≡ true → s ≡ sessionIn m kind (Phase.Ended o) k → isValid (s .phase) ≡ false
+  not-valid : {s : Session} {o : Outcome} {k : ℕ} → failing o k ≡ true
+      → s ≡ sessionIn m kind (Phase.Ended o) k → isValid (s .phase) ≡ false
   not-valid {s} {o} {k} f e = ap (λ (x : Session). isValid (x .phase)) e ∙ go o f
     where
       go : (o : Outcome) → failing o k ≡ true → isValid (Phase.Ended o) ≡ false
@@ -264,9 +259,13 @@ module _ (m : List ℕ) (long : length m ≡ mapSize) (some : 0 < namedCount m) 
       go Outcome.Other f = refl
 
   not-yet : (k : ℕ) → isValid (series m (stateAt m kind k) [] .phase) ≡ false
-  not-yet k = ap (λ (x : Session). isValid (x .phase)) (series-nil m (stateAt m kind k)) ∙ open-valid (phaseAt m k) (phase-open m k)
+  not-yet k =
+      ap (λ (x : Session). isValid (x .phase)) (series-nil m (stateAt m kind k))
+      ∙ open-valid (phaseAt m k) (phase-open m k)
 
-  valid-on : (n k : ℕ) (es : List Event) → k + suc n ≡ total m → isValid (series m (stateAt m kind k) es .phase) ≡ true → (rest : List Event) × (es ≡ replicate (suc n) Event.Ack ++ rest)
+  valid-on : (n k : ℕ) (es : List Event) → k + suc n ≡ total m
+      → isValid (series m (stateAt m kind k) es .phase) ≡ true
+      → (rest : List Event) × (es ≡ replicate (suc n) Event.Ack ++ rest)
   valid-on n k [] l v = absurd (true-false (sym v ∙ not-yet k))
   valid-on zero k (e ∷ es) l v =
       ack-or e
@@ -278,11 +277,12 @@ module _ (m : List ℕ) (long : length m ≡ mapSize) (some : 0 < namedCount m) 
       (r .0, rw a (ap (λ (x : List Event). Event.Ack ∷ x) (r .1))))
       (λ a. let f = series-fails k e es a (omega arith) in absurd (true-false (sym v ∙ not-valid (f .1) (f .2))))
 
-  pub valid-only : (es : List Event) → series m (atGreeting m kind) es .phase ≡ Phase.Ended Outcome.Valid → (rest : List Event) × (es ≡ Event.Greeting ∷ replicate (total m) Event.Ack ++ rest)
+  pub valid-only : (es : List Event) → series m (atGreeting m kind) es .phase ≡ Phase.Ended Outcome.Valid
+      → (rest : List Event) × (es ≡ Event.Greeting ∷ replicate (total m) Event.Ack ++ rest)
   valid-only [] v = absurd (true-false (sym (ap isValid v) ∙ ap (λ (x : Session). isValid (x .phase)) (series-nil m (atGreeting m kind))))
   valid-only (e ∷ es) v =
       greeting-or e
-      (λ a. let r = valid-on (runsAndPieces m) 0 es (omega arith) (sym (ap (λ (s : Session). isValid (s .phase)) (series-first es)) ∙ ap isValid (rw a at v)) in
-      let n : suc (runsAndPieces m) ≡ total m = omega arith in
+      (λ a. let r = valid-on (beforeRun m) 0 es (omega arith) (sym (ap (λ (s : Session). isValid (s .phase)) (series-first es)) ∙ ap isValid (rw a at v)) in
+      let n : suc (beforeRun m) ≡ total m = omega arith in
       (r .0, rw a (ap (λ (x : List Event). Event.Greeting ∷ x) (r .1 ∙ ap (λ (j : ℕ). replicate j Event.Ack ++ r .0) n))))
       (λ a. let f = first-fails e es a in absurd (true-false (sym (ap isValid v) ∙ not-valid (f .1) (f .2))))

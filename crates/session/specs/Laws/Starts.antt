@@ -1,34 +1,30 @@
--- Where runs and pieces start on the board, and what their packets carry.
-use Prim.Native.Nat.{ℕ, _+_, _/_, _≤_, _<_}
+-- Where runs and pieces start on the board, and what a piece carries.
+use Prim.Native.Nat.{ℕ, _+_, _≤_, _<_}
 use mathlib.Core.Bool.{true, false}
 use mathlib.Core.List.{List}
 use mathlib.Core.Path.{_≡_, sym, _∙_}
 use native.Mathlib.Omega.{arith}
-use borrow.Author.Tests.{eqb-true, ltb-true, ltb-false, le-leb}
-use lib.Dec.{eqb, leb, ltb}
+use borrow.Author.Tests.{ltb-true, ltb-false}
+use lib.Dec.{ltb}
 use lib.ListN.{length, drop, length-drop}
 use lib.Seq.{length-take-le}
 use Rattle.basis.specs.Board.{pages, flashSize, mapSize}
-use Rattle.basis.specs.Laws.Choice.{decide, true-false, both-second}
-use Rattle.packet.specs.Table.{listed, inShape, dataCount}
+use Rattle.basis.specs.Laws.Choice.{decide, true-false}
+use Rattle.basis.specs.Units.{pageOf}
 use Rattle.runs.specs.Laws.Files.{bytes-past, pages-past, file-piece}
 use Rattle.runs.specs.Laws.Pages.{named-touched}
 use Rattle.runs.specs.Laws.Pieces.{starts-below, piece-some, piece-most}
 use Rattle.runs.specs.Laws.Runs.{count-zero, count-le, count-skip, next-pass, next-skip}
 use Rattle.runs.specs.Map.{named}
 use Rattle.runs.specs.Pages.{touched}
-use Rattle.runs.specs.Pieces.{pieceMost, pieceStarts, pieceLen, runStarts, runCount, pieceCount, namedCount}
+use Rattle.runs.specs.Pieces.{pieceMost, pieceStarts, pieceLen, runStarts, runCount, namedCount}
 use Rattle.runs.specs.Runs.{count}
 use Rattle.session.specs.Phases.{lowestRun, lowestPiece}
-use Rattle.session.specs.Plan.{carriesPiece, pieceBytes}
-use Rattle.basis.specs.Units.{pageOf}
+use Rattle.session.specs.Plan.{pieceBytes}
 
--- e and w are small
+-- e is small; so is w, by pieces-half of Totals
 pub runs-most : (m : List ℕ) → runCount m ≤ pages
 runs-most m = count-le (runStarts m) pages
-
-pub pieces-most : (m : List ℕ) → pieceCount m ≤ flashSize
-pieces-most m = count-le (pieceStarts m) flashSize
 
 module _ (m : List ℕ) (long : length m ≡ mapSize) where
   -- runs and pieces start on the board
@@ -61,17 +57,3 @@ module _ (m : List ℕ) (long : length m ≡ mapSize) where
       let l = file-piece m long a h in
       let k : pieceLen m a ≤ length (drop a image) = simp length-drop (omega arith) in
       (length-take-le (pieceLen m a) (drop a image) k, piece-some (named m) pieceMost (omega arith) a h, piece-most (named m) pieceMost a)
-
--- W and V with 1 to 250 bytes stand in the table
-pub carries-listed : (c : ℕ) → carriesPiece c ≡ true → listed c ≡ true
-carries-listed c e =
-    decide (eqb c 0x57)
-    (λ d. rw (eqb-true c 0x57 d))
-    (λ d. rw (eqb-true c 0x56 (rw d at e)))
-
-pub carries-shape : (c n t : ℕ) → carriesPiece c ≡ true → 6 ≤ n → n ≤ 255 → inShape c n t ≡ true
-carries-shape c n t e l h =
-    let f : dataCount n ≡ true = both-second (leb 6 n) (leb n 255) (le-leb 6 n l) ∙ le-leb n 255 h in
-    decide (eqb c 0x57)
-    (λ d. rw (eqb-true c 0x57 d) f)
-    (λ d. rw (eqb-true c 0x56 (rw d at e)) f)

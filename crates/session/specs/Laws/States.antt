@@ -1,8 +1,8 @@
--- Laws of states: the state after k acknowledgements, what leads from one to the next, and that exactly these fit a file.
-use Prim.Native.Nat.{ℕ, _+_, _*_, _≤_, _<_}
+-- Laws of states: the state after k acknowledgements, what leads to the next, and that exactly these fit a file.
+use Prim.Native.Nat.{ℕ, _+_, _≤_, _<_}
 use mathlib.Core.Bool.{Bool, true, false}
 use mathlib.Core.List.{List, []}
-use mathlib.Core.Logic.{_⊎_, inl, inr}
+use mathlib.Core.Logic.{inl, inr}
 use mathlib.Core.Path.{_≡_, refl, sym, ap, _∙_}
 use native.Mathlib.Omega.{arith}
 use borrow.Author.Tests.{eqb-true, le-ltb}
@@ -12,14 +12,14 @@ use Rattle.basis.specs.Board.{mapSize, flashSize, pages}
 use Rattle.basis.specs.Choice.{pick}
 use Rattle.basis.specs.Laws.Choice.{decide, true-false}
 use Rattle.basis.specs.Refusals.{given}
-use Rattle.runs.specs.Pieces.{runCount, pieceCount, namedCount}
+use Rattle.runs.specs.Pieces.{runCount, namedCount}
 use Rattle.session.specs.Laws.Fits.{Fitting, fitting, fits-by}
 use Rattle.session.specs.Laws.Phases.{greeted, stands-below, stands-at, at-stands, greeting-stands, erase-stands, write-stands, verify-stands}
 use Rattle.session.specs.Laws.Plan.{plan-at}
 use Rattle.session.specs.Laws.Steps.{step-taken}
 use Rattle.session.specs.Phases.{ended, packetOut, eraseAt, writeAt, verifyAt, phaseAt, nextRun, nextPiece, afterOf, standsIn}
-use Rattle.session.specs.Plan.{plan, total}
-use Rattle.session.specs.Session.{sessionIn, atGreeting, stateAt, valid, Sent, rightSizes, judgeLaterOf, judgeOf, tookOf, sent, fitsOf, stepOf}
+use Rattle.session.specs.Plan.{plan, total, beforeRun, beforeVerify}
+use Rattle.session.specs.Session.{sessionIn, atGreeting, stateAt, valid, Sent, rightSizes, judgeLaterOf, judgeOf, tookOf, sentOf, fitsOf, stepOf, Reached}
 use Rattle.session.specs.declared.event.Event.{Event}
 use Rattle.session.specs.declared.phase.Outcome.{Outcome}
 use Rattle.session.specs.declared.phase.Phase.{Phase}
@@ -33,7 +33,7 @@ module _ (m : List ℕ) (k : ℕ) where
   unfolding standsIn
   stands-greeting h = eqb-true k 0 h
 
-  pub stands-run : standsIn m Phase.Run k ≡ true → runCount m + 2 * pieceCount m ≡ k
+  pub stands-run : standsIn m Phase.Run k ≡ true → beforeRun m ≡ k
   unfolding standsIn
   stands-run h = eqb-true _ _ h
 
@@ -44,11 +44,14 @@ module _ (m : List ℕ) (k : ℕ) where
 -- ---- the phase after k acknowledgements
 
 -- what holds of each kind of phase that has a packet out holds of the one after k
-phase-cases : (P : Phase → Type 0) → ((q : ℕ) → P (eraseAt q)) → ((a : ℕ) → P (writeAt a)) → ((a : ℕ) → P (verifyAt a)) → P Phase.Run → (m : List ℕ) (k : ℕ) → P (phaseAt m k)
+phase-cases : (P : Phase → Type 0) → ((q : ℕ) → P (eraseAt q)) → ((a : ℕ) → P (writeAt a))
+    → ((a : ℕ) → P (verifyAt a)) → P Phase.Run → (m : List ℕ) (k : ℕ) → P (phaseAt m k)
 unfolding phaseAt
-phase-cases P e w v r m k = go (ltb k (runCount m)) (ltb k (runCount m + pieceCount m)) (ltb k (runCount m + 2 * pieceCount m)) _ _ _
+phase-cases P e w v r m k =
+    go (ltb k (runCount m)) (ltb k (beforeVerify m)) (ltb k (beforeRun m)) _ _ _
   where
-    go : (a b c : Bool) (x y z : ℕ) → P (pick a (eraseAt x) (pick b (writeAt y) (pick c (verifyAt z) Phase.Run)))
+    go : (a b c : Bool) (x y z : ℕ)
+        → P (pick a (eraseAt x) (pick b (writeAt y) (pick c (verifyAt z) Phase.Run)))
     go true b c x y z = e x
     go false true c x y z = w y
     go false false true x y z = v z
@@ -62,14 +65,15 @@ module _ (m : List ℕ) (k : ℕ) where
   phase-open = phase-cases (λ (ph : Phase). ended ph ≡ false) (λ q. refl) (λ a. refl) (λ a. refl) refl m k
 
   pub phase-later : (e : Event) → judgeOf (phaseAt m k) e ≡ judgeLaterOf e
-  phase-later e = phase-cases (λ (ph : Phase). judgeOf ph e ≡ judgeLaterOf e) (λ q. refl) (λ a. refl) (λ a. refl) refl m k
+  phase-later e =
+      phase-cases (λ (ph : Phase). judgeOf ph e ≡ judgeLaterOf e) (λ q. refl) (λ a. refl) (λ a. refl) refl m k
 
   -- R is out exactly after all else is acknowledged
-  pub run-after : runCount m + 2 * pieceCount m ≤ k → phaseAt m k ≡ Phase.Run
+  run-after : beforeRun m ≤ k → phaseAt m k ≡ Phase.Run
   unfolding phaseAt
   run-after b =
       let d : runCount m ≤ k = omega arith in
-      let f : runCount m + pieceCount m ≤ k = omega arith in
+      let f : beforeVerify m ≤ k = omega arith in
       rw (le-ltb _ _ d, le-ltb _ _ f, le-ltb _ _ b)
 
 -- ---- from state to state
@@ -84,11 +88,15 @@ after-greeted m Phase.Run = refl
 after-greeted m (Phase.Ended o) = refl
 
 module _ (m : List ℕ) (long : length m ≡ mapSize) (some : 0 < namedCount m) where
-  phase-next : (ph : Phase) (k : ℕ) → k + 1 < total m → greeted ph ≡ true → standsIn m ph k ≡ true → afterOf m ph ≡ phaseAt m (k + 1)
+  phase-next : (ph : Phase) (k : ℕ) → k + 1 < total m → greeted ph ≡ true → standsIn m ph k ≡ true
+      → afterOf m ph ≡ phaseAt m (k + 1)
   phase-next Phase.Greeting k l g h = absurd (true-false (sym g))
-  phase-next (Phase.Erase p) k l g h = stands-at m long _ (k + 1) (after-greeted m (Phase.Erase p)) (erase-stands m long some (p .0) k h)
-  phase-next (Phase.Write a) k l g h = stands-at m long _ (k + 1) (after-greeted m (Phase.Write a)) (write-stands m long some (a .0) k h)
-  phase-next (Phase.Verify a) k l g h = stands-at m long _ (k + 1) (after-greeted m (Phase.Verify a)) (verify-stands m long some (a .0) k h)
+  phase-next (Phase.Erase p) k l g h =
+      stands-at m long _ (k + 1) (after-greeted m (Phase.Erase p)) (erase-stands m long some (p .0) k h)
+  phase-next (Phase.Write a) k l g h =
+      stands-at m long _ (k + 1) (after-greeted m (Phase.Write a)) (write-stands m long some (a .0) k h)
+  phase-next (Phase.Verify a) k l g h =
+      stands-at m long _ (k + 1) (after-greeted m (Phase.Verify a)) (verify-stands m long some (a .0) k h)
   phase-next Phase.Run k l g h = absurd (omega (arith, stands-run m k h))
   phase-next (Phase.Ended o) k l g h = absurd (stands-ended m k o h)
 
@@ -121,11 +129,9 @@ module _ (m : List ℕ) (long : length m ≡ mapSize) (some : 0 < namedCount m) 
     pub state-fits : (k : ℕ) → k < total m → fitsOf m (stateAt m kind k) ≡ true
     state-fits k l = fits-by m (stateAt m kind k) (record { some = some; named-is = refl; total-is = refl; stands = at-stands m k l })
 
--- and no other: a record that fits a file waits for its greeting, or is the state after the acknowledgements that it counts
-abbrev pub Reached : List ℕ → Session → Type 0
-Reached m s = (s ≡ atGreeting m (s .kind)) ⊎ ((s .acknowledged < total m) × (s ≡ stateAt m (s .kind) (s .acknowledged)))
-
-pub fits-reached : (m : List ℕ) → length m ≡ mapSize → (s : Session) → fitsOf m s ≡ true → (0 < namedCount m) × Reached m s
+-- and no other
+pub fits-reached : (m : List ℕ) → length m ≡ mapSize → (s : Session) → fitsOf m s ≡ true
+    → (0 < namedCount m) × Reached m s
 fits-reached m long s h = (f .some, go (s .phase) refl)
   where
     f : Fitting m s
@@ -147,27 +153,37 @@ fits-reached m long s h = (f .some, go (s .phase) refl)
 
 -- ---- a step from a state
 
-module _ (image m : List ℕ) (room : ℕ) (kind : RunKind) (right : rightSizes (length image) (length m) room ≡ true) (long : length m ≡ mapSize) (some : 0 < namedCount m) where
+module _ (image m : List ℕ) (room : ℕ) (kind : RunKind)
+    (right : rightSizes (length image) (length m) room ≡ true) (long : length m ≡ mapSize) (some : 0 < namedCount m) where
   -- no event is refused
-  pub step-state : (k : ℕ) (e : Event) → k < total m → stepOf image m room (stateAt m kind k) e ≡ given (sent image m (stateAt m kind k) e)
-  step-state k e l = step-taken image m room (stateAt m kind k) e right (phase-open m k) (state-fits m long some kind k l)
+  pub step-state : (k : ℕ) (e : Event) → k < total m
+      → stepOf image m room (stateAt m kind k) e ≡ given (sentOf image m (stateAt m kind k) e)
+  step-state k e l =
+      step-taken image m room (stateAt m kind k) e right (phase-open m k) (state-fits m long some kind k l)
+
+  -- the k-th state sends the k-th packet of the plan
+  packet-sent : (k : ℕ) → k < total m → {s : Session} → s ≡ stateAt m kind k
+      → _≡_ {A = Sent} (record { session = s; packet = packetOut image m kind (s .phase) })
+      (record { session = stateAt m kind k; packet = getD (plan image m kind) k [] })
+  packet-sent k l e =
+      ap (λ (s : Session). record { session = s; packet = packetOut image m kind (s .phase) }) e
+      ∙ ap (λ (p : List ℕ). record { session = stateAt m kind k; packet = p }) (sym (plan-at image m kind k [] l))
 
   -- the greeting brings the first packet of the plan, each ACK the next, and the last none
-  pub step-greeting : stepOf image m room (atGreeting m kind) Event.Greeting ≡ given (record { session = stateAt m kind 0; packet = getD (plan image m kind) 0 [] })
+  pub step-greeting : stepOf image m room (atGreeting m kind) Event.Greeting
+      ≡ given (record { session = stateAt m kind 0; packet = getD (plan image m kind) 0 [] })
   step-greeting =
       step-taken image m room (atGreeting m kind) Event.Greeting right refl (waiting-fits m long some kind)
-      ∙ ap given (sending 0 (omega arith) (greeting-state m long some kind))
-    where
-      sending : (k : ℕ) → k < total m → {s : Session} → s ≡ stateAt m kind k → _≡_ {A = Sent} (record { session = s; packet = packetOut image m kind (s .phase) }) (record { session = stateAt m kind k; packet = getD (plan image m kind) k [] })
-      sending k l e = ap (λ (s : Session). record { session = s; packet = packetOut image m kind (s .phase) }) e ∙ ap (λ (p : List ℕ). record { session = stateAt m kind k; packet = p }) (sym (plan-at image m kind k [] l))
+      ∙ ap given (packet-sent 0 (omega arith) (greeting-state m long some kind))
 
-  pub step-ack : (k : ℕ) → k + 1 < total m → stepOf image m room (stateAt m kind k) Event.Ack ≡ given (record { session = stateAt m kind (k + 1); packet = getD (plan image m kind) (k + 1) [] })
+  pub step-ack : (k : ℕ) → k + 1 < total m → stepOf image m room (stateAt m kind k) Event.Ack
+      ≡ given (record { session = stateAt m kind (k + 1); packet = getD (plan image m kind) (k + 1) [] })
   step-ack k l =
-      step-state k Event.Ack (omega arith)
-      ∙ ap (λ (s : Session). given (record { session = s; packet = packetOut image m kind (s .phase) })) (ack-next m long some kind k l)
-      ∙ ap (λ (p : List ℕ). given (record { session = stateAt m kind (k + 1); packet = p })) (sym (plan-at image m kind (k + 1) [] l))
+      step-state k Event.Ack (omega arith) ∙ ap given (packet-sent (k + 1) l (ack-next m long some kind k l))
 
-  pub step-last : (k : ℕ) → k + 1 ≡ total m → stepOf image m room (stateAt m kind k) Event.Ack ≡ given (record { session = valid m kind; packet = [] })
+  pub step-last : (k : ℕ) → k + 1 ≡ total m
+      → stepOf image m room (stateAt m kind k) Event.Ack
+      ≡ given (record { session = valid m kind; packet = [] })
   step-last k l =
       step-state k Event.Ack (omega arith)
       ∙ ap (λ (s : Session). given (record { session = s; packet = packetOut image m kind (s .phase) })) (ack-last m long some kind k l)

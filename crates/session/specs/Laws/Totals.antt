@@ -19,7 +19,8 @@ use Rattle.session.specs.Phases.{lowestRun, lowestPiece}
 use Rattle.session.specs.Plan.{total}
 
 -- of numbers that never pass side by side at most every second does
-sparse : (q : ℕ → Bool) → ((a : ℕ) → q a ≡ true → q (suc a) ≡ false) → (n : ℕ) → (2 * count q n ≤ n + 1) × (q n ≡ true → 2 * count q n ≤ n)
+sparse : (q : ℕ → Bool) → ((a : ℕ) → q a ≡ true → q (suc a) ≡ false) → (n : ℕ)
+    → (2 * count q n ≤ n + 1) × (q n ≡ true → 2 * count q n ≤ n)
 sparse q apart zero = (omega (arith, count-zero q), λ t. omega (arith, count-zero q))
 sparse q apart (suc n) =
     let i = sparse q apart n in (
@@ -28,7 +29,8 @@ sparse q apart (suc n) =
     )
 
 -- behind a start the piece goes on, or fails
-starts-apart : (p : ℕ → Bool) (cap : ℕ) → 1 < cap → (a : ℕ) → starts p cap a ≡ true → starts p cap (suc a) ≡ false
+starts-apart : (p : ℕ → Bool) (cap : ℕ) → 1 < cap → (a : ℕ) → starts p cap a ≡ true
+    → starts p cap (suc a) ≡ false
 starts-apart p cap l a h =
     let s = starts-off p cap a h in
     starts-inside p cap (suc a) (λ e. omega (arith, s .1, off-more p cap a (s .0) (λ q. omega (arith, s .1))))

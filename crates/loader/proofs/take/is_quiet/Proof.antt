@@ -1,11 +1,15 @@
 -- `is_quiet` meets its contract: the numbers that are not answered.
 use mathlib.Core.Path.{ap, sym, _∙_}
+use mathlib.Core.Bool.{Bool}
 use borrow.Author.Needs.{needs}
 use Rattle.loader.specs.Paper.{paperRefusal}
 use Rattle.loader.specs.Take.{quiet}
 use Rattle.loader.specs.declared.verdict.Refusal.{Refusal}
 use Rattle.loader.proofs.take.is_quiet.Statement.{statement}
 use Rattle.loader.proofs.take.is_quiet.Tie as tie
+
+abbrev silent : Refusal → Bool
+silent x = quiet (paperRefusal x)
 
 enum-told : tie.Need-enum-told
 enum-told c = search needs
@@ -16,8 +20,8 @@ enum-told-2 c = search needs
 enum-known-why : tie.Need-enum-known-why
 enum-known-why c = search needs
 
-is-no-frame-requires : tie.Need-is-no-frame-requires
-is-no-frame-requires c κs = search needs
+is-quiet-unread-requires : tie.Need-is-quiet-unread-requires
+is-quiet-unread-requires c κs = search needs
 
 enum-told-3 : tie.Need-enum-told-3
 enum-told-3 c = search needs
@@ -32,25 +36,25 @@ enum-told-6 : tie.Need-enum-told-6
 enum-told-6 c = search needs
 
 returns : tie.Need-returns
-returns c = sym (ap (λ (x : Refusal). quiet (paperRefusal x)) (c .enum-told .given .1))
+returns c = sym (ap silent (c .enum-told .given .1))
 
 returns-2 : tie.Need-returns-2
-returns-2 c = sym (ap (λ (x : Refusal). quiet (paperRefusal x)) (c .enum-told2 .given .1))
+returns-2 c = sym (ap silent (c .enum-told2 .given .1))
 
 returns-3 : tie.Need-returns-3
-returns-3 c = c .is-no-frame .ensures ∙ sym (ap (λ (x : Refusal). quiet (paperRefusal x)) (c .before .before .why .given .1))
+returns-3 c = c .is-quiet-unread .ensures ∙ sym (ap silent (c .before .before .why .given .1))
 
 returns-4 : tie.Need-returns-4
-returns-4 c = sym (ap (λ (x : Refusal). quiet (paperRefusal x)) (c .enum-told3 .given .1))
+returns-4 c = sym (ap silent (c .enum-told3 .given .1))
 
 returns-5 : tie.Need-returns-5
-returns-5 c = sym (ap (λ (x : Refusal). quiet (paperRefusal x)) (c .enum-told4 .given .1))
+returns-5 c = sym (ap silent (c .enum-told4 .given .1))
 
 returns-6 : tie.Need-returns-6
-returns-6 c = sym (ap (λ (x : Refusal). quiet (paperRefusal x)) (c .enum-told5 .given .1))
+returns-6 c = sym (ap silent (c .enum-told5 .given .1))
 
 returns-7 : tie.Need-returns-7
-returns-7 c = sym (ap (λ (x : Refusal). quiet (paperRefusal x)) (c .enum-told6 .given .1))
+returns-7 c = sym (ap silent (c .enum-told6 .given .1))
 
 pub is-quiet-spec : {M : Type 1} → statement M
 is-quiet-spec =
@@ -59,7 +63,7 @@ is-quiet-spec =
     enum-told
     enum-told-2
     enum-known-why
-    is-no-frame-requires
+    is-quiet-unread-requires
     enum-told-3
     enum-told-4
     enum-told-5

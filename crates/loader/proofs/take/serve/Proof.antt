@@ -3,7 +3,6 @@ use Prim.Native.Nat.{ℕ, _+_, _-_, _≤_}
 use mathlib.Core.Path.{_≡_, ap, sym, _∙_}
 use native.Mathlib.Omega.{arith}
 use borrow.Author.Needs.{needs}
-use denote.Ref.{now}
 use lib.ListN.{length, take, drop}
 use Rattle.basis.specs.Board.{pages}
 use Rattle.basis.specs.Refusals.{given}
@@ -13,6 +12,7 @@ use Rattle.loader.specs.Laws.Take.{served-unread, served-packet}
 use Rattle.packet.specs.Laws.Packet.{data-within}
 use Rattle.packet.specs.Packet.{readOf}
 use Rattle.packet.specs.Paper.{paperCommand, paperReading}
+use denote.Ref.{now}
 use Rattle.loader.proofs.take.serve.Statement.{statement}
 use Rattle.loader.proofs.take.serve.Tie as tie
 

@@ -5,8 +5,8 @@ use native.Mathlib.Nat.{add-zero}
 use native.Mathlib.Omega.{arith}
 use borrow.Author.Needs.{needs}
 use lib.ListN.{length, drop}
-use Rattle.loader.proofs.Turns.{equals-on, equals-differs, equals-end}
 use Rattle.loader.specs.Verify.{equalsOf}
+use Rattle.loader.proofs.Turns.{equals-on, equals-differs, equals-end}
 use Rattle.loader.proofs.verify.equals.Statement.{statement}
 use Rattle.loader.proofs.verify.equals.Tie as tie
 

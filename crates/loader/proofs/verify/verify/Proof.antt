@@ -6,11 +6,11 @@ use native.Mathlib.Omega.{arith}
 use borrow.Author.Needs.{needs}
 use borrow.Author.Tests.{ltb-false}
 use lib.ListN.{length}
+use Rattle.basis.specs.Board.{flashSize}
 use Rattle.basis.specs.Laws.Refusals.{skip, stop, done}
 use Rattle.loader.specs.Commands.{verifyRows}
 use Rattle.loader.proofs.verify.verify.Statement.{statement}
 use Rattle.loader.proofs.verify.verify.Tie as tie
-use Rattle.basis.specs.Board.{flashSize}
 
 returns : tie.Need-returns
 unfolding verifyRows

@@ -5,14 +5,14 @@ use native.Mathlib.Omega.{arith}
 use borrow.Author.Needs.{needs}
 use borrow.Author.Tests.{ltb-true, ltb-false, lt-ltb, le-ltb}
 use lib.Dec.{ltb}
+use Rattle.basis.specs.Board.{flashSize}
 use Rattle.basis.specs.Laws.Choice.{decide}
 use Rattle.loader.proofs.write.past_end.Statement.{statement}
 use Rattle.loader.proofs.write.past_end.Tie as tie
-use Rattle.basis.specs.Board.{flashSize}
 
 -- the sum that could wrap is turned into a difference that cannot
-turned-over : (a x : ℕ) → x ≤ flashSize → ltb (flashSize - x) a ≡ ltb flashSize (a + x)
-turned-over a x h =
+as-difference : (a x : ℕ) → x ≤ flashSize → ltb (flashSize - x) a ≡ ltb flashSize (a + x)
+as-difference a x h =
     decide (ltb (flashSize - x) a)
     (λ t. t ∙ sym (lt-ltb flashSize (a + x) (omega (arith, ltb-true (flashSize - x) a t))))
     (λ t. t ∙ sym (le-ltb flashSize (a + x) (omega (arith, ltb-false (flashSize - x) a t))))
@@ -24,7 +24,7 @@ cast-result : tie.Need-cast-result
 cast-result c = search needs
 
 returns-2 : tie.Need-returns-2
-returns-2 c = let a = c .before .before .args in turned-over (a .address .0) (a .size) (c .before .if1 .left)
+returns-2 c = let a = c .before .before .args in as-difference (a .address .0) (a .size) (c .before .if1 .left)
 
 pub past-end-spec : {M : Type 1} → statement M
 past-end-spec = tie.close (tie.spec returns cast-result returns-2)

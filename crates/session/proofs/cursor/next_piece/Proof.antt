@@ -3,9 +3,9 @@ use native.Mathlib.Omega.{arith}
 use borrow.Author.Needs.{needs}
 use Rattle.runs.specs.Laws.Runs.{len-le}
 use Rattle.runs.specs.Map.{named}
+use Rattle.runs.specs.Pieces.{pieceMost}
 use Rattle.session.proofs.cursor.next_piece.Statement.{statement}
 use Rattle.session.proofs.cursor.next_piece.Tie as tie
-use Rattle.runs.specs.Pieces.{pieceMost}
 
 row-len-requires : tie.Need-row-len-requires
 row-len-requires c κs = search needs

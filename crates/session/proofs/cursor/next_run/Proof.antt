@@ -1,11 +1,11 @@
 -- `next_run` meets its contract: what follows a run is the next touched page behind it.
 use native.Mathlib.Omega.{arith}
 use borrow.Author.Needs.{needs}
+use Rattle.basis.specs.Board.{pages}
 use Rattle.runs.specs.Laws.Runs.{len-le}
 use Rattle.runs.specs.Pages.{touched}
 use Rattle.session.proofs.cursor.next_run.Statement.{statement}
 use Rattle.session.proofs.cursor.next_run.Tie as tie
-use Rattle.basis.specs.Board.{pages}
 
 page-row-len-requires : tie.Need-page-row-len-requires
 page-row-len-requires c κs = search needs

@@ -20,6 +20,9 @@ returns c = sym (both-false _ _ (ne-eqb _ _ (c .if1 .taken)))
 slice-aggregate-same : tie.Need-slice-aggregate-same
 slice-aggregate-same c = sym (length-take-le 15 (c .before .before .before .args .answer .now) (omega arith))
 
+array-share-prefix-same : tie.Need-array-share-prefix-same
+array-share-prefix-same c = search needs
+
 slice-aggregate-same-2 : tie.Need-slice-aggregate-same-2
 slice-aggregate-same-2 c = search needs
 
@@ -39,17 +42,26 @@ part-same-start c = search needs
 part-same-end : tie.Need-part-same-end
 part-same-end c = search needs
 
-slice-aggregate-same-3 : tie.Need-slice-aggregate-same-3
-slice-aggregate-same-3 c = search needs
+sub-same-2 : tie.Need-sub-same-2
+sub-same-2 c = search needs
+
+part-same-start-2 : tie.Need-part-same-start-2
+part-same-start-2 c = search needs
+
+part-same-end-2 : tie.Need-part-same-end-2
+part-same-end-2 c = search needs
 
 same-requires-2 : tie.Need-same-requires-2
 same-requires-2 c κs = search needs
 
 returns-3 : tie.Need-returns-3
 unfolding greetsOf
-returns-3 c = let s = c .before .before .before .before .before .before .before .before .before .args .answer .now in
+returns-3 c = let s = c .before .before .before .before .before .before .before .before .before .before .args .answer .now in
     let h : length (drop 22 s) ≤ length s - 22 = simp length-drop (omega arith) in
-    c .same2 .ensures ∙ ap (λ (p : List ℕ). sameOf p (drop 22 greeting)) (take-all (length s - 22) (drop 22 s) h) ∙ sym (both-second _ _ (eq-eqb _ _ (c .before .before .before .before .before .before .before .if1 .left)) ∙ both-second _ _ (sym (c .before .before .before .before .same .ensures) ∙ not-false _ (c .before .before .before .if2 .left)))
+    c .same2 .ensures
+    ∙ ap (λ (p : List ℕ). sameOf p (drop 22 greeting)) (take-all (length s - 22) (drop 22 s) h)
+    ∙ sym (both-second _ _ (eq-eqb _ _ (c .before .before .before .before .before .before .before .before .if1 .left))
+    ∙ both-second _ _ (sym (c .before .before .before .before .before .same .ensures) ∙ not-false _ (c .before .before .before .before .if2 .left)))
 
 pub greets-spec : {M : Type 1} → statement M
 greets-spec =
@@ -57,12 +69,15 @@ greets-spec =
     (tie.spec
     returns
     slice-aggregate-same
+    array-share-prefix-same
     slice-aggregate-same-2
     same-requires
     returns-2
     sub-same
     part-same-start
     part-same-end
-    slice-aggregate-same-3
+    sub-same-2
+    part-same-start-2
+    part-same-end-2
     same-requires-2
     returns-3)

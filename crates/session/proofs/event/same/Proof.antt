@@ -4,7 +4,7 @@ use mathlib.Core.Path.{_≡_, refl, sym, _∙_}
 use native.Mathlib.Omega.{arith}
 use lib.ListN.{length, drop}
 use Rattle.session.specs.Events.{sameOf}
-use Rattle.session.specs.Laws.Events.{same-unlike, same-next, same-differs, same-end}
+use Rattle.session.proofs.Turns.{same-unlike, same-next, same-differs, same-end}
 use Rattle.session.proofs.event.same.Statement.{statement}
 use Rattle.session.proofs.event.same.Tie as tie
 

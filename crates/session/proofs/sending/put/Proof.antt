@@ -1,16 +1,26 @@
 -- `put` meets its contract: the builder refuses nothing that stands in the table.
-use Prim.Native.Nat.{ℕ}
+use Prim.Native.Nat.{ℕ, _+_, _≤_}
 use mathlib.Core.List.{List}
-use mathlib.Core.Path.{sym, ap, _∙_}
+use mathlib.Core.Path.{sym, ap, _∙_, _≡_}
+use mathlib.Core.Bool.{true}
 use borrow.Author.Needs.{needs}
-use lib.ListN.{length}
+use lib.ListN.{length, getD}
 use Rattle.basis.specs.Laws.Refusals.{apart, given-one}
 use Rattle.basis.specs.Lists.{overlay}
-use Rattle.basis.specs.Refusals.{Answer, counted, written}
+use Rattle.basis.specs.Refusals.{Answer, counted, written, given}
+use Rattle.packet.specs.Laws.Packet.{build-table}
+use Rattle.packet.specs.Laws.Table.{table-passes}
+use Rattle.packet.specs.Packet.{packet, buildOf, packetMost}
 use Rattle.packet.specs.Paper.{paperBuilt}
-use Rattle.session.proofs.Building.{allowed}
+use Rattle.packet.specs.Table.{listed, inShape}
 use Rattle.session.proofs.sending.put.Statement.{statement}
 use Rattle.session.proofs.sending.put.Tie as tie
+
+-- the builder refuses nothing that stands in the table, in a buffer that has room
+allowed : (room c a : ℕ) (d : List ℕ) → packetMost ≤ room → listed c ≡ true
+    → inShape c (length d + 5) (getD d 0 0) ≡ true
+    → buildOf room c a d ≡ given (packet c a d)
+allowed room c a d h l s = build-table room c a d h ∙ table-passes c (length d + 5) (getD d 0 0) (given (packet c a d)) l s
 
 build-requires : tie.Need-build-requires
 build-requires c κs = search needs

@@ -1,12 +1,12 @@
 -- `send_erase` meets its contract: a run has at most 124 pages, so its count is one byte.
 use native.Mathlib.Omega.{arith}
 use borrow.Author.Needs.{needs}
+use Rattle.basis.specs.Board.{pages}
 use Rattle.runs.specs.Laws.Runs.{len-le}
 use Rattle.runs.specs.Pages.{touched}
 use Rattle.session.specs.Laws.Starts.{run-below}
 use Rattle.session.proofs.sending.send_erase.Statement.{statement}
 use Rattle.session.proofs.sending.send_erase.Tie as tie
-use Rattle.basis.specs.Board.{pages}
 
 page-row-len-requires : tie.Need-page-row-len-requires
 page-row-len-requires c κs = let s = c .before .before in

@@ -3,6 +3,7 @@ use mathlib.Core.Path.{_≡_, ap, _∙_}
 use native.Mathlib.Omega.{arith}
 use borrow.Author.Needs.{needs}
 use Rattle.runs.specs.Survey.{surveyOf}
+use Rattle.session.specs.Phases.{placeOf}
 use Rattle.session.specs.Session.{fitsOf}
 use Rattle.session.specs.declared.phase.Phase.{Phase}
 use Rattle.session.proofs.Fits.{standsBy, fits-past, fits-empty, fits-named, fits-total, fits-place}
@@ -10,17 +11,31 @@ use Rattle.session.proofs.Surveys.{Told, told}
 use Rattle.session.proofs.session.Session.fits.Statement.{statement}
 use Rattle.session.proofs.session.Session.fits.Tie as tie
 
+-- the entry and the survey, as later places see them
+abbrev entry : tie.After-survey → tie.Start
+entry s = s .before .before .before .before .before
+
+abbrev survey-at : tie.Else4 → tie.After-survey
+survey-at c = c .before .before .before .before .before .before .before .before .before .before
+
+-- the survey is of the lent map, at the cursor's place
+surveyed : (s : tie.After-survey)
+    → s .survey .result ≡ surveyOf (entry s .args .map .now) (placeOf (entry s .args .self .phase))
+surveyed s = s .survey .ensures ∙ ap (surveyOf (entry s .args .map .now)) (s .before .before .before .place .ensures)
+
 -- past the tests of the counts the phase decides, by what the survey says of it
-decided : (c : tie.Else4) (ph : Phase) → c .before .before .before .before .before .before .before .before .before .before .before .before .before .before .before .args .self .phase ≡ ph
-    → standsBy (c .before .before .before .before .before .before .before .before .before .before .survey .result) ph (c .before .before .before .before .before .before .before .before .before .before .before .before .before .before .before .args .self .acknowledged) ≡ fitsOf (c .before .before .before .before .before .before .before .before .before .before .before .before .before .before .before .args .map .now) (c .before .before .before .before .before .before .before .before .before .before .before .before .before .before .before .args .self)
+decided : (c : tie.Else4) (ph : Phase) → entry (survey-at c) .args .self .phase ≡ ph
+    → standsBy (survey-at c .survey .result) ph (entry (survey-at c) .args .self .acknowledged)
+    ≡ fitsOf (entry (survey-at c) .args .map .now) (entry (survey-at c) .args .self)
 decided c ph q =
-    let s = c .before .before .before .before .before .before .before .before .before .before .before .before .before .before .before .args in
-    fits-place (s .map .now) (s .self) (c .before .before .before .before .before .before .before .before .before .before .survey .ensures ∙ ap (surveyOf (s .map .now)) (c .before .before .before .before .before .before .before .before .before .before .before .before .before .place .ensures))
-    (c .before .before .before .before .before .before .if2 .left) (c .before .before .before .if3 .left) _ (c .before .before .total .ensures) (c .if4 .left) (omega (arith, c .before .before .before .before .before .before .before .before .before .before .before .before .before .place .ensures, c .before .before .before .before .before .before .before .before .before .before .before .if1 .left)) ph q
+    let s = survey-at c in
+    fits-place (entry s .args .map .now) (entry s .args .self) (surveyed s)
+    (c .before .before .before .before .before .before .if2 .left) (c .before .before .before .if3 .left) _ (c .before .before .total .ensures) (c .if4 .left)
+    (omega (arith, s .before .before .before .place .ensures, s .before .if1 .left)) ph q
 
 -- what is summed there fits
-few : (c : tie.Else4) → Told (c .before .before .before .before .before .before .before .before .before .before .before .before .before .before .before .args .map .now) (c .before .before .before .before .before .before .before .before .before .before .before .before .before .place .result .0) (c .before .before .before .before .before .before .before .before .before .before .survey .result)
-few c = told (c .before .before .before .before .before .before .before .before .before .before .before .before .before .before .before .args .map .now) (c .before .before .before .before .before .before .before .before .before .before .before .before .before .place .result .0) (c .before .before .before .before .before .before .before .before .before .before .survey .ensures)
+few : (s : tie.After-survey) → Told (entry s .args .map .now) (s .before .before .before .place .result .0) (s .survey .result)
+few s = told (entry s .args .map .now) (s .before .before .before .place .result .0) (s .survey .ensures)
 
 place-requires : tie.Need-place-requires
 place-requires c κs = search needs
@@ -32,16 +47,19 @@ survey-requires : tie.Need-survey-requires
 survey-requires c κs = search needs
 
 returns-2 : tie.Need-returns-2
-returns-2 c = let s = c .before .before .before .before .before .before .before .before .before .args in fits-empty (s .map .now) (s .self) (c .before .before .before .before .survey .ensures ∙ ap (surveyOf (s .map .now)) (c .before .before .before .before .before .before .before .place .ensures)) (c .if2 .taken)
+returns-2 c = let s = c .before .before .before .before in fits-empty (entry s .args .map .now) (entry s .args .self) (surveyed s) (c .if2 .taken)
 
 returns-3 : tie.Need-returns-3
-returns-3 c = let s = c .before .before .before .before .before .before .before .before .before .before .before .before .args in fits-named (s .map .now) (s .self) (c .before .before .before .before .before .before .before .survey .ensures ∙ ap (surveyOf (s .map .now)) (c .before .before .before .before .before .before .before .before .before .before .place .ensures)) (c .before .before .before .if2 .left) (c .if3 .taken)
+returns-3 c = let s = c .before .before .before .before .before .before .before in
+    fits-named (entry s .args .map .now) (entry s .args .self) (surveyed s) (c .before .before .before .if2 .left) (c .if3 .taken)
 
 total-requires : tie.Need-total-requires
-total-requires c κs = let s = c .before .before .before .before .before .before .before .before .before .before .before .before .args in let t = told (s .map .now) _ (c .before .before .before .before .before .before .before .survey .ensures) in (t .runs-few, t .pieces-few)
+total-requires c κs = let t = few (c .before .before .before .before .before .before .before) in (t .runs-few, t .pieces-few)
 
 returns-4 : tie.Need-returns-4
-returns-4 c = let s = c .before .before .before .before .before .before .before .before .before .before .before .before .before .before .before .args in fits-total (s .map .now) (s .self) (c .before .before .before .before .before .before .before .before .before .before .survey .ensures ∙ ap (surveyOf (s .map .now)) (c .before .before .before .before .before .before .before .before .before .before .before .before .before .place .ensures)) (c .before .before .before .before .before .before .if2 .left) (c .before .before .before .if3 .left) _ (c .before .before .total .ensures) (c .if4 .taken)
+returns-4 c = let s = c .before .before .before .before .before .before .before .before .before .before in
+    fits-total (entry s .args .map .now) (entry s .args .self) (surveyed s) (c .before .before .before .before .before .before .if2 .left) (c .before .before .before .if3 .left) _
+    (c .before .before .total .ensures) (c .if4 .taken)
 
 enum-told : tie.Need-enum-told
 enum-told c = search needs
@@ -56,7 +74,7 @@ enum-told-3 : tie.Need-enum-told-3
 enum-told-3 c = search needs
 
 add-ranked : tie.Need-add-ranked
-add-ranked c = omega (arith, few (c .before .before .before .before), c .before .before .before .before .before .before .before .before .before .before .before .before .before .before .before .if1 .left)
+add-ranked c = let s = survey-at (c .before .before .before .before) in omega (arith, few s, s .before .if1 .left)
 
 ranked-requires-2 : tie.Need-ranked-requires-2
 ranked-requires-2 c κs = search needs
@@ -68,7 +86,7 @@ add-ranked-2 : tie.Need-add-ranked-2
 add-ranked-2 c = search needs
 
 add-ranked-3 : tie.Need-add-ranked-3
-add-ranked-3 c = omega (arith, few (c .before .before .before .before), c .before .before .before .before .before .before .before .before .before .before .before .before .before .before .before .if1 .left)
+add-ranked-3 c = let s = survey-at (c .before .before .before .before) in omega (arith, few s, s .before .if1 .left)
 
 ranked-requires-3 : tie.Need-ranked-requires-3
 ranked-requires-3 c κs = search needs

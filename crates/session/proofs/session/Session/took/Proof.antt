@@ -1,4 +1,4 @@
--- `took` meets its contract: the event is judged, and the verdict heard.
+-- `took` meets its contract: the event is judged, and its meaning heard.
 use mathlib.Core.Path.{ap, _∙_}
 use borrow.Author.Needs.{needs}
 use Rattle.session.specs.Session.{heardOf, tookOf}

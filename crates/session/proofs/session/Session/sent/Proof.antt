@@ -1,4 +1,4 @@
--- `take` meets its contract: a session that fits has its cursor at a start, before and after the event.
+-- `sent` meets its contract: a session that fits has its cursor at a start, before and after the event.
 use mathlib.Core.Path.{ap, _∙_}
 use native.Mathlib.Omega.{arith}
 use borrow.Author.Needs.{needs}
@@ -6,18 +6,18 @@ use lib.ListN.{length}
 use Rattle.basis.specs.Lists.{overlay}
 use Rattle.session.specs.Laws.Fits.{fitting, took-start}
 use Rattle.session.specs.Laws.Phases.{stands-below, stands-start}
-use Rattle.session.specs.Laws.Starts.{runs-most, pieces-most}
+use Rattle.session.specs.Laws.Totals.{total-fits}
 use Rattle.session.specs.Phases.{atStart, packetOut}
 use Rattle.session.specs.declared.session.Session.{Session}
-use Rattle.session.proofs.session.Session.take.Statement.{statement}
-use Rattle.session.proofs.session.Session.take.Tie as tie
+use Rattle.session.proofs.session.Session.sent.Statement.{statement}
+use Rattle.session.proofs.session.Session.sent.Tie as tie
 
 took-requires : tie.Need-took-requires
 took-requires c κs = let s = c .before .before .before in
     let m = s .args .map .now in
     let x = s .args .self in
     let f = fitting m x (s .pre .3) in
-    (s .pre .1, stands-start m (s .pre .1) (x .phase) (x .acknowledged) (f .stands), omega (arith, stands-below m (s .pre .1) (x .phase) (x .acknowledged) (f .stands), runs-most m, pieces-most m))
+    (s .pre .1, stands-start m (s .pre .1) (x .phase) (x .acknowledged) (f .stands), omega (arith, stands-below m (s .pre .1) (x .phase) (x .acknowledged) (f .stands), total-fits m))
 
 send-requires : tie.Need-send-requires
 send-requires c κs = let s = c .before .before .before .before .before in
@@ -35,5 +35,5 @@ returns c = let s = c .before .before .before .before .before .before .before .b
       c .before .before .send .ensures .1 ∙ ap (λ (x : Session). overlay (packetOut (s .image .now) (s .map .now) (s .self .kind) (x .phase)) (s .buffer .now)) e,
     )
 
-pub take-spec : {M : Type 1} → statement M
-take-spec = tie.close (tie.spec took-requires send-requires same-length returns)
+pub sent-spec : {M : Type 1} → statement M
+sent-spec = tie.close (tie.spec took-requires send-requires same-length returns)
