@@ -1,7 +1,7 @@
 -- Two characters more of a record that is written, and a whole record put together.
 use Prim.Native.Nat.{ℕ, _+_, _*_, _-_, _/_, _%_, _<_, _≤_}
 use mathlib.Core.Path.{_≡_, refl, sym, ap, _∙_}
-use mathlib.Core.List.{List, [], _∷_, _++_, append-assoc, append-nil}
+use mathlib.Core.List.{List, [], _∷_, _++_}
 use native.Mathlib.Numerals.{add-one}
 use native.Mathlib.Omega.{arith}
 use lib.ListN.{length, take, drop, set, getD, length-append, drop-of-length-le}
@@ -66,7 +66,7 @@ module _ (address kind : ℕ) (s old : List ℕ) (few : length s ≤ 16) (room :
 -- ---- what `write` gives once size and buffer are right
 
 module _ (size : ℕ) (image map : List ℕ) (a n : ℕ) (p : length image ≡ size) (q : length map ≡ size / 8) (room : 44 ≤ n) where
-  pub write-step : writeIn size image map a n ≡ given (stepFrom size image map a)
+  write-step : writeIn size image map a n ≡ given (stepFrom size image map a)
   unfolding first writeIn
   write-step = simp (eq-eqb _ _ p, eq-eqb _ _ q, le-ltb _ _ room)
 

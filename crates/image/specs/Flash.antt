@@ -13,6 +13,7 @@ stored op flash a (x ∷ s) = stored op (set flash a (op (getD flash a 0) x)) (a
 abbrev pub storeOf : List ℕ → ℕ → List ℕ → List ℕ
 storeOf flash a s = stored bitAnd flash a s
 
+-- the new byte, whatever the old one
 abbrev pub new : ℕ → ℕ → ℕ
 new old x = x
 

@@ -41,7 +41,7 @@ abbrev pub settled : Answer File → List ℕ → List ℕ → Settled
 settled (refused n) image map = settledAs (refused n) image map
 settled (given f) image map = settledAs (given (f .reader)) (f .image) (f .map)
 
--- one bit an address
+-- an image that is not the board's size, or a map that has not one bit an address
 abbrev pub sizeWrong : ℕ → List ℕ → List ℕ → Bool
 sizeWrong size image map = not (both (eqb (length image) size) (eqb (length map) (size / 8)))
 
@@ -52,10 +52,11 @@ fresh = record { linear = 0; segment = 0; ended = false; taken = false }
 abbrev pub started : ℕ → File
 started size = file fresh (replicate size 0xFF) (replicate (size / 8) 0)
 
+-- start: 20, else image and map filled
 unfoldable pub startIn : ℕ → List ℕ → List ℕ → Answer File
 startIn size image map = first (20 when sizeWrong size image map ∷ []) (given (started size))
 
--- the place of the first data byte, as a whole paperRefusal
+-- the place of the first data byte: linear base + segment base + AAAA, a whole number with no wrap
 abbrev pub place : Hex → List ℕ → ℕ
 place h b = h .linear + h .segment + address b
 
@@ -86,6 +87,7 @@ placed h b image map = file (fed h (count b)) (copyOf image (place h b) (payload
 abbrev pub effect : Hex → List ℕ → List ℕ → List ℕ → File
 effect h b image map = pick (isData b) (placed h b image map) (file (otherOf h b) image map)
 
+-- one record, its line end removed: the refusals in the paper's order, else what it does
 unfoldable pub recordIn : ℕ → Hex → List ℕ → List ℕ → List ℕ → Answer File
 recordIn size h line image map =
     let b = decoded (drop 1 line) in

@@ -53,12 +53,14 @@ recordFrom image map a = step (text a 0 (take (recordLength map a) (drop a image
 abbrev pub lowest : ℕ → List ℕ → ℕ → ℕ
 lowest size map a = next (named map) a (size - a)
 
+-- above the board nothing; with no named byte left the end record, and on from one past the board;
+-- else the record of the run at the lowest
 unfoldable pub stepFrom : ℕ → List ℕ → List ℕ → ℕ → Step
 stepFrom size image map a =
     pick (ltb size a) (step [] a)
     (pick (leb size (lowest size map a)) (step (text 0 1 []) (size + 1)) (recordFrom image map (lowest size map a)))
 
--- with a buffer of n bytes
+-- writing into a buffer of n bytes: 20, 33, else the next record
 unfoldable pub writeIn : ℕ → List ℕ → List ℕ → ℕ → ℕ → Answer Step
 writeIn size image map a n =
     first (20 when sizeWrong size image map ∷ 33 when ltb n 44 ∷ []) (given (stepFrom size image map a))
@@ -73,6 +75,7 @@ paperWritten Size = refused 20
 paperWritten Short = refused 33
 paperWritten (Record n a) = given (record { length = n; next = a .0 })
 
+-- what is given of a step
 abbrev pub measured : Answer Step → Answer Measured
 measured (refused n) = refused n
 measured (given s) = given (record { length = length (s .text); next = s .next })

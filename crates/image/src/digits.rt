@@ -10,9 +10,9 @@ pub fn digit(c: u8) -> u8
     ensures { λ r. ⌜ r ≡ digitOf c ⌝ }
 {
     match c {
-        b'0'..=b'9' => c - 48,
-        b'A'..=b'F' => c - 55,
-        b'a'..=b'f' => c - 87,
+        b'0'..=b'9' => c - 0x30,
+        b'A'..=b'F' => c - 0x37,
+        b'a'..=b'f' => c - 0x57,
         _ => 16,
     }
 }

@@ -70,6 +70,7 @@ impl Hex {
         if self.ended {
             return Read::Refused(Refusal::Ended);
         }
+        // A line of 521 characters has 260 bytes.
         let mut bytes = [0u8; 260];
         self.take(line, &mut bytes, image, map)
     }

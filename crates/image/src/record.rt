@@ -100,7 +100,7 @@ pub fn shape(bytes: &[u8]) -> Check
     ensures { λ r. ⌜ paperCheck r ≡ shapeOf (now (bytes .entry)) ⌝ }
 {
     let count = bytes[0];
-    let at = word(bytes[1], bytes[2]);
+    let address = word(bytes[1], bytes[2]);
     let kind = bytes[3];
     if 5 < kind {
         return Check::Refused(Refusal::Kind);
@@ -108,7 +108,7 @@ pub fn shape(bytes: &[u8]) -> Check
     if kind == 0 {
         return Check::Passed;
     }
-    if at != 0 {
+    if address != 0 {
         return Check::Refused(Refusal::Shape);
     }
     if kind == 1 {
@@ -123,6 +123,7 @@ pub fn shape(bytes: &[u8]) -> Check
     Check::Passed
 }
 
+// A byte as a number, known to be at most 255.
 pub fn wide(x: u8) -> usize
     ensures { λ r. ⌜ (r ≡ x) × (r ≤ 255) ⌝ }
 {

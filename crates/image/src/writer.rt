@@ -97,5 +97,5 @@ fn letter(d: u8) -> u8
     requires { ⌜ d < 16 ⌝ }
     ensures { λ r. ⌜ r ≡ letterOf d ⌝ }
 {
-    if d < 10 { 48 + d } else { 55 + d }
+    if d < 10 { 0x30 + d } else { 0x37 + d }
 }

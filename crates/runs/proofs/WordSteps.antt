@@ -40,7 +40,7 @@ module _ (cap : ℕ) (t : Tally) {b : Bool} where
   unfolding tookOf
   took-more d e = rw (d, ne-eqb _ _ e)
 
-pub took-below : (cap : ℕ) (t : Tally) (b : Bool) → t .off < cap → tookOf cap t b .off < cap
+took-below : (cap : ℕ) (t : Tally) (b : Bool) → t .off < cap → tookOf cap t b .off < cap
 took-below cap t b h =
     decide b
     (λ d. decide (eqb (t .off + 1) cap)
@@ -119,7 +119,7 @@ row-one k w h n =
 
 -- ---- what passed
 
-pub word-passed : (cap k w : ℕ) (t : Tally) → w < 2 ^ k → tookBits cap t w k .passed ≡ t .passed + ones w
+word-passed : (cap k w : ℕ) (t : Tally) → w < 2 ^ k → tookBits cap t w k .passed ≡ t .passed + ones w
 unfolding tookBits
 word-passed cap zero w t h = rw (none w h, ones-zero) (omega arith)
 word-passed cap (suc k) w t h =
@@ -227,7 +227,7 @@ module _ (cap k w P : ℕ) (t : Tally) (h : w < 2 ^ suc k) (l : suc k ≤ cap) (
       in
       omega (arith, ones-step w, inner-odd w z, ap (λ (r : ℕ). joinsOf (t .off) r cap) (row-odd k w h z))
 
-pub word-pieces : (cap k w : ℕ) (t : Tally) → w < 2 ^ k → k ≤ cap → t .off < cap
+word-pieces : (cap k w : ℕ) (t : Tally) → w < 2 ^ k → k ≤ cap → t .off < cap
     → tookBits cap t w k .pieces + inner w + joinsOf (t .off) (row k w) cap ≡ t .pieces + ones w
 unfolding tookBits
 word-pieces cap zero w t h l o =
@@ -301,7 +301,7 @@ module _ (cap k w : ℕ) (t : Tally) (h : w < 2 ^ suc k) (l : suc k ≤ cap) (o 
       omega (arith, open-whole k u (gaps k (w / 2)) cap g (omega (arith, took-no cap t d .2)), took-no cap t d .2, e, ap (leadingZeros k) g, leading-of-zero k))
       (λ f. open-gap k u (gaps k (w / 2)) cap (eqb-false _ _ f) ∙ sym e)
 
-pub word-open : (cap k w : ℕ) (t : Tally) → w < 2 ^ k → k ≤ cap → t .off < cap → tookBits cap t w k .off ≡ openOf k (t .off) (gaps k w) cap
+word-open : (cap k w : ℕ) (t : Tally) → w < 2 ^ k → k ≤ cap → t .off < cap → tookBits cap t w k .off ≡ openOf k (t .off) (gaps k w) cap
 unfolding tookBits first-open
 word-open cap zero w t h l o =
     let g : gaps zero w ≡ 0 = gaps-none w in

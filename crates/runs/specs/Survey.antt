@@ -15,12 +15,14 @@ use Rattle.runs.specs.declared.survey.Surveyed.{Surveyed}
 unfoldable pub passAt : List ℕ → ℕ → Pass
 passAt m q = record { bytes = tallyAt (named m) pieceMost (startOf q); pages = tallyAt (touched m) pages q }
 
--- what the file has in all, what starts and is named below the address a and its page, and whether a run of pages and a piece start there
+-- what the file has in all, what starts and is named below the address a and its page,
+-- and whether a run of pages and a piece start there
 unfoldable pub surveyOf : List ℕ → ℕ → Surveyed
 surveyOf m a =
     record {
       all = record { runs = runCount m; pieces = pieceCount m; named = namedCount m };
-      below = record { runs = count (runStarts m) (pageOf a); pieces = count (pieceStarts m) a; named = count (named m) a };
+      below =
+          record { runs = count (runStarts m) (pageOf a); pieces = count (pieceStarts m) a; named = count (named m) a };
       run = runStarts m (pageOf a);
       piece = pieceStarts m a;
     }

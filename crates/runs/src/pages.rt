@@ -42,6 +42,7 @@ pub fn page_row_len(map: &[u8], from: Page, cap: u32) -> u32
     let mut n: u32 = 0;
     while n < cap {
         let page = start + n;
+        // A page has 64 bytes of the map.
         if map.len() / 64 <= page as usize {
             return n;
         }

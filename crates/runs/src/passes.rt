@@ -60,6 +60,7 @@ pub fn over_pages(map: &[u8], pass: Pass, from: Page, to: Page) -> Pass
     let end = to.0;
     let mut page = from.0;
     while page < end {
+        // Eight words to a page.
         let first = 8 * (page as usize);
         let next = over_words(map, bytes, first, first + 8);
         pages = pages.took(bytes.passed < next.passed, PAGES);

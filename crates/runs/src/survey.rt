@@ -32,7 +32,8 @@ pub struct Surveyed {
     pub piece: bool,
 }
 
-// Surveys the whole map in one pass, which halts before and behind the page of `at` to rank both.
+// Surveys the whole map in three stretches: below the page of `at`, that page, and behind it.
+// The page's words up to `at` are taken once more, to rank `at` itself.
 pub fn survey(map: &[u8], at: Address) -> Surveyed
     requires { ⌜ (length (now map) ≡ mapSize) × (at .0 < flashSize) ⌝ }
     ensures { λ r. ⌜ r ≡ surveyOf (now (map .entry)) (at .0) ⌝ }
@@ -74,6 +75,7 @@ fn up_to(map: &[u8], tally: Tally, page: Page, at: Address) -> Tally
     requires { ⌜ (startOf (page .0) ≤ at .0) × (at .0 < flashSize) × (length (now map) ≡ mapSize) × (tally ≡ tallyAt (named (now map)) pieceMost (startOf (page .0))) ⌝ }
     ensures { λ r. ⌜ r ≡ tallyAt (named (now (map .entry))) pieceMost (at .0) ⌝ }
 {
+    // The word that `at` lies in.
     let word = at.0 / 64;
     let t = over_words(map, tally, 8 * (page.0 as usize), word as usize);
     over_places(map, t, Address(word * 64), at)

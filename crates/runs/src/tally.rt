@@ -40,7 +40,8 @@ impl Tally {
         }
     }
 
-    // 64 places more: the bits of a word, the lowest first. Each of its runs starts a piece, but for one that goes on from before.
+    // 64 places more: the bits of a word, the lowest first.
+    // Each of its runs starts a piece, but for one that goes on from before.
     pub fn took_word(self, word: u64, cap: u32) -> Tally
         requires { ⌜ (self .passed < 2 ^ 31) × (self .pieces < 2 ^ 31) × (self .off < cap) × (64 ≤ cap) × (cap < 2 ^ 31) ⌝ }
         ensures { λ r. ⌜ r ≡ tookBits cap self word 64 ⌝ }
@@ -56,6 +57,7 @@ impl Tally {
         if gaps == 0 {
             return self.took_whole(cap);
         }
+        // In a run all but its last place have a next that passes too, so ones - inner is the number of runs.
         let ones = u64::count_ones(word);
         let inner = u64::count_ones(word & (word / 2));
         let joined = joins(self.off, u64::trailing_zeros(gaps), cap);

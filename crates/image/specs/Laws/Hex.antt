@@ -101,7 +101,7 @@ module _ (size : ℕ) (h : Hex) (image map : List ℕ) where
 -- ---- what is spelt is read
 
 -- a line that passes 22, 23 and 24
-pub characters-right : (line : List ℕ) → getD line 0 0 ≡ 0x3A → Long (length line) → allDigits (drop 1 line) ≡ true → charactersOf line ≡ given tt
+characters-right : (line : List ℕ) → getD line 0 0 ≡ 0x3A → Long (length line) → allDigits (drop 1 line) ≡ true → charactersOf line ≡ given tt
 unfolding first charactersOf
 characters-right line c l d =
     let some : length line ≡ 0 → ⊥ = λ e. omega (arith, l .least) in
@@ -111,16 +111,16 @@ module _ (b : List ℕ) (bytes : Bytes b) (long : length b ≡ 5 + count b) wher
   abbrev spelling : List ℕ
   spelling = 0x3A ∷ spelt b
 
-  pub spelling-length : length spelling ≡ 11 + 2 * count b
+  spelling-length : length spelling ≡ 11 + 2 * count b
   spelling-length = omega (arith, length-spelt b)
 
-  pub spelling-characters : charactersOf spelling ≡ given tt
+  spelling-characters : charactersOf spelling ≡ given tt
   spelling-characters =
       let few : count b < 256 = bytes 0 in
       let n : length spelling ≡ 11 + 2 * count b = spelling-length in
       characters-right spelling refl (record { least = omega arith; most = omega arith; odd = omega arith }) (spelt-digits b bytes)
 
-  pub spelling-framing : sumOf b ≡ 0 → framingOf (length spelling) b ≡ given tt
+  spelling-framing : sumOf b ≡ 0 → framingOf (length spelling) b ≡ given tt
   unfolding first framingOf
   spelling-framing e = simp (eq-eqb _ _ spelling-length, e)
 

@@ -34,7 +34,7 @@ command-back Verify = refl
 command-back Protect = refl
 command-back Run = refl
 
-pub command-one : (c d : Command) → paperCommand c ≡ paperCommand d → c ≡ d
+command-one : (c d : Command) → paperCommand c ≡ paperCommand d → c ≡ d
 command-one c d e = sym (command-back c) ∙ ap commandBy e ∙ command-back d
 
 unfoldable pub refusalBy : ℕ → Refusal
@@ -50,7 +50,7 @@ refusal-back Checksum = refl
 refusal-back Unlisted = refl
 refusal-back Shape = refl
 
-pub refusal-small : (x : Refusal) → paperRefusal x ≤ 6
+refusal-small : (x : Refusal) → paperRefusal x ≤ 6
 refusal-small Start = omega arith
 refusal-small Length = omega arith
 refusal-small Count = omega arith

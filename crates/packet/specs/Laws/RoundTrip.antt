@@ -120,7 +120,7 @@ module _ (s : List ℕ) (p : Parts) (b : Bytes s) (r : Accepted s p) where
   unfolding last
   last-checksum = checksum-only middle last (bytes-drop 8 s b (count s - 5)) (sym (ap (λ (l : List ℕ). sumOf (drop 2 l)) in-order) ∙ r .zero)
 
-  pub whole : packet (command s) (address s) (plainData (parts s) s) ≡ s
+  whole : packet (command s) (address s) (plainData (parts s) s) ≡ s
   unfolding packet
   whole =
       ap (λ (l : List ℕ). 0x07 ∷ 0x0E ∷ l ++ (checksumOf l ∷ [])) middle-summed

@@ -50,7 +50,7 @@ same-place a b e = go (ℕ-discrete b a)
     go (no n) = ne-eqb (b % 8) (a % 8) (λ r. n (omega arith)) ∙ sym (ne-eqb b a n)
 
 -- exactly that address more is named
-pub name-named : (m : List ℕ) (a b : ℕ) → a < 8 * length m → named (nameOf m a) b ≡ either (eqb b a) (named m b)
+name-named : (m : List ℕ) (a b : ℕ) → a < 8 * length m → named (nameOf m a) b ≡ either (eqb b a) (named m b)
 unfolding named nameOf
 name-named m a b h = go (ℕ-discrete (b / 8) (a / 8))
   where

@@ -15,15 +15,15 @@ use Rattle.runs.specs.Laws.Runs.{count-zero, count-yes, count-skip, rank
 module _ (p : ℕ → Bool) (cap : ℕ) where
   -- ---- the place in the piece
 
-  pub off-zero : off p cap 0 ≡ 0
+  off-zero : off p cap 0 ≡ 0
   unfolding off
   off-zero = refl
 
-  pub off-false : (a : ℕ) → p a ≡ false → off p cap (suc a) ≡ 0
+  off-false : (a : ℕ) → p a ≡ false → off p cap (suc a) ≡ 0
   unfolding off
   off-false a h = rw h
 
-  pub off-wrap : (a : ℕ) → p a ≡ true → suc (off p cap a) ≡ cap → off p cap (suc a) ≡ 0
+  off-wrap : (a : ℕ) → p a ≡ true → suc (off p cap a) ≡ cap → off p cap (suc a) ≡ 0
   unfolding off
   off-wrap a h e = rw (h, eq-eqb _ _ e)
 
@@ -42,7 +42,7 @@ module _ (p : ℕ → Bool) (cap : ℕ) where
       (λ d. h t (eqb-false _ _ d) (off-more a t (eqb-false _ _ d))))
       (λ t. f t (off-false a t))
 
-  pub off-le : (a : ℕ) → off p cap a ≤ a
+  off-le : (a : ℕ) → off p cap a ≤ a
   off-le zero = omega (arith, off-zero)
   off-le (suc a) = off-next a (λ t e. omega arith) (λ t w e. omega arith) (λ t n e. omega (arith, off-le a))
 
@@ -52,7 +52,7 @@ module _ (p : ℕ → Bool) (cap : ℕ) where
 
   -- ---- starts
 
-  pub starts-at : (a : ℕ) → p a ≡ true → off p cap a ≡ 0 → starts p cap a ≡ true
+  starts-at : (a : ℕ) → p a ≡ true → off p cap a ≡ 0 → starts p cap a ≡ true
   unfolding starts
   starts-at a h e = rw (h, eq-eqb _ _ e)
 
@@ -82,7 +82,7 @@ module _ (p : ℕ → Bool) (cap : ℕ) where
       (λ q. subst (λ (k : ℕ). p k ≡ true) (omega (arith, off-le a)) (home-run a i q))
       (eq-or-lt-of-le (le-of-suc-le-suc (rw e at l))))
 
-  pub home-starts : (a : ℕ) → p a ≡ true → starts p cap (home p cap a) ≡ true
+  home-starts : (a : ℕ) → p a ≡ true → starts p cap (home p cap a) ≡ true
   home-starts zero t = subst (λ (k : ℕ). starts p cap k ≡ true) (omega arith) (starts-at 0 t off-zero)
   home-starts (suc a) t =
       off-next a
@@ -115,7 +115,7 @@ module _ (p : ℕ → Bool) (cap : ℕ) where
       let t : p (s + j) ≡ true = len-in p cap s j (omega arith) in
       rw add-suc (off-more (s + j) t (λ e. omega (arith, len-le p s cap)) ∙ ap suc o)
 
-  pub piece-place : (s a : ℕ) → starts p cap s ≡ true → s ≤ a → a < s + len p s cap → off p cap a ≡ a - s
+  piece-place : (s a : ℕ) → starts p cap s ≡ true → s ≤ a → a < s + len p s cap → off p cap a ≡ a - s
   piece-place s a h g l =
       let k : s + (a - s) ≡ a = omega arith in
       sym (ap (off p cap) k) ∙ piece-off s h (a - s) (omega arith)

@@ -1,9 +1,8 @@
 -- `decode` meets its contract: what was decoded, and then what is left, is what the line spells.
 use Rattle.basis.specs.Laws.Choice.{true-false}
-use mathlib.Core.List.{append-nil}
 use Prim.Native.Nat.{_≤_, _-_, _+_, _*_, _/_}
 use mathlib.Core.Path.{_≡_, refl, sym, _∙_}
-use mathlib.Core.List.{_++_}
+use mathlib.Core.List.{_++_, append-nil}
 use native.Mathlib.Omega.{arith}
 use borrow.Author.Needs.{needs}
 use lib.ListN.{length, take, drop, length-set}

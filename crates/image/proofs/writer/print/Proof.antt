@@ -1,11 +1,10 @@
 -- `print` meets its contract: colon, head, bytes, checksum and 0A are written one behind the other.
-use Rattle.image.proofs.Printing.{checksum-parts}
 use Prim.Native.Nat.{_/_, _%_}
 use mathlib.Core.Path.{sym, _∙_}
 use mathlib.Core.List.{[], _∷_}
 use native.Mathlib.Omega.{arith}
 use lib.ListN.{length, length-set}
-use Rattle.image.proofs.Printing.{text-length, print-done}
+use Rattle.image.proofs.Printing.{checksum-parts, text-length, print-done}
 use borrow.Author.Needs.{needs}
 use Rattle.image.proofs.writer.print.Statement.{statement}
 use Rattle.image.proofs.writer.print.Tie as tie

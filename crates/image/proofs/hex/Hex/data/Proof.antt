@@ -1,7 +1,6 @@
 -- `data` meets its contract: one lemma for each way out.
-use mathlib.Core.Path.{_≡_}
 use Prim.Native.Nat.{_+_, _-_}
-use mathlib.Core.Path.{sym, _∙_}
+use mathlib.Core.Path.{_≡_, sym, _∙_}
 use native.Mathlib.Omega.{arith}
 use Rattle.image.specs.Record.{count}
 use Rattle.image.proofs.Records.{data-none, data-high, data-twice, data-given}
