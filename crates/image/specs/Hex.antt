@@ -9,14 +9,8 @@ use Rattle.basis.specs.Refusals.{Answer, refused, given, _when_, first}
 use Rattle.image.specs.Digits.{decoded}
 use Rattle.image.specs.Flash.{copyOf}
 use Rattle.image.specs.Places.{anyNamed, nameAllOf}
-use Rattle.image.specs.Record.{paperRefusal, count, address, kind, payload, value, noColon, lengthWrong, notDigits, countWrong, sumWrong, isData, kindWrong, shapeWrong}
+use Rattle.image.specs.Record.{count, address, kind, payload, value, noColon, lengthWrong, notDigits, countWrong, sumWrong, isData, kindWrong, shapeWrong}
 use Rattle.image.specs.declared.hex.Hex.{Hex}
-use Rattle.image.specs.declared.hex.Read.{Read}
-use Rattle.image.specs.declared.hex.Read.the-variants.{Taken, Refused}
-
-abbrev pub paperRead : Read → Answer Hex
-paperRead (Taken h) = given h
-paperRead (Refused x) = refused (paperRefusal x)
 
 -- reader, image and map together
 pub record File : Type 0 where

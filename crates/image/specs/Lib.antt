@@ -5,5 +5,6 @@ pub mod Places
 pub mod Record
 pub mod Hex
 pub mod Writer
+pub mod Paper
 pub mod RoundTrip
 pub mod Laws

@@ -5,33 +5,9 @@ use mathlib.Core.Bool.{Bool, false, not}
 use lib.Dec.{eqb, ltb}
 use lib.ListN.{length, getD, take, drop}
 use Rattle.basis.specs.Choice.{pick, either}
-use Rattle.basis.specs.Refusals.{Answer, refused, given, _when_, first}
+use Rattle.basis.specs.Refusals.{Answer, given, _when_, first}
 use Rattle.basis.specs.Sums.{sumOf}
 use Rattle.image.specs.Digits.{allDigits}
-use Rattle.image.specs.declared.record.Refusal.{Refusal}
-use Rattle.image.specs.declared.record.Refusal.the-variants.{Size, Ended, Colon, Length, Digit, Count, Checksum, Kind, Shape, Place, Twice, NoEnd, NoData}
-use Rattle.image.specs.declared.record.Check.{Check}
-use Rattle.image.specs.declared.record.Check.the-variants.{Passed, Refused}
-
--- the paper's number of each refusal
-abbrev pub paperRefusal : Refusal → ℕ
-paperRefusal Size = 20
-paperRefusal Ended = 21
-paperRefusal Colon = 22
-paperRefusal Length = 23
-paperRefusal Digit = 24
-paperRefusal Count = 25
-paperRefusal Checksum = 26
-paperRefusal Kind = 27
-paperRefusal Shape = 28
-paperRefusal Place = 29
-paperRefusal Twice = 30
-paperRefusal NoEnd = 31
-paperRefusal NoData = 32
-
-abbrev pub paperCheck : Check → Answer Unit
-paperCheck Passed = given tt
-paperCheck (Refused x) = refused (paperRefusal x)
 
 -- ---- the parts of a record, of its bytes
 

@@ -9,8 +9,6 @@ use Rattle.basis.specs.Sums.{checksumOf}
 use Rattle.runs.specs.Map.{named}
 use Rattle.runs.specs.Runs.{len, next}
 use Rattle.image.specs.Hex.{sizeWrong}
-use Rattle.image.specs.declared.writer.Written.{Written}
-use Rattle.image.specs.declared.writer.Written.the-variants.{Size, Short, Record}
 
 -- the upper case character of a digit
 unfoldable pub letterOf : ℕ → ℕ
@@ -69,11 +67,6 @@ writeIn size image map a n =
 pub record Measured : Type 0 where
   pub length : ℕ
   pub next : ℕ
-
-abbrev pub paperWritten : Written → Answer Measured
-paperWritten Size = refused 20
-paperWritten Short = refused 33
-paperWritten (Record n a) = given (record { length = n; next = a .0 })
 
 -- what is given of a step
 abbrev pub measured : Answer Step → Answer Measured

@@ -4,7 +4,8 @@ ghost use Prim.Native.Nat.{_+_, _*_, _/_, _≤_};
 ghost use lib.ListN.{length, take, drop};
 ghost use Rattle.basis.specs.Refusals.{given};
 ghost use Rattle.image.specs.Digits.{decoded};
-ghost use Rattle.image.specs.Record.{paperRefusal, paperCheck, count, charactersOf, framingOf, shapeOf};
+ghost use Rattle.image.specs.Paper.{paperRefusal, paperCheck};
+ghost use Rattle.image.specs.Record.{count, charactersOf, framingOf, shapeOf};
 use crate::digits::decode;
 use basis::sums::sum;
 

@@ -8,9 +8,9 @@ use Rattle.basis.specs.Choice.{pick}
 use Rattle.basis.specs.Laws.Refusals.{apart, given-one, refused-one, determined}
 use Rattle.basis.specs.Lists.{overlay}
 use Rattle.basis.specs.Refusals.{Answer}
-use Rattle.image.specs.Hex.{paperRead, Settled, settledAs}
-use Rattle.image.specs.Record.{paperRefusal}
-use Rattle.image.specs.Writer.{Step, paperWritten, measured, textBytes}
+use Rattle.image.specs.Hex.{Settled, settledAs}
+use Rattle.image.specs.Paper.{paperRefusal, paperRead, paperWritten}
+use Rattle.image.specs.Writer.{Step, measured, textBytes}
 use Rattle.image.specs.declared.hex.Hex.{Hex}
 use Rattle.image.specs.declared.hex.Read.{Read}
 use Rattle.image.specs.declared.hex.Read.the-variants.{Taken, Refused}

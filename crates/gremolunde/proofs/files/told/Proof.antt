@@ -1,7 +1,7 @@
 -- `told` meets its contract: each arm is one case of the writer's answer.
 use mathlib.Core.Path.{ap, sym, _∙_}
 use borrow.Author.Needs.{needs}
-use Rattle.image.specs.Writer.{paperWritten}
+use Rattle.image.specs.Paper.{paperWritten}
 use Rattle.image.specs.declared.writer.Written.{Written}
 use Rattle.gremolunde.specs.Answers.{writtenAnswer}
 use Rattle.gremolunde.proofs.files.told.Statement.{statement}

@@ -2,7 +2,7 @@
 use mathlib.Core.Path.{sym, ap, _∙_}
 use native.Mathlib.Omega.{arith}
 use denote.Ref.{now}
-use Rattle.image.specs.Record.{paperCheck}
+use Rattle.image.specs.Paper.{paperCheck}
 use Rattle.image.specs.Hex.{settled}
 use Rattle.image.specs.Laws.Hex.{framing-count}
 use Rattle.image.proofs.Records.{apply-framing, apply-shape, apply-data, apply-other}

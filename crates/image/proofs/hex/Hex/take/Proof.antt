@@ -5,7 +5,7 @@ use Prim.Native.Nat.{_/_}
 use mathlib.Core.Path.{sym, ap, _∙_}
 use native.Mathlib.Omega.{arith}
 use denote.Ref.{now}
-use Rattle.image.specs.Record.{paperCheck}
+use Rattle.image.specs.Paper.{paperCheck}
 use Rattle.image.specs.Hex.{settled}
 use Rattle.image.specs.Laws.Hex.{characters-length}
 use Rattle.image.proofs.Records.{take-refused, take-applied}
