@@ -10,7 +10,7 @@ use lib.ListN.{length, getD, take, drop, set, drop-of-length-le}
 use lib.Seq.{drop-cons, append-snoc, take-suc-set}
 use borrow.Author.Tests.{lt-ltb, le-ltb, le-leb, lt-leb}
 use Rattle.basis.specs.Choice.{both}
-use Rattle.image.specs.Laws.Hex.{never}
+use Rattle.basis.specs.Laws.Choice.{both-none}
 use Rattle.image.specs.Digits.{digitOf, allDigits, decoded}
 
 module _ (low high c : ℕ) where
@@ -21,7 +21,7 @@ module _ (low high c : ℕ) where
   below h = simp (lt-leb _ _ h)
 
   pub above : high < c → both (leb low c) (leb c high) ≡ false
-  above h = ap (both (leb low c)) (lt-leb _ _ h) ∙ never (leb low c)
+  above h = ap (both (leb low c)) (lt-leb _ _ h) ∙ both-none (leb low c)
 
 module _ (line : List ℕ) (k : ℕ) (h : length line ≤ k) where
   pub digits-end : allDigits (drop k line) ≡ true

@@ -9,8 +9,9 @@ use Rattle.basis.specs.Refusals.{refused, given, first}
 use Rattle.image.specs.Digits.{decoded}
 use Rattle.image.specs.Record.{count, kind, payload, charactersOf, framingOf, shapeOf}
 use Rattle.image.specs.Flash.{stored, copyOf}
-use Rattle.image.specs.Places.{anyNamed, nameAllOf}
-use Rattle.image.specs.Hex.{file, settledAs, settled, fresh, startIn, place, namedBefore, otherOf, recordIn, applyIn, dataIn}
+use Rattle.runs.specs.Map.{nameAllOf}
+use Rattle.basis.specs.Choice.{any}
+use Rattle.image.specs.Hex.{hex, file, settledAs, settled, fresh, startIn, place, namedBefore, otherOf, recordIn, applyIn, dataIn}
 use Rattle.image.specs.declared.hex.Hex.{Hex}
 use Rattle.image.specs.Laws.Hex.{size-right, record-cut, apply-cut}
 
@@ -35,10 +36,10 @@ module _ (size : ℕ) (h : Hex) (n : ℕ) (b image map : List ℕ) where
 
 module _ (size : ℕ) (h : Hex) (line image map : List ℕ) (p : length image ≡ size) (q : length map ≡ size / 8) (going : h .ended ≡ false) where
   pub take-refused : (k : ℕ) → charactersOf line ≡ refused k → settledAs (refused k) image map ≡ settled (recordIn size h line image map) image map
-  take-refused k e = rw (record-cut size h image map line (size-right size h image map p q) going, e)
+  take-refused k e = rw (record-cut size h image map line (size-right size image map p q) going, e)
 
   pub take-applied : (b : List ℕ) → charactersOf line ≡ given tt → b ≡ decoded (drop 1 line) → applyIn size h (length line) b image map ≡ recordIn size h line image map
-  take-applied b e s = rw (record-cut size h image map line (size-right size h image map p q) going, e, s)
+  take-applied b e s = rw (record-cut size h image map line (size-right size image map p q) going, e, s)
 
 -- ---- the ways out of `start`
 
@@ -51,7 +52,7 @@ module _ (size : ℕ) (image map : List ℕ) where
 
 module _ (size : ℕ) (h : Hex) (b image map : List ℕ) where
   pub data-none : count b ≡ 0 → settledAs (given h) image map ≡ settled (dataIn size h b image map) image map
-  unfolding first dataIn anyNamed nameAllOf stored
+  unfolding first dataIn any nameAllOf stored
   data-none e = rw e
 
   module _ (some : 0 < count b) where
@@ -64,6 +65,6 @@ module _ (size : ℕ) (h : Hex) (b image map : List ℕ) where
       unfolding first dataIn
       data-twice e = simp (lt-ltb _ _ some, le-ltb _ _ fits, e)
 
-      pub data-given : (i m : List ℕ) → namedBefore h b map ≡ false → i ≡ copyOf image (place h b) (payload b) → m ≡ nameAllOf map (place h b) (count b) → settledAs (given (record { linear = h .linear; segment = h .segment; ended = h .ended; taken = true })) i m ≡ settled (dataIn size h b image map) image map
+      pub data-given : (i m : List ℕ) → namedBefore h b map ≡ false → i ≡ copyOf image (place h b) (payload b) → m ≡ nameAllOf map (place h b) (count b) → settledAs (given (hex (h .linear) (h .segment) (h .ended) true)) i m ≡ settled (dataIn size h b image map) image map
       unfolding first dataIn
       data-given i m e ei em = simp (lt-ltb _ _ some, le-ltb _ _ fits, e, ei, em)

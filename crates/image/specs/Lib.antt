@@ -1,7 +1,6 @@
 -- Flash and the hex file. Definitions stand here, what is proved of them under Laws.
 pub mod Flash
 pub mod Digits
-pub mod Places
 pub mod Record
 pub mod Hex
 pub mod Writer

@@ -9,8 +9,6 @@ ghost use Rattle.image.specs.Record.{count, kind, shapeOf};
 ghost use Rattle.image.specs.Paper.{paperRead};
 ghost use Rattle.image.specs.Hex.{settledAs, settled, startIn, recordIn, applyIn, dataIn, otherOf, closeOf};
 use crate::flash::copy;
-use crate::places::any_named;
-use crate::places::name_all;
 use crate::record::Check;
 use crate::record::Refusal;
 use crate::record::characters;
@@ -22,6 +20,8 @@ use basis::board::END;
 use basis::board::MAP;
 use basis::board::SIZE;
 use basis::units::Address;
+use runs::places::any_named;
+use runs::places::name_all;
 
 // Both bases, whether the end record came, and whether a data byte was taken.
 // A base fits 32 bits, so no sum of the two, an address and a count wraps in 64.

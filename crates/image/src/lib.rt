@@ -2,6 +2,5 @@
 pub mod digits;
 pub mod flash;
 pub mod hex;
-pub mod places;
 pub mod record;
 pub mod writer;

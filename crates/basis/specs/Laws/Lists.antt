@@ -1,14 +1,14 @@
 -- Laws of lists and of lent buffers.
-use Prim.Native.Nat.{ℕ, _+_, _-_, _≤_, _<_}
+use Prim.Native.Nat.{ℕ, zero, suc, _+_, _-_, _≤_, _<_}
 use mathlib.Core.List.{List, [], _∷_, _++_, append-assoc, append-nil}
-use mathlib.Core.Path.{_≡_, sym, _∙_}
+use mathlib.Core.Path.{_≡_, refl, sym, _∙_}
 use native.Mathlib.Nat.{not-suc-le-zero}
 use native.Mathlib.Numerals.{add-one}
 use native.Mathlib.Omega.{arith}
 use borrow.Author.Tests.{ltb-true, ltb-false}
 use borrow.Rule.Slice.PartMut.{putMid}
 use lib.Dec.{ltb, lit<}
-use lib.ListN.{length, getD, take, drop, set, length-append, length-take, length-drop, drop-of-length-le, List·getD-eq-default}
+use lib.ListN.{length, getD, take, drop, set, replicate, length-append, length-take, length-drop, drop-of-length-le, List·getD-eq-default}
 use lib.Seq.{length-take-le, take-suc, take-all, take-at, drop-at, drop-drop, set-at, getD-take, getD-drop}
 use Rattle.basis.specs.Laws.Choice.{decide}
 use Rattle.basis.specs.Lists.{Bytes, overlay}
@@ -46,3 +46,8 @@ bytes-take n s b k =
     decide (ltb k n)
     (λ t. rw (getD-take n s k 0 (ltb-true k n t)) (b k))
     (λ t. let h : length (take n s) ≤ k = omega (arith, length-take n s, ltb-false k n t) in rw (List·getD-eq-default (take n s) 0 h) (lit< tt))
+
+pub zero-at : (n i : ℕ) → _≡_ {A = ℕ} (getD (replicate n 0) i 0) 0
+zero-at zero i = refl
+zero-at (suc n) zero = refl
+zero-at (suc n) (suc i) = zero-at n i

@@ -4,27 +4,25 @@ use mathlib.Core.Path.{_≡_, refl, sym, ap, _∙_}
 use mathlib.Core.Bool.{true, false}
 use mathlib.Core.List.{List, [], _∷_, _++_}
 use native.Mathlib.Omega.{arith}
-use lib.Dec.{ltb, leb}
+use lib.Dec.{ltb, leb, lit<}
 use lib.ListN.{length, getD, take, drop, replicate, length-append, length-drop, length-replicate}
 use lib.Seq.{take-at, length-take-le, getD-take, getD-drop}
 use borrow.Author.Tests.{lt-ltb, le-ltb, ltb-true, ltb-false, leb-true, leb-false, le-leb, lt-leb}
 use Rattle.basis.specs.Lists.{Bytes}
 use Rattle.basis.specs.Refusals.{given, first}
 use Rattle.basis.specs.Sums.{checksumOf}
-use Rattle.basis.specs.Laws.Choice.{decide, true-false}
-use Rattle.basis.specs.Laws.Lists.{bytes-drop, bytes-take}
+use Rattle.basis.specs.Laws.Choice.{decide, true-false, any-none}
+use Rattle.basis.specs.Laws.Lists.{bytes-drop, bytes-take, zero-at}
 use Rattle.basis.specs.Laws.Sums.{sum-closed}
-use Rattle.runs.specs.Map.{named}
-use Rattle.runs.specs.Laws.Map.{named-past, named-none, named-only}
+use Rattle.runs.specs.Map.{named, nameAllOf}
+use Rattle.runs.specs.Laws.Map.{named-past, named-none, named-only, name-all-length, name-all-bytes, name-all-below, name-all-above, name-all-in}
 use Rattle.runs.specs.Laws.Runs.{next-ge, next-pass, next-skip, len-le, len-ge, len-in}
 use Rattle.image.specs.Flash.{copyOf, new}
-use Rattle.image.specs.Places.{nameAllOf}
 use Rattle.image.specs.Hex.{File, file, started, fed, place, placed, recordIn, closeOf}
 use Rattle.image.specs.declared.hex.Hex.{Hex}
 use Rattle.image.specs.Writer.{content, line, text, step, recordLength, recordFrom, lowest, stepFrom}
 use Rattle.image.specs.RoundTrip.{unended, lines, addressAfter, readLines, Returned}
 use Rattle.image.specs.Laws.Flash.{length-stored, stored-below, stored-at}
-use Rattle.image.specs.Laws.Places.{any-none, name-all-length, name-all-bytes, name-all-below, name-all-above, name-all-in}
 use Rattle.image.specs.Laws.Hex.{size-right, data-taken, end-taken}
 
 -- ---- one record
@@ -59,11 +57,6 @@ placed-at : (h : Hex) (a : ℕ) (s image map : List ℕ) → h .linear ≡ 0 →
 placed-at h a s image map l g =
     let p : place h (closed a s) ≡ a = place-at h a s l g in
     rw (p, take-at s (checksumOf (content a 0 s) ∷ []) (length s) refl)
-
-zero-below : (n k : ℕ) → getD (replicate n 0) k 0 < 256
-zero-below zero k = omega arith
-zero-below (suc n) zero = omega arith
-zero-below (suc n) (suc k) = zero-below n k
 
 -- ---- the reader after the records below an address
 
@@ -124,13 +117,13 @@ module _ (size : ℕ) (image map : List ℕ) where
 
       run-read : recordIn size (f .reader) (line a 0 part) (f .image) (f .map) ≡ given more
       run-read =
-          data-taken size (f .reader) (f .image) (f .map) (size-right size (f .reader) (f .image) (f .map) (u .imageLength) (u .mapLength)) (u .going) (closed a part)
+          data-taken size (f .reader) (f .image) (f .map) (size-right size (f .image) (f .map) (u .imageLength) (u .mapLength)) (u .going) (closed a part)
           (closed-bytes a part (omega arith) (omega (arith, part-length)) part-bytes)
           (omega (arith, length-append part (checksumOf (content a 0 part) ∷ [])))
           (sum-closed (content a 0 part))
           refl
           (omega (arith, part-length, place-at (f .reader) a part (u .linear) (u .segment)))
-          (rw (place-at (f .reader) a part (u .linear) (u .segment), part-length) (any-none (f .map) a n (λ j l m. u .above j l)))
+          (rw (place-at (f .reader) a part (u .linear) (u .segment), part-length) (any-none (named (f .map)) a n (λ j l. u .above (a + j) (omega arith))))
           ∙ ap given (placed-at (f .reader) a part (f .image) (f .map) (u .linear) (u .segment) ∙ rw part-length)
 
       upto-more : Upto (a + n) more
@@ -240,7 +233,7 @@ module _ (size : ℕ) (image map : List ℕ) where
                 result = last;
                 read =
                     ap (λ (s : List (List ℕ)). readLines size s f) (lines-step a k 0 1 (size + 1) [] l (step-end a l h))
-                    ∙ read-step (line 0 1 []) (lines size image map (size + 1) k) f last (end-taken size (f .reader) (f .image) (f .map) (size-right size (f .reader) (f .image) (f .map) (u .imageLength) (u .mapLength)) (u .going))
+                    ∙ read-step (line 0 1 []) (lines size image map (size + 1) k) f last (end-taken size (f .reader) (f .image) (f .map) (size-right size (f .image) (f .map) (u .imageLength) (u .mapLength)) (u .going))
                     ∙ ap (λ (s : List (List ℕ)). readLines size s last) (lines-past k)
                     ∙ read-none last;
                 back =
@@ -308,7 +301,7 @@ module _ (size : ℕ) (image map : List ℕ) where
                   none = λ e j m. absurd (omega arith);
                   imageLength = length-replicate size 0xFF;
                   mapLength = length-replicate (size / 8) 0;
-                  mapBytes = λ j. zero-below (size / 8) j;
+                  mapBytes = λ j. rw (zero-at (size / 8) j) (lit< tt);
                   below = λ j m. absurd (omega arith);
                   above = λ j m. named-none (size / 8) j;
                   bytes = λ j m e. absurd (omega arith);

@@ -11,47 +11,31 @@ use lib.ListN.{length, getD}
 use Rattle.basis.specs.Bits.{bit}
 use Rattle.basis.specs.Choice.{pick, either}
 use Rattle.basis.specs.Laws.Bits.{bit-or}
-use Rattle.basis.specs.Laws.Choice.{decide, true-false, either-first, either-false, either-none}
+use Rattle.basis.specs.Laws.Choice.{decide, true-false, either-first, any-none}
 use Rattle.basis.specs.Laws.Refusals.{skip, stop, done}
 use Rattle.basis.specs.Refusals.{Answer, refused, given, Rule, first}
 use Rattle.basis.specs.Units.{groupOf, pageGroupOf}
 use Rattle.loader.specs.Commands.{Effect, protectedPages, protectedBytes, massErase, eraseRows, erasing, writeRows, writing, verifyRows, opening, addedOf, adding, closing, protecting, running, keeping, obeyOf, loaderAfter, effectAfter}
 use Rattle.loader.specs.Laws.Commands.{either-way, erasing-open, erasing-pages}
-use Rattle.loader.specs.Protection.{none, joinOf, anyOf}
+use Rattle.loader.specs.Protection.{none, joinOf}
 use Rattle.loader.specs.State.{withCondition, withAdded, joinedOf}
 use Rattle.loader.specs.declared.protection.Protection.{Protection}
 use Rattle.loader.specs.declared.state.Condition.the-variants.{Left}
 use Rattle.loader.specs.declared.state.Loader.{Loader}
 use Rattle.basis.specs.Board.{groupSize}
 
--- none of n groups from g on is protected
-pub any-none : (s g n : ℕ) → anyOf s g n ≡ false → (j : ℕ) → j < n → bit s (g + j) ≡ false
-unfolding anyOf
-any-none s g zero e j h = absurd (omega arith)
-any-none s g (suc n) e zero h = subst (λ (x : ℕ). bit s x ≡ false) (sym (add-zero g)) (either-none (bit s g) (anyOf s (g + 1) n) e .0)
-any-none s g (suc n) e (suc j) h =
-    let q : g + 1 + j ≡ g + suc j = omega arith in
-    subst (λ (x : ℕ). bit s x ≡ false) q (any-none s (g + 1) n (either-none (bit s g) (anyOf s (g + 1) n) e .1) j (omega arith))
-
-pub none-any : (s g n : ℕ) → ((j : ℕ) → j < n → bit s (g + j) ≡ false) → anyOf s g n ≡ false
-unfolding anyOf
-none-any s g zero h = refl
-none-any s g (suc n) h =
-    either-false (bit s g) (anyOf s (g + 1) n) (subst (λ (x : ℕ). bit s x ≡ false) (add-zero g) (h 0 (omega arith)))
-    (none-any s (g + 1) n (λ j l. let q : g + suc j ≡ g + 1 + j = omega arith in subst (λ (x : ℕ). bit s x ≡ false) q (h (suc j) (omega arith))))
-
--- pages and bytes are free exactly when each of their groups is
+-- pages and bytes are free when each of their groups is
 module _ (p : Protection) where
   pub free-pages : (i j : ℕ) → i < j → ((q : ℕ) → i ≤ q → q < j → bit (p .groups) (pageGroupOf q) ≡ false) → protectedPages p i j ≡ false
   free-pages i j h free =
-      none-any (p .groups) (pageGroupOf i) (pageGroupOf (j + 3) - pageGroupOf i)
+      any-none (bit (p .groups)) (pageGroupOf i) (pageGroupOf (j + 3) - pageGroupOf i)
       (λ n l. decide (leb i (4 * (pageGroupOf i + n)))
       (λ t. subst (λ (x : ℕ). bit (p .groups) x ≡ false) (omega (arith, leb-true i (4 * (pageGroupOf i + n)) t)) (free (4 * (pageGroupOf i + n)) (leb-true i (4 * (pageGroupOf i + n)) t) (omega arith)))
       (λ t. subst (λ (x : ℕ). bit (p .groups) x ≡ false) (omega (arith, leb-false i (4 * (pageGroupOf i + n)) t)) (free i (omega arith) h)))
 
   pub free-bytes : (a e : ℕ) → a < e → ((b : ℕ) → a ≤ b → b < e → bit (p .groups) (groupOf b) ≡ false) → protectedBytes p a e ≡ false
   free-bytes a e h free =
-      none-any (p .groups) (groupOf a) (groupOf (e + (groupSize - 1)) - groupOf a)
+      any-none (bit (p .groups)) (groupOf a) (groupOf (e + (groupSize - 1)) - groupOf a)
       (λ n l. decide (leb a (groupSize * (groupOf a + n)))
       (λ t. subst (λ (x : ℕ). bit (p .groups) x ≡ false) (omega (arith, leb-true a (groupSize * (groupOf a + n)) t)) (free (groupSize * (groupOf a + n)) (leb-true a (groupSize * (groupOf a + n)) t) (omega arith)))
       (λ t. subst (λ (x : ℕ). bit (p .groups) x ≡ false) (omega (arith, leb-false a (groupSize * (groupOf a + n)) t)) (free a (omega arith) h)))

@@ -128,12 +128,9 @@ module _ (p : ℕ → Bool) (cap : ℕ) where
   pub piece-passes : (s a : ℕ) → s ≤ a → a < s + len p s cap → p a ≡ true
   piece-passes s a g l = subst (λ (k : ℕ). p k ≡ true) (omega arith) (len-in p cap s (a - s) (omega arith))
 
-  -- it holds one at least, and cap at most
+  -- it holds one at least
   pub piece-some : 0 < cap → (s : ℕ) → starts p cap s ≡ true → 0 < len p s cap
   piece-some z s h = len-ge p cap s 1 z (λ i l. subst (λ (k : ℕ). p k ≡ true) (omega arith) (starts-off s h .0))
-
-  pub piece-most : (s : ℕ) → len p s cap ≤ cap
-  piece-most s = len-le p s cap
 
   -- pieces are disjoint, and stand in the order of their starts
   pub pieces-apart : (s u : ℕ) → starts p cap s ≡ true → starts p cap u ≡ true → s < u → s + len p s cap ≤ u
@@ -237,10 +234,10 @@ module _ (p : ℕ → Bool) (cap n : ℕ) (z : 0 < cap) (past : (a : ℕ) → n 
   pub follow-rank : (s : ℕ) → starts p cap s ≡ true → count (starts p cap) (follow p cap n s) ≡ suc (count (starts p cap) s)
   follow-rank s h =
       let l = piece-some p cap z s h in
-      let k : suc s + (len p s cap - 1) ≡ s + len p s cap = omega arith in
-      next-counts (s + len p s cap) ∙ sym (ap (count (starts p cap)) k)
-      ∙ count-skip (starts p cap) (suc s) (len p s cap - 1) (λ i u v. starts-inside p cap i (λ e. omega (arith, piece-place p cap s i h (omega arith) (omega arith))))
-      ∙ count-yes (starts p cap) s h
+      let k : s + len p s cap - 1 + 1 ≡ s + len p s cap = omega arith in
+      next-counts (s + len p s cap)
+      ∙ sym (ap (count (starts p cap)) k)
+      ∙ rank-in p cap s (s + len p s cap - 1) h (omega arith) (omega arith)
 
 -- ---- with no cap reached the pieces are the maximal runs: what stands before and after fails
 

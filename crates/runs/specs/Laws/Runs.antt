@@ -8,7 +8,7 @@ use mathlib.Core.Logic.{⊎-elim}
 use mathlib.Core.Bool.{Bool, true, false}
 use lib.Dec.{eqb, ltb}
 use borrow.Author.Tests.{eq-eqb, ne-eqb, eqb-true, eqb-false, lt-ltb, le-ltb, ltb-true, ltb-false}
-use Rattle.basis.specs.Choice.{pick, both}
+use Rattle.basis.specs.Choice.{pick, both, any}
 use Rattle.basis.specs.Laws.Choice.{decide}
 use Rattle.runs.specs.Runs.{count, len, next, select}
 
@@ -117,6 +117,15 @@ module _ (p : ℕ → Bool) where
 -- ---- searches
 
 module _ (p : ℕ → Bool) where
+  -- one of f from a on passes where the lowest that does stands before their end
+  pub any-next : (f a : ℕ) → any p a f ≡ ltb (next p a f) (a + f)
+  unfolding any next
+  any-next zero a = sym (le-ltb a (a + 0) (omega arith))
+  any-next (suc f) a =
+      decide (p a)
+      (λ t. rw t (sym (lt-ltb a (a + suc f) (omega arith))))
+      (λ t. rw (t, add-one a) (any-next f (suc a) ∙ ap (ltb (next p (suc a) f)) (omega arith)))
+
   pub next-ge : (f a : ℕ) → a ≤ next p a f
   unfolding next
   next-ge zero a = omega arith

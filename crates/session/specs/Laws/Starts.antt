@@ -13,7 +13,8 @@ use Rattle.basis.specs.Laws.Choice.{decide, true-false, both-second}
 use Rattle.packet.specs.Table.{listed, inShape, dataCount}
 use Rattle.runs.specs.Laws.Files.{bytes-past, pages-past, file-piece}
 use Rattle.runs.specs.Laws.Pages.{named-touched}
-use Rattle.runs.specs.Laws.Pieces.{starts-below, piece-some, piece-most}
+use Rattle.runs.specs.Laws.Pieces.{starts-below, piece-some}
+use Rattle.runs.specs.Laws.Runs.{len-le}
 use Rattle.runs.specs.Laws.Runs.{count-zero, count-le, count-skip, next-pass, next-skip}
 use Rattle.runs.specs.Map.{named}
 use Rattle.runs.specs.Pages.{touched}
@@ -60,7 +61,7 @@ module _ (m : List ℕ) (long : length m ≡ mapSize) where
   piece-carried image a e h =
       let l = file-piece m long a h in
       let k : pieceLen m a ≤ length (drop a image) = simp length-drop (omega arith) in
-      (length-take-le (pieceLen m a) (drop a image) k, piece-some (named m) pieceMost (omega arith) a h, piece-most (named m) pieceMost a)
+      (length-take-le (pieceLen m a) (drop a image) k, piece-some (named m) pieceMost (omega arith) a h, len-le (named m) a pieceMost)
 
 -- W and V with 1 to 250 bytes stand in the table
 pub carries-listed : (c : ℕ) → carriesPiece c ≡ true → listed c ≡ true
