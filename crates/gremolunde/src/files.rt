@@ -112,8 +112,7 @@ fn told(from: u32, answer: Written) -> HexWritten
             next: next.0,
             length,
         },
-        Written::Size => unwritten(20, from),
-        Written::Short => unwritten(33, from),
+        Written::Refused(why) => unwritten(why.number(), from),
     }
 }
 

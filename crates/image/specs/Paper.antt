@@ -8,7 +8,7 @@ use Rattle.image.specs.declared.hex.Read.the-variants as read
 use Rattle.image.specs.declared.record.Check as Check
 use Rattle.image.specs.declared.record.Check.the-variants as check
 use Rattle.image.specs.declared.record.Refusal.{Refusal}
-use Rattle.image.specs.declared.record.Refusal.the-variants.{Size, Ended, Colon, Length, Digit, Count, Checksum, Kind, Shape, Place, Twice, NoEnd, NoData}
+use Rattle.image.specs.declared.record.Refusal.the-variants.{Size, Ended, Colon, Length, Digit, Count, Checksum, Kind, Shape, Place, Twice, NoEnd, NoData, Short}
 use Rattle.image.specs.declared.writer.Written as Written
 use Rattle.image.specs.declared.writer.Written.the-variants as written
 
@@ -27,6 +27,7 @@ paperRefusal Place = 29
 paperRefusal Twice = 30
 paperRefusal NoEnd = 31
 paperRefusal NoData = 32
+paperRefusal Short = 33
 
 -- a check's word on a record
 abbrev pub paperCheck : Check.Check → Answer Unit
@@ -40,6 +41,5 @@ paperRead (read.Refused x) = refused (paperRefusal x)
 
 -- the length of what was written with the address to go on from, or the refusal
 abbrev pub paperWritten : Written.Written → Answer Measured
-paperWritten written.Size = refused 20
-paperWritten written.Short = refused 33
+paperWritten (written.Refused x) = refused (paperRefusal x)
 paperWritten (written.Record n a) = given (record { length = n; next = a .0 })

@@ -23,6 +23,7 @@ pub enum Refusal {
     Twice,
     NoEnd,
     NoData,
+    Short,
 }
 
 impl Refusal {
@@ -43,6 +44,7 @@ impl Refusal {
             Refusal::Twice => 30,
             Refusal::NoEnd => 31,
             Refusal::NoData => 32,
+            Refusal::Short => 33,
         }
     }
 }

@@ -7,6 +7,7 @@ ghost use Rattle.basis.specs.Board.{flashSize};
 ghost use Rattle.image.specs.Flash.{copyOf};
 ghost use Rattle.image.specs.Paper.{paperWritten};
 ghost use Rattle.image.specs.Writer.{letterOf, spelt, text, measured, textBytes, writeIn};
+use crate::record::Refusal;
 use basis::board::END;
 use basis::board::MAP;
 use basis::board::SIZE;
@@ -16,25 +17,26 @@ use runs::places::next_named;
 use runs::places::row_len;
 
 pub enum Written {
-    Size,
-    Short,
+    Refused(Refusal),
     Record { length: usize, next: Address },
 }
 
 // The record that starts at the lowest named byte from `from` on, closed by 0A; the end record where there is none.
 // From above the board nothing is written.
 pub fn write(image: &[u8], map: &[u8], from: Address, buffer: &mut [u8]) -> Written
-    ensures answer { λ r. ⌜ paperWritten r ≡ measured (writeIn flashSize (now (image .entry)) (now (map .entry)) (from .0) (length (now (buffer .entry)))) ⌝ }
-    ensures buffer { λ _. ⌜ now (buffer .exit) ≡ overlay (textBytes (writeIn flashSize (now (image .entry)) (now (map .entry)) (from .0) (length (now (buffer .entry))))) (now (buffer .entry)) ⌝ }
+    ensures { λ r. ⌜
+        (let w = writeIn flashSize (now (image .entry)) (now (map .entry)) (from .0) (length (now (buffer .entry))) in
+        (paperWritten r ≡ measured w) × (now (buffer .exit) ≡ overlay (textBytes w) (now (buffer .entry))))
+        ⌝ }
 {
     if image.len() != SIZE {
-        return Written::Size;
+        return Written::Refused(Refusal::Size);
     }
     if map.len() != MAP {
-        return Written::Size;
+        return Written::Refused(Refusal::Size);
     }
     if buffer.len() < 44 {
-        return Written::Short;
+        return Written::Refused(Refusal::Short);
     }
     if END < from.0 {
         return Written::Record {

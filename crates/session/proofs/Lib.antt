@@ -1,4 +1,3 @@
-pub mod Building
 pub mod Surveys
 pub mod Fits
 pub mod Marks

@@ -5,7 +5,7 @@ use mathlib.Core.Path.{_≡_, refl, ap, sym, _∙_}
 use native.Mathlib.Omega.{arith}
 use lib.Dec.{eqb}
 use Rattle.basis.specs.Choice.{pick}
-use Rattle.basis.specs.Laws.Refusals.{apart, given-one, refused-one, determined}
+use Rattle.basis.specs.Laws.Refusals.{apart, given-one, refused-one, back-one, determined}
 use Rattle.basis.specs.Lists.{overlay}
 use Rattle.basis.specs.Refusals.{Answer, counted, written}
 use Rattle.packet.specs.Packet.{Parts}
@@ -35,7 +35,7 @@ command-back Protect = refl
 command-back Run = refl
 
 command-one : (c d : Command) → paperCommand c ≡ paperCommand d → c ≡ d
-command-one c d e = sym (command-back c) ∙ ap commandBy e ∙ command-back d
+command-one = back-one paperCommand commandBy command-back
 
 unfoldable pub refusalBy : ℕ → Refusal
 refusalBy n =
@@ -59,7 +59,7 @@ refusal-small Unlisted = omega arith
 refusal-small Shape = omega arith
 
 pub refusal-one : (x y : Refusal) → paperRefusal x ≡ paperRefusal y → x ≡ y
-refusal-one x y e = sym (refusal-back x) ∙ ap refusalBy e ∙ refusal-back y
+refusal-one = back-one paperRefusal refusalBy refusal-back
 
 -- looking up
 row-one : (r s : Row.Row) → paperRow r ≡ paperRow s → r ≡ s
@@ -86,7 +86,10 @@ built-one (built.Refused x) (built.Packet m) e = absurd (apart e)
 built-one (built.Refused x) built.NoRoom e = absurd (room-apart x (sym (refused-one e)))
 built-one (built.Refused x) (built.Refused y) e = ap built.Refused (refusal-one x y (refused-one e))
 
-pub build-determined : (b : Answer (List ℕ)) (r s : Built.Built) (x y old : List ℕ) → (paperBuilt r ≡ counted b) × (x ≡ overlay (written b) old) → (paperBuilt s ≡ counted b) × (y ≡ overlay (written b) old) → (r ≡ s) × (x ≡ y)
+pub build-determined : (b : Answer (List ℕ)) (r s : Built.Built) (x y old : List ℕ)
+  → (paperBuilt r ≡ counted b) × (x ≡ overlay (written b) old)
+  → (paperBuilt s ≡ counted b) × (y ≡ overlay (written b) old)
+  → (r ≡ s) × (x ≡ y)
 build-determined b r s x y old p q = (determined paperBuilt built-one r s (p .0) (q .0), p .1 ∙ sym (q .1))
 
 -- reading

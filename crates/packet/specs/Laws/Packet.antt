@@ -38,6 +38,13 @@ module _ (room c a : ℕ) (d : List ℕ) where
   unfolding buildOf
   build-table h = skip _ _ _ _ (le-ltb _ _ h)
 
+  -- what the table allows is built
+  pub build-packet : packetMost ≤ room
+    → listed c ≡ true
+    → inShape c (length d + 5) (getD d 0 0) ≡ true
+    → buildOf room c a d ≡ given (packet c a d)
+  build-packet h l s = build-table h ∙ table-passes c (length d + 5) (getD d 0 0) (given (packet c a d)) l s
+
 -- ---- reading
 
 -- the data's place

@@ -16,8 +16,8 @@ use Rattle.basis.specs.Laws.Sums.{checksum-only}
 use Rattle.basis.specs.Lists.{Bytes}
 use Rattle.basis.specs.Refusals.{given}
 use Rattle.basis.specs.Sums.{sumOf, checksumOf}
-use Rattle.packet.specs.Laws.Packet.{packet-data, build-table, read-packet, Accepted, accepted}
-use Rattle.packet.specs.Laws.Table.{table-passes, table-holds, kind-counts}
+use Rattle.packet.specs.Laws.Packet.{packet-data, build-packet, read-packet, Accepted, accepted}
+use Rattle.packet.specs.Laws.Table.{table-holds, kind-counts}
 use Rattle.packet.specs.Laws.Turn.{restored-turned, turned-restored, undone}
 use Rattle.packet.specs.Packet.{addressBytes, carriedOf, plain, summed, packet, buildOf, count, command, kind, joined, address, Parts, parts, said, plainData, readOf, packetMost}
 use Rattle.packet.specs.Table.{inShape}
@@ -142,6 +142,4 @@ built-read room s p b h e =
     rw (data-length s p b r)
     (kind-counts c (count s) (kind s) (getD d 0 0) (λ ec en. sym (getD-drop 8 s 0 0) ∙ one-plain c (count s) (drop 8 s) ec en) (r .shape)) in
     rw (← r .says)
-    (build-table room c (address s) d h
-    ∙ table-passes c (length d + 5) (getD d 0 0) (given (packet c (address s) d)) (r .command-listed) t
-    ∙ ap given (whole s p b r))
+    (build-packet room c (address s) d h (r .command-listed) t ∙ ap given (whole s p b r))

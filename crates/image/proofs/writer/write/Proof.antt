@@ -39,8 +39,8 @@ slice-aggregate-print c = search needs
 print-requires : tie.Need-print-requires
 print-requires c κs = search needs
 
-add-t19 : tie.Need-add-t19
-add-t19 c = search needs
+add-t22 : tie.Need-add-t22
+add-t22 c = search needs
 
 same-length : tie.Need-same-length
 same-length c = search needs
@@ -79,8 +79,8 @@ part-print-end c = omega (arith, c .row-len .ensures, len-le (named (c .before .
 print-requires-2 : tie.Need-print-requires-2
 print-requires-2 c κs = (simp (length-take, length-drop) (omega (arith, c .before .before .row-len .ensures, len-le (named (c .before .before .before .before .before .before .before .before .before .before .before .before .before .before .args .map .now)) (c .before .before .before .before .before .next-named .result .0) (16 - c .before .before .before .before .before .next-named .result .0 % 16))), c .before .before .before .before .before .before .before .before .if3 .left)
 
-add-t22 : tie.Need-add-t22
-add-t22 c = omega (arith, c .before .before .before .before .before .row-len .ensures, len-le (named (c .before .before .before .before .before .before .before .before .before .before .before .before .before .before .before .before .before .args .map .now)) (c .before .before .before .before .before .before .before .before .next-named .result .0) (16 - c .before .before .before .before .before .before .before .before .next-named .result .0 % 16), c .before .before .before .before .before .before .if5 .left)
+add-t25 : tie.Need-add-t25
+add-t25 c = omega (arith, c .before .before .before .before .before .row-len .ensures, len-le (named (c .before .before .before .before .before .before .before .before .before .before .before .before .before .before .before .before .before .args .map .now)) (c .before .before .before .before .before .before .before .before .next-named .result .0) (16 - c .before .before .before .before .before .before .before .before .next-named .result .0 % 16), c .before .before .before .before .before .before .if5 .left)
 
 same-length-2 : tie.Need-same-length-2
 same-length-2 c = search needs
@@ -102,7 +102,7 @@ write-spec =
     next-named-requires
     slice-aggregate-print
     print-requires
-    add-t19
+    add-t22
     same-length
     returns-5
     sub-row-len
@@ -115,6 +115,6 @@ write-spec =
     part-print-start
     part-print-end
     print-requires-2
-    add-t22
+    add-t25
     same-length-2
     returns-6)

@@ -7,8 +7,8 @@ use borrow.Author.Needs.{needs}
 use lib.ListN.{length, getD}
 use Rattle.basis.specs.Laws.Refusals.{leaves, writes, alike}
 use Rattle.basis.specs.Refusals.{refused, given, first}
-use Rattle.packet.specs.Laws.Packet.{packet-length, build-small, build-table}
-use Rattle.packet.specs.Laws.Table.{table-passes, table-holds, shape-short}
+use Rattle.packet.specs.Laws.Packet.{packet-length, build-small, build-table, build-packet}
+use Rattle.packet.specs.Laws.Table.{table-holds, shape-short}
 use Rattle.packet.specs.Packet.{packet, buildOf, dataMost, packetMost}
 use Rattle.packet.specs.Paper.{paperRow}
 use Rattle.packet.specs.Table.{table}
@@ -24,7 +24,7 @@ module _ (room c a : ℕ) (d : List ℕ) (t k : ℕ) (h : packetMost ≤ room) (
   build-given f =
       let g = table-holds c (length d + 5) (getD d 0 0) (given c) (rw e at f) in (
         omega (arith, shape-short c (length d + 5) (getD d 0 0) (g .1)),
-        build-table room c a d h ∙ table-passes c (length d + 5) (getD d 0 0) (given (packet c a d)) (g .0) (g .1),
+        build-packet room c a d h (g .0) (g .1),
       )
 
 returns : tie.Need-returns
