@@ -1,6 +1,9 @@
 -- The paper's numbers and values for each case of the code's answers.
 use Prim.Native.Nat.{ℕ}
+use mathlib.Core.List.{List}
+use mathlib.Core.Path.{_≡_}
 use Rattle.basis.specs.Refusals.{Answer, refused, given}
+use Rattle.image.specs.Hex.{File, settledAs, settled}
 use Rattle.image.specs.Writer.{Measured}
 use Rattle.image.specs.declared.hex.Hex.{Hex}
 use Rattle.image.specs.declared.hex.Read as Read
@@ -38,6 +41,10 @@ paperCheck (check.Refused x) = refused (paperRefusal x)
 abbrev pub paperRead : Read.Read → Answer Hex
 paperRead (read.Taken h) = given h
 paperRead (read.Refused x) = refused (paperRefusal x)
+
+-- reading answers r and leaves image′ and map′, where the paper says a of image and map
+abbrev pub Reads : Read.Read → List ℕ → List ℕ → Answer File → List ℕ → List ℕ → Type 0
+Reads r image′ map′ a image map = settledAs (paperRead r) image′ map′ ≡ settled a image map
 
 -- the length of what was written with the address to go on from, or the refusal
 abbrev pub paperWritten : Written.Written → Answer Measured

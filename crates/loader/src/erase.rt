@@ -39,7 +39,7 @@ pub fn erase(loader: Loader, address: Address, count: u8, flash: &mut [u8]) -> A
         Verdict::Accepted => {
             image::flash::erase(
                 flash,
-                address.page().start().0 as usize,
+                address.page().start(),
                 count as usize * PAGE as usize,
             );
             Acted {
@@ -64,7 +64,7 @@ fn mass_erase(loader: Loader, flash: &mut [u8]) -> Acted
     ensures { λ r. ⌜ (paperVerdict (r .verdict) ≡ given tt) × (r .loader ≡ clearedOf loader) × (now (flash .exit) ≡ eraseOf (now (flash .entry)) 0 (length (now (flash .entry)))) ⌝ }
 {
     let end = flash.len();
-    image::flash::erase(flash, 0, end);
+    image::flash::erase(flash, Address(0), end);
     Acted {
         loader: loader.cleared(),
         verdict: Verdict::Accepted,

@@ -37,8 +37,8 @@ module _ {A : Type 0} where
 
   -- it was given, so the test was false
   pub passed : {x : A} (n : ℕ) (t : Bool) (l : List Rule) (r : Answer A)
-    → first (n when t ∷ l) r ≡ given x
-    → (t ≡ false) × (first l r ≡ given x)
+      → first (n when t ∷ l) r ≡ given x
+      → (t ≡ false) × (first l r ≡ given x)
   unfolding first
   passed n true l r e = absurd (apart e)
   passed n false l r e = (refl, e)
@@ -50,15 +50,15 @@ first-then [] r = refl
 first-then {A} (x ∷ l) r = go (x .holds) (first-then l r)
   where
     go : (t : Bool)
-      → first l r ≡ andThen (first l (given tt)) r
-      → pick t (refused (x .number)) (first l r) ≡ andThen (pick t (refused (x .number)) (first l (given tt))) r
+        → first l r ≡ andThen (first l (given tt)) r
+        → pick t (refused (x .number)) (first l r) ≡ andThen (pick t (refused (x .number)) (first l (given tt))) r
     go true e = refl
     go false e = e
 
 -- it refuses alike whatever it guards
 pub alike : {A B : Type 0} {n : ℕ} (l : List Rule) (x : A) (y : B)
-  → first l (given x) ≡ refused n
-  → first l (given y) ≡ refused n
+    → first l (given x) ≡ refused n
+    → first l (given y) ≡ refused n
 alike {A} {B} {n} l x y e = first-then l (given y) ∙ go (first l (given tt)) (sym (first-then l (given x)) ∙ e)
   where
     go : (a : Answer (Unit {0})) → andThen a (given x) ≡ refused n → andThen a (given y) ≡ refused n
@@ -75,9 +75,9 @@ through {A} {B} {z} l x r e = first-then l r ∙ go (first l (given tt)) (sym (f
 
 -- what holds of each refusal and of what it guards holds of what it gives
 pub by-table : {A : Type 0} (P : Answer A → Type 0) (l : List Rule) (r : Answer A)
-  → ((n : ℕ) → P (refused n))
-  → P r
-  → P (first l r)
+    → ((n : ℕ) → P (refused n))
+    → P r
+    → P (first l r)
 by-table {A} P l r p q = subst P (sym (first-then l r)) (go (first l (given tt)))
   where
     go : (a : Answer (Unit {0})) → P (andThen a r)
@@ -94,10 +94,10 @@ bare-first l x = ap bare (first-then l (given x)) ∙ go (first l (given tt))
 
 -- an enum is known by what the paper has for it, where that has a way back
 pub back-one : {A B : Type 0} (paper : A → B) (by : B → A)
-  → ((x : A) → by (paper x) ≡ x)
-  → (x y : A)
-  → paper x ≡ paper y
-  → x ≡ y
+    → ((x : A) → by (paper x) ≡ x)
+    → (x y : A)
+    → paper x ≡ paper y
+    → x ≡ y
 back-one paper by back x y e = sym (back x) ∙ ap by e ∙ back y
 
 -- two outcomes that one equation permits are equal, where the paper tells all cases apart

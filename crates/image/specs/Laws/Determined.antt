@@ -64,9 +64,9 @@ read-one (Refused x) (Refused y) e = ap Refused (refusal-one x y (refused-one e)
 
 -- of start and of a record, with image and map as they leave them
 pub record-determined : {o : Settled} (r s : Read) (i j m n : List ℕ)
-  → settledAs (paperRead r) i m ≡ o
-  → settledAs (paperRead s) j n ≡ o
-  → (r ≡ s) × (i ≡ j) × (m ≡ n)
+    → settledAs (paperRead r) i m ≡ o
+    → settledAs (paperRead s) j n ≡ o
+    → (r ≡ s) × (i ≡ j) × (m ≡ n)
 record-determined r s i j m n p q =
     let e = p ∙ sym q in
     (read-one r s (ap (λ (x : Settled). x .answer) e), ap (λ (x : Settled). x .image) e, ap (λ (x : Settled). x .map) e)
@@ -83,7 +83,7 @@ written-one (written.Record n a) (written.Record m b) e =
     let g = given-one e in λ i. written.Record (g i .length) (record { 0 = g i .next })
 
 pub write-determined : (a : Answer Step) (r s : Written) (x y old : List ℕ)
-  → (paperWritten r ≡ measured a) × (x ≡ overlay (textBytes a) old)
-  → (paperWritten s ≡ measured a) × (y ≡ overlay (textBytes a) old)
-  → (r ≡ s) × (x ≡ y)
+    → (paperWritten r ≡ measured a) × (x ≡ overlay (textBytes a) old)
+    → (paperWritten s ≡ measured a) × (y ≡ overlay (textBytes a) old)
+    → (r ≡ s) × (x ≡ y)
 write-determined a r s x y old p q = (determined paperWritten written-one r s (p .0) (q .0), p .1 ∙ sym (q .1))

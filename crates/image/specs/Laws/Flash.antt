@@ -10,7 +10,7 @@ use lib.ListN.{length, take, drop, set, getD, replicate, length-set, length-take
 use lib.Seq.{getD-set-same, getD-set-other, getD-take, getD-drop, ext-getD}
 use Rattle.basis.specs.Laws.Lists.{overlay-next}
 use Rattle.basis.specs.Lists.{Bytes, overlay}
-use Rattle.image.specs.Flash.{stored, storeOf, copyOf, eraseOf, new}
+use Rattle.image.specs.Flash.{stored, storeOf, copyOf, eraseOf, new, Blank}
 
 module _ (op : ℕ → ℕ → ℕ) where
   -- flash after the first byte
@@ -90,10 +90,6 @@ store-above = stored-above bitAnd
 
 pub store-at : (flash : List ℕ) (a : ℕ) (s : List ℕ) (k : ℕ) → k < length s → a + length s ≤ length flash → getD (storeOf flash a s) (a + k) 0 ≡ bitAnd (getD flash (a + k) 0) (getD s k 0)
 store-at = stored-at bitAnd
-
--- the n bytes from a on are 0xFF
-abbrev pub Blank : List ℕ → ℕ → ℕ → Type 0
-Blank flash a n = (k : ℕ) → k < n → getD flash (a + k) 0 ≡ 0xFF
 
 and-blank : (x : ℕ) → x < 256 → bitAnd 0xFF x ≡ x
 and-blank x h = and-comm 0xFF x ∙ and-mask x 8 ∙ mod-eq-of-lt h

@@ -53,17 +53,17 @@ characters-length line e =
     one x z l = omega arith
 
 pub size-right : (size : ℕ) (image map : List ℕ)
-  → length image ≡ size
-  → length map ≡ size / 8
-  → sizeWrong size image map ≡ false
+    → length image ≡ size
+    → length map ≡ size / 8
+    → sizeWrong size image map ≡ false
 size-right size image map p q = simp (eq-eqb _ _ p, eq-eqb _ _ q)
 
 module _ (size : ℕ) (h : Hex) (image map : List ℕ) where
   -- the table after 20 and 21: the characters, then the bytes
   pub record-cut : (line : List ℕ)
-    → sizeWrong size image map ≡ false
-    → h .ended ≡ false
-    → recordIn size h line image map
+      → sizeWrong size image map ≡ false
+      → h .ended ≡ false
+      → recordIn size h line image map
       ≡ andThen (charactersOf line) (applyIn size h (length line) (decoded (drop 1 line)) image map)
   unfolding first recordIn charactersOf applyIn
   record-cut line s e =
@@ -73,16 +73,16 @@ module _ (size : ℕ) (h : Hex) (image map : List ℕ) where
 
   -- the table from 25 on: framing, type and shape, and then what the type asks
   pub apply-cut : (n : ℕ) (b : List ℕ)
-    → applyIn size h n b image map
+      → applyIn size h n b image map
       ≡ andThen (framingOf n b)
-        (andThen (shapeOf b) (pick (isData b) (dataIn size h b image map) (given (file (otherOf h b) image map))))
+      (andThen (shapeOf b) (pick (isData b) (dataIn size h b image map) (given (file (otherOf h b) image map))))
   unfolding first applyIn framingOf shapeOf dataIn
   apply-cut n b =
       first-then (byteRows n b) _
       ∙ ap (andThen (framingOf n b)) (first-then (shapeRows b) _ ∙ ap (andThen (shapeOf b)) (by (isData b)))
     where
       by : (t : Bool)
-        → first (pick t (placeRows size h b map) []) (given (pick t (placed h b image map) (file (otherOf h b) image map)))
+          → first (pick t (placeRows size h b map) []) (given (pick t (placed h b image map) (file (otherOf h b) image map)))
           ≡ pick t (dataIn size h b image map) (given (file (otherOf h b) image map))
       by true = refl
       by false = refl
@@ -91,10 +91,10 @@ module _ (size : ℕ) (h : Hex) (image map : List ℕ) where
 
 -- a line that passes 22, 23 and 24
 characters-right : (line : List ℕ)
-  → getD line 0 0 ≡ 0x3A
-  → Long (length line)
-  → allDigits (drop 1 line) ≡ true
-  → charactersOf line ≡ given tt
+    → getD line 0 0 ≡ 0x3A
+    → Long (length line)
+    → allDigits (drop 1 line) ≡ true
+    → charactersOf line ≡ given tt
 unfolding first charactersOf
 characters-right line c l d =
     let some : length line ≡ 0 → ⊥ = λ e. omega (arith, l .least) in
@@ -122,9 +122,9 @@ unfolding first shapeOf
 shape-data b e = simp e
 
 data-placed : (size : ℕ) (h : Hex) (b image map : List ℕ)
-  → place h b + count b ≤ size
-  → namedBefore h b map ≡ false
-  → dataIn size h b image map ≡ given (placed h b image map)
+    → place h b + count b ≤ size
+    → namedBefore h b map ≡ false
+    → dataIn size h b image map ≡ given (placed h b image map)
 unfolding first dataIn
 data-placed size h b image map l e = rw (le-ltb _ _ l, both-none (ltb 0 (count b)), e)
 
@@ -136,13 +136,13 @@ end-read size h image map = refl
 module _ (size : ℕ) (h : Hex) (image map : List ℕ) (right : sizeWrong size image map ≡ false) (going : h .ended ≡ false) where
   -- a data record that finds its places free and on the board
   pub data-taken : (b : List ℕ)
-    → Bytes b
-    → length b ≡ 5 + count b
-    → sumOf b ≡ 0
-    → kind b ≡ 0
-    → place h b + count b ≤ size
-    → namedBefore h b map ≡ false
-    → recordIn size h (0x3A ∷ spelt b) image map ≡ given (placed h b image map)
+      → Bytes b
+      → length b ≡ 5 + count b
+      → sumOf b ≡ 0
+      → kind b ≡ 0
+      → place h b + count b ≤ size
+      → namedBefore h b map ≡ false
+      → recordIn size h (0x3A ∷ spelt b) image map ≡ given (placed h b image map)
   data-taken b bytes long sum zero fits free =
       record-cut size h image map (0x3A ∷ spelt b) right going
       ∙ rw (spelling-characters b bytes long, spelt-bytes b bytes, apply-cut size h image map (length (0x3A ∷ spelt b)) b, spelling-framing b bytes long sum, shape-data b zero, eq-eqb _ _ zero) (data-placed size h b image map fits free)

@@ -15,8 +15,8 @@ use Rattle.basis.specs.Laws.Lists.{bytes-take, bytes-drop}
 use Rattle.basis.specs.Lists.{Bytes}
 use Rattle.basis.specs.Refusals.{given}
 use Rattle.basis.specs.Units.{pageOf, pageGroupOf, startOf}
-use Rattle.image.specs.Flash.{eraseOf, storeOf}
-use Rattle.image.specs.Laws.Flash.{Blank, length-erase, erase-below, erase-above, erase-at, length-store, store-below, store-above, store-blank-at}
+use Rattle.image.specs.Flash.{eraseOf, storeOf, Blank}
+use Rattle.image.specs.Laws.Flash.{length-erase, erase-below, erase-above, erase-at, length-store, store-below, store-above, store-blank-at}
 use Rattle.line.specs.Laws.Safety.{Serves, takes-erase, takes-write, takes-verify, takes-run}
 use Rattle.line.specs.Line.{loaderTakes}
 use Rattle.loader.specs.Commands.{Effect, keeping}

@@ -87,9 +87,9 @@ built-one (built.Refused x) built.NoRoom e = absurd (room-apart x (sym (refused-
 built-one (built.Refused x) (built.Refused y) e = ap built.Refused (refusal-one x y (refused-one e))
 
 pub build-determined : (b : Answer (List ℕ)) (r s : Built.Built) (x y old : List ℕ)
-  → (paperBuilt r ≡ counted b) × (x ≡ overlay (written b) old)
-  → (paperBuilt s ≡ counted b) × (y ≡ overlay (written b) old)
-  → (r ≡ s) × (x ≡ y)
+    → (paperBuilt r ≡ counted b) × (x ≡ overlay (written b) old)
+    → (paperBuilt s ≡ counted b) × (y ≡ overlay (written b) old)
+    → (r ≡ s) × (x ≡ y)
 build-determined b r s x y old p q = (determined paperBuilt built-one r s (p .0) (q .0), p .1 ∙ sym (q .1))
 
 -- reading

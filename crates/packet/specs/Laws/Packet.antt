@@ -40,9 +40,9 @@ module _ (room c a : ℕ) (d : List ℕ) where
 
   -- what the table allows is built
   pub build-packet : packetMost ≤ room
-    → listed c ≡ true
-    → inShape c (length d + 5) (getD d 0 0) ≡ true
-    → buildOf room c a d ≡ given (packet c a d)
+      → listed c ≡ true
+      → inShape c (length d + 5) (getD d 0 0) ≡ true
+      → buildOf room c a d ≡ given (packet c a d)
   build-packet h l s = build-table h ∙ table-passes c (length d + 5) (getD d 0 0) (given (packet c a d)) l s
 
 -- ---- reading

@@ -46,9 +46,6 @@ start-requires c κs = search needs
 cast-erase : tie.Need-cast-erase
 cast-erase c = search needs
 
-cast-erase-2 : tie.Need-cast-erase-2
-cast-erase-2 c = search needs
-
 mul-erase : tie.Need-mul-erase
 mul-erase c = search needs
 
@@ -86,7 +83,6 @@ erase-spec =
     page-requires
     start-requires
     cast-erase
-    cast-erase-2
     mul-erase
     erase-requires
     returns-3

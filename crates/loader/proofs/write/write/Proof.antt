@@ -21,9 +21,6 @@ enum-known-why c = search needs
 enum-told : tie.Need-enum-told
 enum-told c = search needs
 
-cast-store : tie.Need-cast-store
-cast-store c = search needs
-
 store-requires : tie.Need-store-requires
 store-requires c κs = let a = c .before .before .before .before .before .before .before .args in let e = write-let pages (a .loader) (a .address .0) (length (a .bytes .now)) (given tt) (sym (c .before .before .before .before .judge .ensures) ∙ ap paperVerdict (c .before .before .enum-told .given .1)) in omega (arith, e .1, c .before .before .before .before .before .before .before .pre)
 
@@ -45,7 +42,6 @@ write-spec =
     judge-requires
     enum-known-why
     enum-told
-    cast-store
     store-requires
     returns
     same-length
