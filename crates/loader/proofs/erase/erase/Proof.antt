@@ -50,9 +50,9 @@ mul-erase : tie.Need-mul-erase
 mul-erase c = search needs
 
 erase-requires : tie.Need-erase-requires
-erase-requires c κs = let a = c .before .before .before .before .before .before .before .before .before .before .before .args in
-    let e = erase-let pages (a .loader) (a .address .0) (a .count) (given tt) (sym (c .before .before .before .before .before .before .judge .ensures) ∙ ap paperVerdict (c .before .before .before .before .enum-told .given .1)) in
-    omega (arith, e .0, e .1, c .before .before .before .before .before .before .before .before .before .before .before .pre, c .before .start .ensures, c .before .before .page .ensures)
+erase-requires c κs = let a = c .before .before .before .before .before .before .before .before .before .before .args in
+    let e = erase-let pages (a .loader) (a .address .0) (a .count) (given tt) (sym (c .before .before .before .before .before .judge .ensures) ∙ ap paperVerdict (c .before .before .before .enum-told .given .1)) in
+    omega (arith, e .0, e .1, c .before .before .before .before .before .before .before .before .before .before .pre, c .start .ensures, c .before .page .ensures)
 
 returns-3 : tie.Need-returns-3
 returns-3 c = let a = c .before .before .before .before .before .before .before .before .args in leaves-all _ _ (erasing-pages pages (a .loader) (a .address .0) (a .count) (a .flash .now) (c .before .before .before .before .before .before .if1 .left) (sym (c .before .before .before .before .before .is-mass .ensures) ∙ c .before .before .before .before .if2 .left) ∙ alike _ _ _ (sym (c .before .before .before .judge .ensures) ∙ ap paperVerdict (c .before .why .given .1)))
@@ -61,12 +61,12 @@ same-length-2 : tie.Need-same-length-2
 same-length-2 c = search needs
 
 returns-4 : tie.Need-returns-4
-returns-4 c = let a = c .before .before .before .before .before .before .before .before .before .before .before .before .before .before .args in
+returns-4 c = let a = c .before .before .before .before .before .before .before .before .before .before .before .before .before .args in
     does _ _
-    (erasing-pages pages (a .loader) (a .address .0) (a .count) (a .flash .now) (c .before .before .before .before .before .before .before .before .before .before .before .before .if1 .left) (sym (c .before .before .before .before .before .before .before .before .before .before .before .is-mass .ensures) ∙ c .before .before .before .before .before .before .before .before .before .before .if2 .left)
-    ∙ through _ _ _ (sym (c .before .before .before .before .before .before .before .before .before .judge .ensures) ∙ ap paperVerdict (c .before .before .before .before .before .before .before .enum-told .given .1)))
+    (erasing-pages pages (a .loader) (a .address .0) (a .count) (a .flash .now) (c .before .before .before .before .before .before .before .before .before .before .before .if1 .left) (sym (c .before .before .before .before .before .before .before .before .before .before .is-mass .ensures) ∙ c .before .before .before .before .before .before .before .before .before .if2 .left)
+    ∙ through _ _ _ (sym (c .before .before .before .before .before .before .before .before .judge .ensures) ∙ ap paperVerdict (c .before .before .before .before .before .before .enum-told .given .1)))
     refl refl
-    (c .before .before .erase .ensures ∙ ap (λ (s : ℕ). eraseOf (a .flash .now) s (a .count * pageSize)) (c .before .before .before .before .start .ensures ∙ ap startOf (c .before .before .before .before .before .page .ensures)))
+    (c .before .before .erase .ensures ∙ ap (λ (s : ℕ). eraseOf (a .flash .now) s (a .count * pageSize)) (c .before .before .before .start .ensures ∙ ap startOf (c .before .before .before .before .page .ensures)))
 
 pub erase-spec : {M : Type 1} → statement M
 erase-spec =
