@@ -99,7 +99,9 @@ unfoldable pub recordIn : ℕ → Hex → List ℕ → List ℕ → List ℕ →
 recordIn size h line image map =
     let b = decoded (drop 1 line) in
     first
-    (20 when sizeWrong size image map ∷ 21 when h .ended ∷ characterRows line ++ applyRows size h (length line) b map)
+    (20 when sizeWrong size image map
+    ∷ 21 when h .ended
+    ∷ characterRows line ++ applyRows size h (length line) b map)
     (given (effect h b image map))
 
 -- and its cuts: from 25 on, and from 29 on

@@ -56,7 +56,8 @@ lowest size map a = next (named map) a (size - a)
 unfoldable pub stepFrom : ℕ → List ℕ → List ℕ → ℕ → Step
 stepFrom size image map a =
     pick (ltb size a) (step [] a)
-    (pick (leb size (lowest size map a)) (step (text 0 1 []) (size + 1)) (recordFrom image map (lowest size map a)))
+    (pick (leb size (lowest size map a)) (step (text 0 1 []) (size + 1))
+    (recordFrom image map (lowest size map a)))
 
 -- writing into a buffer of n bytes: 20, 33, else the next record
 unfoldable pub writeIn : ℕ → List ℕ → List ℕ → ℕ → ℕ → Answer Step

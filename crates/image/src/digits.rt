@@ -21,7 +21,10 @@ pub fn digit(c: u8) -> u8
 pub fn decode(line: &[u8], bytes: &mut [u8]) -> bool
     requires { ⌜ (length (now line) % 2 ≡ 1) × (length (now line) / 2 ≤ length (now bytes)) ⌝ }
     ensures digits { λ r. ⌜ r ≡ allDigits (drop 1 (now (line .entry))) ⌝ }
-    ensures bytes { λ r. ⌜ (r ≡ true → take (length (now (line .entry)) / 2) (now (bytes .exit)) ≡ decoded (drop 1 (now (line .entry)))) ⌝ }
+    ensures bytes { λ r. ⌜
+        (r ≡ true
+        → take (length (now (line .entry)) / 2) (now (bytes .exit)) ≡ decoded (drop 1 (now (line .entry))))
+        ⌝ }
 {
     let n = line.len() / 2;
     let mut i = 0;

@@ -67,7 +67,8 @@ impl Hex {
         ensures { λ r. ⌜
             (let i = now (image .entry) in
             let m = now (map .entry) in
-            Reads r (now (image .exit)) (now (map .exit)) (recordIn flashSize self (now (line .entry)) i m) i m)
+            Reads r (now (image .exit)) (now (map .exit))
+            (recordIn flashSize self (now (line .entry)) i m) i m)
             ⌝ }
     {
         if image.len() != SIZE {
@@ -93,7 +94,8 @@ impl Hex {
         ensures { λ r. ⌜
             (let i = now (image .entry) in
             let m = now (map .entry) in
-            Reads r (now (image .exit)) (now (map .exit)) (recordIn flashSize self (now (line .entry)) i m) i m)
+            Reads r (now (image .exit)) (now (map .exit))
+            (recordIn flashSize self (now (line .entry)) i m) i m)
             ⌝ }
     {
         let spelt = characters(line, bytes);
@@ -114,7 +116,8 @@ impl Hex {
         ensures { λ r. ⌜
             (let i = now (image .entry) in
             let m = now (map .entry) in
-            Reads r (now (image .exit)) (now (map .exit)) (applyIn flashSize self n (now (bytes .entry)) i m) i m)
+            Reads r (now (image .exit)) (now (map .exit))
+            (applyIn flashSize self n (now (bytes .entry)) i m) i m)
             ⌝ }
     {
         let framed = framing(n, bytes);
@@ -140,7 +143,8 @@ impl Hex {
         ensures { λ r. ⌜
             (let i = now (image .entry) in
             let m = now (map .entry) in
-            Reads r (now (image .exit)) (now (map .exit)) (dataIn flashSize self (now (bytes .entry)) i m) i m)
+            Reads r (now (image .exit)) (now (map .exit))
+            (dataIn flashSize self (now (bytes .entry)) i m) i m)
             ⌝ }
     {
         let count = wide(bytes[0]);

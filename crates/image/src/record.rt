@@ -58,7 +58,10 @@ pub enum Check {
 pub fn characters(line: &[u8], bytes: &mut [u8]) -> Check
     requires { ⌜ 260 ≤ length (now bytes) ⌝ }
     ensures answer { λ r. ⌜ paperCheck r ≡ charactersOf (now (line .entry)) ⌝ }
-    ensures bytes { λ r. ⌜ (paperCheck r ≡ given tt → take (length (now (line .entry)) / 2) (now (bytes .exit)) ≡ decoded (drop 1 (now (line .entry)))) ⌝ }
+    ensures bytes { λ r. ⌜
+        (paperCheck r ≡ given tt
+        → take (length (now (line .entry)) / 2) (now (bytes .exit)) ≡ decoded (drop 1 (now (line .entry))))
+        ⌝ }
 {
     let n = line.len();
     if n == 0 {

@@ -11,6 +11,7 @@ use crate::record::Refusal;
 use basis::board::END;
 use basis::board::MAP;
 use basis::board::SIZE;
+use basis::sums::complement;
 use basis::sums::sum;
 use basis::units::Address;
 use runs::places::next_named;
@@ -21,11 +22,12 @@ pub enum Written {
     Record { length: usize, next: Address },
 }
 
-// The record that starts at the lowest named byte from `from` on, closed by 0A; the end record where there is none.
-// From above the board nothing is written.
+// The record that starts at the lowest named byte from `from` on, closed by 0A; the end record
+// where there is none. From above the board nothing is written.
 pub fn write(image: &[u8], map: &[u8], from: Address, buffer: &mut [u8]) -> Written
     ensures { λ r. ⌜
-        (let w = writeIn flashSize (now (image .entry)) (now (map .entry)) (from .0) (length (now (buffer .entry))) in
+        (let n = length (now (buffer .entry)) in
+        let w = writeIn flashSize (now (image .entry)) (now (map .entry)) (from .0) n in
         (paperWritten r ≡ measured w) × (now (buffer .exit) ≡ overlay (textBytes w) (now (buffer .entry))))
         ⌝ }
 {
@@ -67,12 +69,14 @@ pub fn write(image: &[u8], map: &[u8], from: Address, buffer: &mut [u8]) -> Writ
 fn print(address: u16, kind: u8, bytes: &[u8], buffer: &mut [u8]) -> usize
     requires { ⌜ (length (now bytes) ≤ 16) × (44 ≤ length (now buffer)) ⌝ }
     ensures length { λ r. ⌜ r ≡ length (text address kind (now (bytes .entry))) ⌝ }
-    ensures buffer { λ _. ⌜ now (buffer .exit) ≡ overlay (text address kind (now (bytes .entry))) (now (buffer .entry)) ⌝ }
+    ensures buffer { λ _. ⌜
+        now (buffer .exit) ≡ overlay (text address kind (now (bytes .entry))) (now (buffer .entry))
+        ⌝ }
 {
     let n = bytes.len();
     let head = [n as u8, (address / 256) as u8, (address % 256) as u8, kind];
     let total = std::num::wrapping_add_u8(sum(&head), sum(bytes));
-    let check = [std::num::wrapping_sub_u8(0, total)];
+    let check = [complement(total)];
     let end = 9 + 2 * n;
     buffer[0] = b':';
     spell(buffer, 1, &head);

@@ -40,7 +40,8 @@ packetMost = 259
 -- building into a buffer with room for so many bytes: 20, 5, 6, else the packet;
 -- P's type is the first data byte, 0 where there is none, which no row looks at
 unfoldable pub buildOf : ℕ → ℕ → ℕ → List ℕ → Answer (List ℕ)
-buildOf room c a d = first (20 when ltb room packetMost ∷ table c (length d + 5) (getD d 0 0)) (given (packet c a d))
+buildOf room c a d =
+    first (20 when ltb room packetMost ∷ table c (length d + 5) (getD d 0 0)) (given (packet c a d))
 
 -- where an input has N, the command, the byte after the address, and the address
 abbrev pub count : List ℕ → ℕ

@@ -23,7 +23,10 @@ pub struct Pass {
 
 // From the tally of the words below `from` to that of the words below `to`.
 pub fn over_words(map: &[u8], tally: Tally, from: usize, to: usize) -> Tally
-    requires { ⌜ (from ≤ to) × (8 * to ≤ length (now map)) × (to < 2 ^ 24) × (tally ≡ tallyAt (named (now map)) pieceMost (64 * from)) ⌝ }
+    requires { ⌜
+        (from ≤ to) × (8 * to ≤ length (now map)) × (to < 2 ^ 24)
+        × (tally ≡ tallyAt (named (now map)) pieceMost (64 * from))
+        ⌝ }
     ensures { λ r. ⌜ r ≡ tallyAt (named (now (map .entry))) pieceMost (64 * to) ⌝ }
 {
     let mut t = tally;
@@ -37,7 +40,10 @@ pub fn over_words(map: &[u8], tally: Tally, from: usize, to: usize) -> Tally
 
 // From the tally of the addresses below `from` to that of the addresses below `to`.
 pub fn over_places(map: &[u8], tally: Tally, from: Address, to: Address) -> Tally
-    requires { ⌜ (from .0 ≤ to .0) × (to .0 ≤ 8 * length (now map)) × (to .0 < 2 ^ 30) × (tally ≡ tallyAt (named (now map)) pieceMost (from .0)) ⌝ }
+    requires { ⌜
+        (from .0 ≤ to .0) × (to .0 ≤ 8 * length (now map)) × (to .0 < 2 ^ 30)
+        × (tally ≡ tallyAt (named (now map)) pieceMost (from .0))
+        ⌝ }
     ensures { λ r. ⌜ r ≡ tallyAt (named (now (map .entry))) pieceMost (to .0) ⌝ }
 {
     let end = to.0;
@@ -52,7 +58,10 @@ pub fn over_places(map: &[u8], tally: Tally, from: Address, to: Address) -> Tall
 
 // From what a pass has met below the page `from` to what it has met below the page `to`.
 pub fn over_pages(map: &[u8], pass: Pass, from: Page, to: Page) -> Pass
-    requires { ⌜ (from .0 ≤ to .0) × (startOf (to .0) ≤ 8 * length (now map)) × (to .0 < 2 ^ 16) × (pass ≡ passAt (now map) (from .0)) ⌝ }
+    requires { ⌜
+        (from .0 ≤ to .0) × (startOf (to .0) ≤ 8 * length (now map)) × (to .0 < 2 ^ 16)
+        × (pass ≡ passAt (now map) (from .0))
+        ⌝ }
     ensures { λ r. ⌜ r ≡ passAt (now (map .entry)) (to .0) ⌝ }
 {
     let mut bytes = pass.bytes;

@@ -1,4 +1,5 @@
-// Named addresses in order: the next one, whether there is one in a row, how many stand in one, and naming them all.
+// Named addresses in order: the next one, whether one of some is named, how many stand in a row.
+// And naming some that stand in a row.
 ghost use mathlib.Core.Path.{_≡_};
 ghost use Prim.Native.Nat.{_+_, _-_, _*_, _^_, _<_, _≤_};
 ghost use lib.ListN.{length};

@@ -72,7 +72,10 @@ pub fn survey(map: &[u8], at: Address) -> Surveyed
 
 // From the tally of the addresses below a page to that of the addresses below one of the page's.
 fn up_to(map: &[u8], tally: Tally, page: Page, at: Address) -> Tally
-    requires { ⌜ (startOf (page .0) ≤ at .0) × (at .0 < flashSize) × (length (now map) ≡ mapSize) × (tally ≡ tallyAt (named (now map)) pieceMost (startOf (page .0))) ⌝ }
+    requires { ⌜
+        (startOf (page .0) ≤ at .0) × (at .0 < flashSize) × (length (now map) ≡ mapSize)
+        × (tally ≡ tallyAt (named (now map)) pieceMost (startOf (page .0)))
+        ⌝ }
     ensures { λ r. ⌜ r ≡ tallyAt (named (now (map .entry))) pieceMost (at .0) ⌝ }
 {
     // The word that `at` lies in.

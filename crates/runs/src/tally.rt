@@ -43,7 +43,10 @@ impl Tally {
     // 64 places more: the bits of a word, the lowest first.
     // Each of its runs starts a piece, but for one that goes on from before.
     pub fn took_word(self, word: u64, cap: u32) -> Tally
-        requires { ⌜ (self .passed < 2 ^ 31) × (self .pieces < 2 ^ 31) × (self .off < cap) × (64 ≤ cap) × (cap < 2 ^ 31) ⌝ }
+        requires { ⌜
+            (self .passed < 2 ^ 31) × (self .pieces < 2 ^ 31) × (self .off < cap)
+            × (64 ≤ cap) × (cap < 2 ^ 31)
+            ⌝ }
         ensures { λ r. ⌜ r ≡ tookBits cap self word 64 ⌝ }
     {
         if word == 0 {
@@ -70,7 +73,10 @@ impl Tally {
 
     // 64 places more that all pass.
     fn took_whole(self, cap: u32) -> Tally
-        requires { ⌜ (self .passed < 2 ^ 31) × (self .pieces < 2 ^ 31) × (self .off < cap) × (64 ≤ cap) × (cap < 2 ^ 31) ⌝ }
+        requires { ⌜
+            (self .passed < 2 ^ 31) × (self .pieces < 2 ^ 31) × (self .off < cap)
+            × (64 ≤ cap) × (cap < 2 ^ 31)
+            ⌝ }
         ensures { λ r. ⌜ r ≡ tookBits cap self (2 ^ 64 - 1) 64 ⌝ }
     {
         let joined = joins(self.off, 64, cap);

@@ -22,7 +22,8 @@ refused-one e = cc
 
 module _ {A : Type 0} where
   -- a row whose test fails is passed over
-  pub skip : (n : ℕ) (t : Bool) (l : List Rule) (r : Answer A) → t ≡ false → first (n when t ∷ l) r ≡ first l r
+  pub skip : (n : ℕ) (t : Bool) (l : List Rule) (r : Answer A) → t ≡ false
+      → first (n when t ∷ l) r ≡ first l r
   unfolding first
   skip n t l r e = simp e
 
@@ -66,7 +67,8 @@ alike {A} {B} {n} l x y e = first-then l (given y) ∙ go (first l (given tt)) (
     go (given u) e = absurd (apart (sym e))
 
 -- and lets through alike
-pub through : {A B : Type 0} {z : A} (l : List Rule) (x : A) (r : Answer B) → first l (given x) ≡ given z → first l r ≡ r
+pub through : {A B : Type 0} {z : A} (l : List Rule) (x : A) (r : Answer B) → first l (given x) ≡ given z
+    → first l r ≡ r
 through {A} {B} {z} l x r e = first-then l r ∙ go (first l (given tt)) (sym (first-then l (given x)) ∙ e)
   where
     go : (a : Answer (Unit {0})) → andThen a (given x) ≡ given z → andThen a r ≡ r
@@ -101,12 +103,17 @@ pub back-one : {A B : Type 0} (paper : A → B) (by : B → A)
 back-one paper by back x y e = sym (back x) ∙ ap by e ∙ back y
 
 -- two outcomes that one equation permits are equal, where the paper tells all cases apart
-pub determined : {A B : Type 0} (paper : A → B) → ((r s : A) → paper r ≡ paper s → r ≡ s) → {x : B} (r s : A) → paper r ≡ x → paper s ≡ x → r ≡ s
+pub determined : {A B : Type 0} (paper : A → B) → ((r s : A) → paper r ≡ paper s → r ≡ s)
+    → {x : B} (r s : A) → paper r ≡ x → paper s ≡ x
+    → r ≡ s
 determined paper one r s p q = one r s (p ∙ sym q)
 
 -- what a function that fills a lent buffer shows: a refusal leaves it, an acceptance writes its bytes
-pub leaves : {b : Answer (List ℕ)} {n : ℕ} (old : List ℕ) → b ≡ refused n → (refused n ≡ counted b) × (old ≡ overlay (written b) old)
+pub leaves : {b : Answer (List ℕ)} {n : ℕ} (old : List ℕ) → b ≡ refused n
+    → (refused n ≡ counted b) × (old ≡ overlay (written b) old)
 leaves old e = rw e (refl, refl)
 
-pub writes : {b : Answer (List ℕ)} {s : List ℕ} {n : ℕ} (old after : List ℕ) → b ≡ given s → n ≡ length s → after ≡ overlay s old → (given n ≡ counted b) × (after ≡ overlay (written b) old)
+pub writes : {b : Answer (List ℕ)} {s : List ℕ} {n : ℕ} (old after : List ℕ) → b ≡ given s → n ≡ length s
+    → after ≡ overlay s old
+    → (given n ≡ counted b) × (after ≡ overlay (written b) old)
 writes old after e f g = rw e (ap given f, g)

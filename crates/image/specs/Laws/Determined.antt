@@ -86,4 +86,5 @@ pub write-determined : (a : Answer Step) (r s : Written) (x y old : List ℕ)
     → (paperWritten r ≡ measured a) × (x ≡ overlay (textBytes a) old)
     → (paperWritten s ≡ measured a) × (y ≡ overlay (textBytes a) old)
     → (r ≡ s) × (x ≡ y)
-write-determined a r s x y old p q = (determined paperWritten written-one r s (p .0) (q .0), p .1 ∙ sym (q .1))
+write-determined a r s x y old p q =
+    (determined paperWritten written-one r s (p .0) (q .0), p .1 ∙ sym (q .1))

@@ -31,7 +31,8 @@ shape-count b e n0 n1 =
 -- BB as the length says
 pub framing-count : (n : ℕ) (b : List ℕ) → framingOf n b ≡ given tt → n ≡ 11 + 2 * count b
 unfolding framingOf
-framing-count n b e = eqb-true _ _ (not-false (eqb n (11 + 2 * count b)) (passed 25 (countWrong n b) _ _ e .0))
+framing-count n b e =
+    eqb-true _ _ (not-false (eqb n (11 + 2 * count b)) (passed 25 (countWrong n b) _ _ e .0))
 
 -- a length of 11 to 521, and odd
 pub record Long (n : ℕ) : Type 0 where
@@ -128,7 +129,9 @@ data-placed : (size : ℕ) (h : Hex) (b image map : List ℕ)
 unfolding first dataIn
 data-placed size h b image map l e = rw (le-ltb _ _ l, both-none (ltb 0 (count b)), e)
 
-end-read : (size : ℕ) (h : Hex) (image map : List ℕ) → andThen (charactersOf (line 0 1 [])) (applyIn size h (length (line 0 1 [])) (decoded (drop 1 (line 0 1 []))) image map)
+end-read : (size : ℕ) (h : Hex) (image map : List ℕ)
+    → andThen (charactersOf (line 0 1 []))
+    (applyIn size h (length (line 0 1 [])) (decoded (drop 1 (line 0 1 []))) image map)
     ≡ given (file (hex (h .linear) (h .segment) true (h .taken)) image map)
 unfolding first charactersOf applyIn digitOf allDigits decoded sumOf plainSum letterOf spelt
 end-read size h image map = refl
@@ -148,5 +151,6 @@ module _ (size : ℕ) (h : Hex) (image map : List ℕ) (right : sizeWrong size i
       ∙ rw (spelling-characters b bytes long, spelt-bytes b bytes, apply-cut size h image map (length (0x3A ∷ spelt b)) b, spelling-framing b bytes long sum, shape-data b zero, eq-eqb _ _ zero) (data-placed size h b image map fits free)
 
   -- the end record
-  pub end-taken : recordIn size h (line 0 1 []) image map ≡ given (file (hex (h .linear) (h .segment) true (h .taken)) image map)
+  pub end-taken : recordIn size h (line 0 1 []) image map
+      ≡ given (file (hex (h .linear) (h .segment) true (h .taken)) image map)
   end-taken = record-cut size h image map (line 0 1 []) right going ∙ end-read size h image map

@@ -53,7 +53,9 @@ place-at : (h : Hex) (a : ℕ) (s : List ℕ) → h .linear ≡ 0 → h .segment
 place-at h a s l g = omega arith
 
 -- what a data record at a does to a reader with both bases 0
-placed-at : (h : Hex) (a : ℕ) (s image map : List ℕ) → h .linear ≡ 0 → h .segment ≡ 0 → placed h (closed a s) image map ≡ file (fed h (length s)) (copyOf image a s) (nameAllOf map a (length s))
+placed-at : (h : Hex) (a : ℕ) (s image map : List ℕ) → h .linear ≡ 0 → h .segment ≡ 0
+    → placed h (closed a s) image map
+    ≡ file (fed h (length s)) (copyOf image a s) (nameAllOf map a (length s))
 placed-at h a s image map l g =
     let p : place h (closed a s) ≡ a = place-at h a s l g in
     rw (p, take-at s (checksumOf (content a 0 s) ∷ []) (length s) refl)
@@ -83,11 +85,13 @@ module _ (size : ℕ) (image map : List ℕ) where
         let e : low + (j - low) ≡ j = omega arith in
         rw e at (len-in (named map) (16 - low % 16) low (j - low) (omega arith))
 
-  step-end : (a : ℕ) → a ≤ size → size ≤ lowest size map a → stepFrom size image map a ≡ step (text 0 1 []) (size + 1)
+  step-end : (a : ℕ) → a ≤ size → size ≤ lowest size map a
+      → stepFrom size image map a ≡ step (text 0 1 []) (size + 1)
   unfolding stepFrom
   step-end a l h = simp (le-ltb _ _ l, le-leb _ _ h)
 
-  step-run : (a : ℕ) → a ≤ size → lowest size map a < size → stepFrom size image map a ≡ recordFrom image map (lowest size map a)
+  step-run : (a : ℕ) → a ≤ size → lowest size map a < size
+      → stepFrom size image map a ≡ recordFrom image map (lowest size map a)
   unfolding stepFrom
   step-run a l h = simp (le-ltb _ _ l, lt-leb _ _ h)
 
@@ -95,7 +99,8 @@ module _ (size : ℕ) (image map : List ℕ) where
   unfolding stepFrom
   beyond a h = simp (lt-ltb _ _ h)
 
-  lines-step : (a k b c d : ℕ) (s : List ℕ) → a ≤ size → stepFrom size image map a ≡ step (text b c s) d → lines size image map a (suc k) ≡ line b c s ∷ lines size image map d k
+  lines-step : (a k b c d : ℕ) (s : List ℕ) → a ≤ size → stepFrom size image map a ≡ step (text b c s) d
+      → lines size image map a (suc k) ≡ line b c s ∷ lines size image map d k
   unfolding lines
   lines-step a k b c d s l e = rw (le-ltb size a l, e, unended-text b c s)
 
@@ -104,7 +109,9 @@ module _ (size : ℕ) (image map : List ℕ) where
   lines-past zero = refl
   lines-past (suc k) = let h : size < size + 1 = omega arith in rw (lt-ltb size (size + 1) h)
 
-  read-step : (l : List ℕ) (s : List (List ℕ)) (f g : File) → recordIn size (f .reader) l (f .image) (f .map) ≡ given g → readLines size (l ∷ s) f ≡ readLines size s g
+  read-step : (l : List ℕ) (s : List (List ℕ)) (f g : File)
+      → recordIn size (f .reader) l (f .image) (f .map) ≡ given g
+      → readLines size (l ∷ s) f ≡ readLines size s g
   unfolding readLines
   read-step l s f g e = rw e
 
@@ -148,7 +155,8 @@ module _ (size : ℕ) (image map : List ℕ) where
     pub bytes : (j : ℕ) → j < a → named map j ≡ true → getD (f .image) j 0 ≡ getD image j 0
 
   -- where nothing is named nothing is missed
-  upto-skip : (a b : ℕ) (f : File) → Upto a f → a ≤ b → ((j : ℕ) → a ≤ j → j < b → named map j ≡ false) → Upto b f
+  upto-skip : (a b : ℕ) (f : File) → Upto a f → a ≤ b → ((j : ℕ) → a ≤ j → j < b → named map j ≡ false)
+      → Upto b f
   upto-skip a b f u l h =
       record {
         linear = u .linear;
@@ -158,12 +166,17 @@ module _ (size : ℕ) (image map : List ℕ) where
         imageLength = u .imageLength;
         mapLength = u .mapLength;
         mapBytes = u .mapBytes;
-        below = λ j m. decide (ltb j a) (λ e. u .below j (ltb-true j a e)) (λ e. u .above j (ltb-false j a e) ∙ sym (h j (ltb-false j a e) m));
+        below =
+            λ j m. decide (ltb j a) (λ e. u .below j (ltb-true j a e))
+            (λ e. u .above j (ltb-false j a e) ∙ sym (h j (ltb-false j a e) m));
         above = λ j m. u .above j (omega arith);
-        bytes = λ j m e. decide (ltb j a) (λ t. u .bytes j (ltb-true j a t) e) (λ t. absurd (true-false (sym e ∙ h j (ltb-false j a t) m)));
+        bytes =
+            λ j m e. decide (ltb j a) (λ t. u .bytes j (ltb-true j a t) e)
+            (λ t. absurd (true-false (sym e ∙ h j (ltb-false j a t) m)));
       }
     where
-      by : (j : ℕ) → (j < a → named map j ≡ false) → (a ≤ j → j < b → named map j ≡ false) → j < b → named map j ≡ false
+      by : (j : ℕ) → (j < a → named map j ≡ false) → (a ≤ j → j < b → named map j ≡ false) → j < b
+          → named map j ≡ false
       by j p q m = decide (ltb j a) (λ e. p (ltb-true j a e)) (λ e. q (ltb-false j a e) m)
 
   module _ (fits : size ≤ 65536) (imageBytes : Bytes image) where
@@ -209,9 +222,15 @@ module _ (size : ℕ) (image map : List ℕ) where
             imageLength = length-stored new (f .image) a part ∙ u .imageLength;
             mapLength = name-all-length (f .map) a n ∙ u .mapLength;
             mapBytes = name-all-bytes (f .map) a n room (u .mapBytes);
-            below = λ j m. decide (ltb j a) (λ e. name-all-below (f .map) a n j room (ltb-true j a e) ∙ u .below j (ltb-true j a e)) (λ e. name-all-in (f .map) a n j room (ltb-false j a e) m ∙ sym (run j (ltb-false j a e) m));
+            below =
+                λ j m. decide (ltb j a)
+                (λ e. name-all-below (f .map) a n j room (ltb-true j a e) ∙ u .below j (ltb-true j a e))
+                (λ e. name-all-in (f .map) a n j room (ltb-false j a e) m ∙ sym (run j (ltb-false j a e) m));
             above = λ j m. name-all-above (f .map) a n j room m ∙ u .above j (omega arith);
-            bytes = λ j m e. decide (ltb j a) (λ t. stored-below new (f .image) a part j (ltb-true j a t) ∙ u .bytes j (ltb-true j a t) e) (λ t. copied j (ltb-false j a t) m);
+            bytes =
+                λ j m e. decide (ltb j a)
+                (λ t. stored-below new (f .image) a part j (ltb-true j a t) ∙ u .bytes j (ltb-true j a t) e)
+                (λ t. copied j (ltb-false j a t) m);
           }
         where
           copied : (j : ℕ) → a ≤ j → j < a + n → getD (copyOf (f .image) a part) j 0 ≡ getD image j 0
@@ -261,8 +280,12 @@ module _ (size : ℕ) (image map : List ℕ) where
                 back =
                     record {
                       closes = closed-well;
-                      sameMap = named-only (f .map) map (u .mapLength ∙ sym ml) (u .mapBytes) mapBytes (λ j. decide (ltb j a) (λ e. u .below j (ltb-true j a e)) (λ e. u .above j (ltb-false j a e) ∙ sym (none-named j (ltb-false j a e))));
-                      sameBytes = λ j e. decide (ltb j a) (λ t. u .bytes j (ltb-true j a t) e) (λ t. absurd (true-false (sym e ∙ none-named j (ltb-false j a t))));
+                      sameMap =
+                          named-only (f .map) map (u .mapLength ∙ sym ml) (u .mapBytes) mapBytes
+                          (λ j. decide (ltb j a) (λ e. u .below j (ltb-true j a e)) (λ e. u .above j (ltb-false j a e) ∙ sym (none-named j (ltb-false j a e))));
+                      sameBytes =
+                          λ j e. decide (ltb j a) (λ t. u .bytes j (ltb-true j a t) e)
+                          (λ t. absurd (true-false (sym e ∙ none-named j (ltb-false j a t))));
                     };
               }
 
@@ -311,7 +334,9 @@ module _ (size : ℕ) (image map : List ℕ) where
             (λ e. let h : lowest size map a < size = leb-false _ _ e in
             at-run a k f u l h (from-here k (lowest size map a + far a k f u l h) (onto a k f u l h) (onto-upto a k f u l h) (far-end a k f u l h) (fewer a k f u l h m)))
           where
-            fewer : (a k : ℕ) (f : File) (u : Upto a f) (l : a ≤ size) (h : lowest size map a < size) → size - a < suc k → size - (lowest size map a + far a k f u l h) < k
+            fewer : (a k : ℕ) (f : File) (u : Upto a f) (l : a ≤ size) (h : lowest size map a < size)
+                → size - a < suc k
+                → size - (lowest size map a + far a k f u l h) < k
             fewer a k f u l h m = omega (arith, next-ge (named map) (size - a) a, run-some a h)
 
         file-returns : Returned size image map 0 (size + 1) (started size)
@@ -344,8 +369,10 @@ pub round-trip : (size : ℕ) (image map : List ℕ)
     → (x : ℕ)
     → named map x ≡ true
     → Returned size image map 0 (size + 1) (started size)
-round-trip size image map fits whole il ml ib mb x nx = file-returns size image map fits ib whole il ml mb x nx
+round-trip size image map fits whole il ml ib mb x nx =
+    file-returns size image map fits ib whole il ml mb x nx
 
 -- The writer has given its end record after at most size + 1 records.
-pub end-comes : (size : ℕ) (image map : List ℕ) → size % 16 ≡ 0 → addressAfter size image map 0 (size + 1) ≡ size + 1
+pub end-comes : (size : ℕ) (image map : List ℕ) → size % 16 ≡ 0
+    → addressAfter size image map 0 (size + 1) ≡ size + 1
 end-comes size image map whole = writer-ends size image map whole (size + 1) 0 (omega arith) (omega arith)

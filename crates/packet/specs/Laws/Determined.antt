@@ -24,7 +24,9 @@ use Rattle.packet.specs.declared.table.Row.the-variants as row
 
 -- the command of a byte, and the refusal of a number
 commandBy : ℕ → Command
-commandBy n = pick (eqb n 0x45) Erase (pick (eqb n 0x57) Write (pick (eqb n 0x56) Verify (pick (eqb n 0x50) Protect Run)))
+commandBy n =
+    pick (eqb n 0x45) Erase
+    (pick (eqb n 0x57) Write (pick (eqb n 0x56) Verify (pick (eqb n 0x50) Protect Run)))
 
 command-back : (c : Command) → commandBy (paperCommand c) ≡ c
 unfolding commandBy
@@ -102,5 +104,6 @@ reading-one (reading.Packet p) (reading.Refused y) e = absurd (apart (sym e))
 reading-one (reading.Refused x) (reading.Packet q) e = absurd (apart e)
 reading-one (reading.Refused x) (reading.Refused y) e = ap reading.Refused (refusal-one x y (refused-one e))
 
-pub read-determined : {a : Answer Parts} (r s : Reading.Reading) → paperReading r ≡ a → paperReading s ≡ a → r ≡ s
+pub read-determined : {a : Answer Parts} (r s : Reading.Reading) → paperReading r ≡ a → paperReading s ≡ a
+    → r ≡ s
 read-determined = determined paperReading reading-one

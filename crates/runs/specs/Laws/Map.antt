@@ -34,7 +34,10 @@ one-bit i j hi hj =
 
 -- a bit of an OR with a single bit
 or-at : (x i j : ℕ) → i < 8 → j < 8 → bit (bitOr x (2 ^ i)) j ≡ either (bit x j) (eqb j i)
-or-at x i j hi hj = bit-or x (2 ^ i) j ∙ ap (λ (u : ℕ). either (bit x j) (eqb u 1)) (one-bit i j hi hj) ∙ ap (either (bit x j)) (one (eqb j i))
+or-at x i j hi hj =
+    bit-or x (2 ^ i) j
+    ∙ ap (λ (u : ℕ). either (bit x j) (eqb u 1)) (one-bit i j hi hj)
+    ∙ ap (either (bit x j)) (one (eqb j i))
   where
     one : (t : Bool) → eqb (pick t 1 0) 1 ≡ t
     one true = refl
@@ -57,7 +60,9 @@ name-named : (m : List ℕ) (a b : ℕ) → a < 8 * length m → named (nameOf m
 unfolding named nameOf
 name-named m a b h = go (ℕ-discrete (b / 8) (a / 8))
   where
-    go : Dec (b / 8 ≡ a / 8) → bit (getD (set m (a / 8) (bitOr (getD m (a / 8) 0) (2 ^ (a % 8)))) (b / 8) 0) (b % 8) ≡ either (bit (getD m (b / 8) 0) (b % 8)) (eqb b a)
+    go : Dec (b / 8 ≡ a / 8)
+        → bit (getD (set m (a / 8) (bitOr (getD m (a / 8) 0) (2 ^ (a % 8)))) (b / 8) 0) (b % 8)
+        ≡ either (bit (getD m (b / 8) 0) (b % 8)) (eqb b a)
     go (yes e) =
         rw (e, getD-set-same m (a / 8) (bitOr (getD m (a / 8) 0) (2 ^ (a % 8))) 0 (omega arith), or-at (getD m (a / 8) 0) (a % 8) (b % 8) (omega arith) (omega arith), same-place a b e)
     go (no ne) =
@@ -108,7 +113,9 @@ unfolding value
 byte-value b h = agree (λ (b : ℕ). value (bit b) 8) (λ (b : ℕ). b) 256 tt b h
 
 -- a map is known by what it names
-pub named-only : (m n : List ℕ) → length m ≡ length n → Bytes m → Bytes n → ((a : ℕ) → named m a ≡ named n a) → m ≡ n
+pub named-only : (m n : List ℕ) → length m ≡ length n → Bytes m → Bytes n
+    → ((a : ℕ) → named m a ≡ named n a)
+    → m ≡ n
 unfolding named
 named-only m n e hm hn h =
     ext-getD 0 m n e (λ i l. sym (byte-value (getD m i 0) (hm i)) ∙ value-same _ _ 8 (same i) ∙ byte-value (getD n i 0) (hn i))
@@ -132,26 +139,31 @@ name-all-bytes m a zero l h = h
 name-all-bytes m a (suc n) l h =
     name-all-bytes (nameOf m a) (a + 1) n (omega (arith, name-length m a)) (name-bytes m a (omega arith) h)
 
-pub name-all-below : (m : List ℕ) (a n j : ℕ) → a + n ≤ 8 * length m → j < a → named (nameAllOf m a n) j ≡ named m j
+pub name-all-below : (m : List ℕ) (a n j : ℕ) → a + n ≤ 8 * length m → j < a
+    → named (nameAllOf m a n) j ≡ named m j
 unfolding nameAllOf
 name-all-below m a zero j l h = refl
 name-all-below m a (suc n) j l h =
     name-all-below (nameOf m a) (a + 1) n j (omega (arith, name-length m a)) (omega arith)
     ∙ name-other m a j (omega arith) (λ e. omega arith)
 
-pub name-all-above : (m : List ℕ) (a n j : ℕ) → a + n ≤ 8 * length m → a + n ≤ j → named (nameAllOf m a n) j ≡ named m j
+pub name-all-above : (m : List ℕ) (a n j : ℕ) → a + n ≤ 8 * length m → a + n ≤ j
+    → named (nameAllOf m a n) j ≡ named m j
 unfolding nameAllOf
 name-all-above m a zero j l h = refl
 name-all-above m a (suc n) j l h =
     name-all-above (nameOf m a) (a + 1) n j (omega (arith, name-length m a)) (omega arith)
     ∙ name-other m a j (omega arith) (λ e. omega arith)
 
-pub name-all-in : (m : List ℕ) (a n j : ℕ) → a + n ≤ 8 * length m → a ≤ j → j < a + n → named (nameAllOf m a n) j ≡ true
+pub name-all-in : (m : List ℕ) (a n j : ℕ) → a + n ≤ 8 * length m → a ≤ j → j < a + n
+    → named (nameAllOf m a n) j ≡ true
 unfolding nameAllOf
 name-all-in m a zero j l h k = absurd (omega arith)
-name-all-in m a (suc n) j l h k = go (ℕ-discrete j a) (name-all-in (nameOf m a) (a + 1) n j (omega (arith, name-length m a)))
+name-all-in m a (suc n) j l h k =
+    go (ℕ-discrete j a) (name-all-in (nameOf m a) (a + 1) n j (omega (arith, name-length m a)))
   where
-    go : Dec (j ≡ a) → (a + 1 ≤ j → j < a + 1 + n → named (nameAllOf (nameOf m a) (a + 1) n) j ≡ true) → named (nameAllOf (nameOf m a) (a + 1) n) j ≡ true
+    go : Dec (j ≡ a) → (a + 1 ≤ j → j < a + 1 + n → named (nameAllOf (nameOf m a) (a + 1) n) j ≡ true)
+        → named (nameAllOf (nameOf m a) (a + 1) n) j ≡ true
     go (yes e) f =
         name-all-below (nameOf m a) (a + 1) n j (omega (arith, name-length m a)) (omega arith) ∙ rw e (name-same m a (omega arith))
     go (no e) f = f (above e) (omega arith)

@@ -48,7 +48,8 @@ module _ (p : ℕ → Bool) (cap : ℕ) where
 
   pub off-below : 0 < cap → (a : ℕ) → off p cap a < cap
   off-below z zero = omega (arith, off-zero)
-  off-below z (suc a) = off-next a (λ t e. omega arith) (λ t w e. omega arith) (λ t n e. omega (arith, off-below z a))
+  off-below z (suc a) =
+      off-next a (λ t e. omega arith) (λ t w e. omega arith) (λ t n e. omega (arith, off-below z a))
 
   -- ---- starts
 
@@ -103,7 +104,9 @@ module _ (p : ℕ → Bool) (cap : ℕ) where
       (eq-or-lt-of-le (le-of-suc-le-suc l)))
 
   -- every number that passes lies in a piece
-  pub in-piece : 0 < cap → (a : ℕ) → p a ≡ true → (starts p cap (home p cap a) ≡ true) × (home p cap a ≤ a) × (a < home p cap a + len p (home p cap a) cap)
+  pub in-piece : 0 < cap → (a : ℕ) → p a ≡ true
+      → (starts p cap (home p cap a) ≡ true) × (home p cap a ≤ a) × (a < home p cap a + len p
+      (home p cap a) cap)
   in-piece z a t = (home-starts a t, omega arith, omega (arith, home-in z a t, off-le a))
 
   -- ---- what a piece holds
@@ -130,7 +133,8 @@ module _ (p : ℕ → Bool) (cap : ℕ) where
 
   -- it holds one at least
   pub piece-some : 0 < cap → (s : ℕ) → starts p cap s ≡ true → 0 < len p s cap
-  piece-some z s h = len-ge p cap s 1 z (λ i l. subst (λ (k : ℕ). p k ≡ true) (omega arith) (starts-off s h .0))
+  piece-some z s h =
+      len-ge p cap s 1 z (λ i l. subst (λ (k : ℕ). p k ≡ true) (omega arith) (starts-off s h .0))
 
   -- pieces are disjoint, and stand in the order of their starts
   pub pieces-apart : (s u : ℕ) → starts p cap s ≡ true → starts p cap u ≡ true → s < u → s + len p s cap ≤ u
@@ -140,7 +144,8 @@ module _ (p : ℕ → Bool) (cap : ℕ) where
       (λ d. ltb-false _ _ d)
 
   -- up to a number in the piece at s, as many pieces start as up to s
-  pub rank-in : (s a : ℕ) → starts p cap s ≡ true → s ≤ a → a < s + len p s cap → count (starts p cap) (a + 1) ≡ suc (count (starts p cap) s)
+  pub rank-in : (s a : ℕ) → starts p cap s ≡ true → s ≤ a → a < s + len p s cap
+      → count (starts p cap) (a + 1) ≡ suc (count (starts p cap) s)
   rank-in s a h g l =
       let k : suc s + (a - s) ≡ a + 1 = omega arith in
       sym (ap (count (starts p cap)) k)
@@ -151,7 +156,9 @@ module _ (p : ℕ → Bool) (cap : ℕ) where
   pub rank-some : 0 < cap → (a : ℕ) → p a ≡ true → 0 < count (starts p cap) (a + 1)
   rank-some z a t = let i = in-piece z a t in omega (arith, rank-in (home p cap a) a (i .0) (i .1) (i .2))
 
-  pub rank-home : 0 < cap → (s a : ℕ) → starts p cap s ≡ true → p a ≡ true → count (starts p cap) (a + 1) ≡ suc (count (starts p cap) s) → (s ≤ a) × (a < s + len p s cap)
+  pub rank-home : 0 < cap → (s a : ℕ) → starts p cap s ≡ true → p a ≡ true
+      → count (starts p cap) (a + 1) ≡ suc (count (starts p cap) s)
+      → (s ≤ a) × (a < s + len p s cap)
   rank-home z s a h t e =
       let i = in-piece z a t in
       let q : home p cap a ≡ s = rank-only (starts p cap) (home p cap a) s (i .0) h (omega (arith, rank-in (home p cap a) a (i .0) (i .1) (i .2))) in
@@ -170,7 +177,8 @@ module _ (p : ℕ → Bool) (cap : ℕ) where
       (home-starts b t, omega (arith, home-in z b t, len-le p (home p cap b) cap), omega (arith, off-le b))
 
   -- the number after a piece starts the next one, if it passes
-  piece-end : 0 < cap → (s : ℕ) → starts p cap s ≡ true → p (s + len p s cap) ≡ true → starts p cap (s + len p s cap) ≡ true
+  piece-end : 0 < cap → (s : ℕ) → starts p cap s ≡ true → p (s + len p s cap) ≡ true
+      → starts p cap (s + len p s cap) ≡ true
   piece-end z s h t = ⊎-elim full short (eq-or-lt-of-le (len-le p s cap))
     where
       short : len p s cap < cap → starts p cap (s + len p s cap) ≡ true
@@ -189,7 +197,8 @@ module _ (p : ℕ → Bool) (cap : ℕ) where
 
 module _ (p : ℕ → Bool) (cap n : ℕ) (z : 0 < cap) (past : (a : ℕ) → n ≤ a → p a ≡ false) where
   pub passes-below : (a : ℕ) → p a ≡ true → a < n
-  passes-below a t = decide (ltb a n) (λ d. ltb-true a n d) (λ d. absurd (true-false (sym t ∙ past a (ltb-false a n d))))
+  passes-below a t =
+      decide (ltb a n) (λ d. ltb-true a n d) (λ d. absurd (true-false (sym t ∙ past a (ltb-false a n d))))
 
   pub starts-below : (s : ℕ) → starts p cap s ≡ true → s < n
   starts-below s h = passes-below s (starts-off p cap s h .0)
@@ -201,7 +210,8 @@ module _ (p : ℕ → Bool) (cap n : ℕ) (z : 0 < cap) (past : (a : ℕ) → n 
       omega (arith, passes-below (s + (len p s cap - 1)) (len-in p cap s (len p s cap - 1) (omega arith)))
 
   -- what is found from e on starts a piece, if e does where it passes
-  next-starts : (e : ℕ) → e ≤ n → (p e ≡ true → starts p cap e ≡ true) → next p e (n - e) < n → starts p cap (next p e (n - e)) ≡ true
+  next-starts : (e : ℕ) → e ≤ n → (p e ≡ true → starts p cap e ≡ true) → next p e (n - e) < n
+      → starts p cap (next p e (n - e)) ≡ true
   next-starts e g h l =
       let t : p (next p e (n - e)) ≡ true = next-pass p (n - e) e (omega arith) in
       ⊎-elim
@@ -211,7 +221,8 @@ module _ (p : ℕ → Bool) (cap n : ℕ) (z : 0 < cap) (past : (a : ℕ) → n 
     where
       go : (b : ℕ) → next p e (n - e) ≡ b → e < b → p b ≡ true → starts p cap b ≡ true
       go zero d q t = absurd (omega arith)
-      go (suc b) d q t = starts-at p cap (suc b) t (off-false p cap b (next-skip p (n - e) e b (omega arith) (omega arith)))
+      go (suc b) d q t =
+          starts-at p cap (suc b) t (off-false p cap b (next-skip p (n - e) e b (omega arith) (omega arith)))
 
   next-counts : (e : ℕ) → count (starts p cap) (next p e (n - e)) ≡ count (starts p cap) e
   next-counts e =
@@ -228,10 +239,12 @@ module _ (p : ℕ → Bool) (cap n : ℕ) (z : 0 < cap) (past : (a : ℕ) → n 
   first-rank = next-counts 0 ∙ count-zero (starts p cap)
 
   -- the piece after the one at s has the next rank
-  pub follow-starts : (s : ℕ) → starts p cap s ≡ true → follow p cap n s < n → starts p cap (follow p cap n s) ≡ true
+  pub follow-starts : (s : ℕ) → starts p cap s ≡ true → follow p cap n s < n
+      → starts p cap (follow p cap n s) ≡ true
   follow-starts s h l = next-starts (s + len p s cap) (piece-fits s h) (piece-end p cap z s h) l
 
-  pub follow-rank : (s : ℕ) → starts p cap s ≡ true → count (starts p cap) (follow p cap n s) ≡ suc (count (starts p cap) s)
+  pub follow-rank : (s : ℕ) → starts p cap s ≡ true
+      → count (starts p cap) (follow p cap n s) ≡ suc (count (starts p cap) s)
   follow-rank s h =
       let l = piece-some p cap z s h in
       let k : s + len p s cap - 1 + 1 ≡ s + len p s cap = omega arith in

@@ -37,7 +37,13 @@ same-length : tie.Need-same-length Inv-loop μ-loop
 same-length c = search needs
 
 returns : tie.Need-returns Inv-loop μ-loop
-returns c = (sym (high-wrong (c .before .before .before .before .before .before .before .args .line .now) (c .before .before .before .before .loop .i) (omega arith) (omega (arith, c .before .digit .ensures))) ∙ c .before .before .before .before .loop .inv .2, λ e. absurd (true-false (sym e)))
+returns c =
+    let loop = c .before .before .before .before .loop in
+    let args = c .before .before .before .before .before .before .before .args in (
+      sym (high-wrong (args .line .now) (loop .i) (omega arith) (omega (arith, c .before .digit .ensures)))
+          ∙ loop .inv .2,
+      λ e. absurd (true-false (sym e)),
+    )
 
 mul-digit-2 : tie.Need-mul-digit-2 Inv-loop μ-loop
 mul-digit-2 c = search needs
@@ -55,7 +61,16 @@ same-length-2 : tie.Need-same-length-2 Inv-loop μ-loop
 same-length-2 c = search needs
 
 returns-2 : tie.Need-returns-2 Inv-loop μ-loop
-returns-2 c = (sym (low-wrong (c .before .before .before .before .before .before .before .before .before .before .args .line .now) (c .before .before .before .before .before .before .before .loop .i) (omega arith) (omega (arith, c .before .before .before .before .digit .ensures)) (omega (arith, c .before .digit2 .ensures))) ∙ c .before .before .before .before .before .before .before .loop .inv .2, λ e. absurd (true-false (sym e)))
+returns-2 c =
+    let loop = c .before .before .before .before .before .before .before .loop in
+    let p = c .before .before .before .before .before .before .before .before .before .before in
+    let args = p .args in (
+      sym (low-wrong (args .line .now) (loop .i) (omega arith)
+          (omega (arith, c .before .before .before .before .digit .ensures))
+          (omega (arith, c .before .digit2 .ensures)))
+          ∙ loop .inv .2,
+      λ e. absurd (true-false (sym e)),
+    )
 
 mul-bytes : tie.Need-mul-bytes Inv-loop μ-loop
 mul-bytes c = search needs
@@ -73,23 +88,36 @@ loop-less : tie.Need-loop-less Inv-loop μ-loop
 loop-less c = search needs
 
 loop-again : tie.Need-loop-again Inv-loop μ-loop
-loop-again c = let line = c .before .before .before .before .before .before .before .before .before .before .args .line .now in let i = c .before .before .before .before .before .before .before .loop .i in (
-  omega arith,
-  simp length-set (omega arith),
-  sym (digits-more line i (omega arith) (omega (arith, c .before .before .before .before .digit .ensures)) (omega (arith, c .before .digit2 .ensures))) ∙ c .before .before .before .before .before .before .before .loop .inv .2,
-  rw (c .before .before .before .before .digit .ensures, c .before .digit2 .ensures) (sym (bytes-more line i (omega arith) (c .before .before .before .before .before .before .before .loop .bytes) (omega arith))) ∙ c .before .before .before .before .before .before .before .loop .inv .3,
-)
+loop-again c =
+    let digit2 = c .before .digit2 in
+    let digit = c .before .before .before .before .digit in
+    let loop = c .before .before .before .before .before .before .before .loop in
+    let p = c .before .before .before .before .before .before .before .before .before .before in
+    let args = p .args in
+    let line = args .line .now in
+    let i = loop .i in (
+      omega arith,
+      simp length-set (omega arith),
+      sym (digits-more line i (omega arith) (omega (arith, digit .ensures)) (omega (arith, digit2 .ensures)))
+          ∙ loop .inv .2,
+      rw (digit .ensures, digit2 .ensures)
+          (sym (bytes-more line i (omega arith) (loop .bytes) (omega arith)))
+          ∙ loop .inv .3,
+    )
 
 same-length-3 : tie.Need-same-length-3 Inv-loop μ-loop
 same-length-3 c = search needs
 
 returns-3 : tie.Need-returns-3 Inv-loop μ-loop
-returns-3 c = let line = c .before .before .before .before .args .line .now in
-    let i = c .before .loop .i in
+returns-3 c =
+    let loop = c .before .loop in
+    let line = c .before .before .before .before .args .line .now in
+    let i = loop .i in
     let e : length line / 2 ≡ i = omega arith in
     let past : length line ≤ 2 * i + 1 = omega arith in (
-      sym (digits-end line (2 * i + 1) past) ∙ c .before .loop .inv .2,
-      λ _. rw e (sym (append-nil (take i (c .before .loop .bytes))) ∙ rw (← bytes-end line (2 * i + 1) past) (c .before .loop .inv .3)),
+      sym (digits-end line (2 * i + 1) past) ∙ loop .inv .2,
+      λ _. rw e
+          (sym (append-nil (take i (loop .bytes))) ∙ rw (← bytes-end line (2 * i + 1) past) (loop .inv .3)),
     )
 
 pub decode-spec : {M : Type 1} → statement M

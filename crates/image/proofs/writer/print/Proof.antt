@@ -30,8 +30,8 @@ sum-requires-2 c κs = search needs
 wrapping-add-u8-requires : tie.Need-wrapping-add-u8-requires
 wrapping-add-u8-requires c κs = search needs
 
-wrapping-sub-u8-requires : tie.Need-wrapping-sub-u8-requires
-wrapping-sub-u8-requires c κs = search needs
+complement-requires : tie.Need-complement-requires
+complement-requires c κs = search needs
 
 mul-end : tie.Need-mul-end
 mul-end c = search needs
@@ -49,33 +49,59 @@ spell-requires : tie.Need-spell-requires
 spell-requires c κs = simp length-set (omega arith)
 
 spell-requires-2 : tie.Need-spell-requires-2
-spell-requires-2 c κs = omega (arith, c .before .before .before .spell .kept .0, simp length-set at (c .before .before .before .spell .kept .0))
+spell-requires-2 c κs =
+    let spell = c .before .before .before .spell in
+    omega (arith, spell .kept .0, simp length-set at (spell .kept .0))
 
 slice-aggregate-spell-2 : tie.Need-slice-aggregate-spell-2
 slice-aggregate-spell-2 c = search needs
 
 spell-requires-3 : tie.Need-spell-requires-3
-spell-requires-3 c κs = omega (arith, c .before .before .before .before .spell2 .kept .0, simp length-set at (c .before .before .before .before .before .before .before .before .spell .kept .0))
+spell-requires-3 c κs =
+    let spell = c .before .before .before .before .before .before .before .before .spell in
+    omega (arith, c .before .before .before .before .spell2 .kept .0, simp length-set at (spell .kept .0))
 
 add-buffer : tie.Need-add-buffer
 add-buffer c = search needs
 
 slice-write-buffer-2 : tie.Need-slice-write-buffer-2
-slice-write-buffer-2 c = omega (arith, c .before .before .spell3 .kept .0, c .before .before .before .before .before .before .before .spell2 .kept .0, simp length-set at (c .before .before .before .before .before .before .before .before .before .before .before .spell .kept .0))
+slice-write-buffer-2 c =
+    let spell2 = c .before .before .before .before .before .before .before .spell2 in
+    let p = c .before .before .before .before .before .before .before .before .before .before .before in
+    let spell = p .spell in
+    omega (arith, c .before .before .spell3 .kept .0, spell2 .kept .0, simp length-set at (spell .kept .0))
 
 add-result : tie.Need-add-result
 add-result c = search needs
 
 same-length : tie.Need-same-length
-same-length c = simp length-set (c .before .before .spell3 .kept .0 ∙ c .before .before .before .before .before .before .before .spell2 .kept .0 ∙ simp length-set at (c .before .before .before .before .before .before .before .before .before .before .before .spell .kept .0))
+same-length c =
+    let spell2 = c .before .before .before .before .before .before .before .spell2 in
+    let p = c .before .before .before .before .before .before .before .before .before .before .before in
+    let spell = p .spell in
+    simp length-set
+    (c .before .before .spell3 .kept .0 ∙ spell2 .kept .0 ∙ simp length-set at (spell .kept .0))
 
 returns : tie.Need-returns
-returns c = let a = c .before .before .before .before .before .before .before .before .before .before .before .before .before .before .before .before .before .before .before .before .before .args in
+returns c =
+    let spell2 = c .before .before .before .before .before .before .before .spell2 in
+    let p = c .before .before .before .before .before .before .before .before .before .before .before in
+    let spell = p .spell in
+    let complement = p .before .before .before .complement in
+    let wrapping-add-u8 = p .before .before .before .before .wrapping-add-u8 in
+    let sum2 = p .before .before .before .before .before .sum2 in
+    let sum = p .before .before .before .before .before .before .sum in
+    let q = p .before .before .before .before .before .before .before .before .before .before in
+    let pre = q .pre in
+    let a = q .args in
     let s = a .bytes .now in
     let head = length s ∷ a .address / 256 ∷ a .address % 256 ∷ a .kind ∷ [] in
-    let total = checksum-parts head s (c .before .before .before .before .before .before .before .before .before .before .before .before .before .before .before .wrapping-add-u8 .result) (omega (arith, c .before .before .before .before .before .before .before .before .before .before .before .before .before .before .before .wrapping-add-u8 .ensures, c .before .before .before .before .before .before .before .before .before .before .before .before .before .before .before .before .before .sum .ensures, c .before .before .before .before .before .before .before .before .before .before .before .before .before .before .before .before .sum2 .ensures)) in (
-      sym (text-length (a .address) (a .kind) s (a .buffer .now) (c .before .before .before .before .before .before .before .before .before .before .before .before .before .before .before .before .before .before .before .before .before .pre .0) (c .before .before .before .before .before .before .before .before .before .before .before .before .before .before .before .before .before .before .before .before .before .pre .1)),
-      print-done (a .address) (a .kind) s (a .buffer .now) (c .before .before .before .before .before .before .before .before .before .before .before .before .before .before .before .before .before .before .before .before .before .pre .0) (c .before .before .before .before .before .before .before .before .before .before .before .before .before .before .before .before .before .before .before .before .before .pre .1) _ _ _ _ (omega (arith, c .before .before .before .before .before .before .before .before .before .before .before .before .before .before .wrapping-sub-u8 .ensures) ∙ total) (c .before .before .before .before .before .before .before .before .before .before .before .spell .ensures) (c .before .before .before .before .before .before .before .spell2 .ensures) (c .before .before .spell3 .ensures),
+    let total = checksum-parts head s (wrapping-add-u8 .result)
+    (omega (arith, wrapping-add-u8 .ensures, sum .ensures, sum2 .ensures)) in (
+      sym (text-length (a .address) (a .kind) s (a .buffer .now) (pre .0) (pre .1)),
+      print-done (a .address) (a .kind) s (a .buffer .now) (pre .0) (pre .1) _ _ _ _
+          (omega (arith, complement .ensures) ∙ total) (spell .ensures) (spell2 .ensures)
+          (c .before .before .spell3 .ensures),
     )
 
 pub print-spec : {M : Type 1} → statement M
@@ -89,7 +115,7 @@ print-spec =
     sum-requires
     sum-requires-2
     wrapping-add-u8-requires
-    wrapping-sub-u8-requires
+    complement-requires
     mul-end
     add-end
     slice-write-buffer

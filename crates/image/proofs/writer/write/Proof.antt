@@ -20,15 +20,28 @@ returns c = (simp (ne-eqb _ _ (c .if1 .taken)), simp (ne-eqb _ _ (c .if1 .taken)
 
 returns-2 : tie.Need-returns-2
 unfolding first writeIn
-returns-2 c = (simp (eq-eqb _ _ (c .before .if1 .left), ne-eqb _ _ (c .if2 .taken)), simp (eq-eqb _ _ (c .before .if1 .left), ne-eqb _ _ (c .if2 .taken)))
+returns-2 c =
+    let if1 = c .before .if1 in (
+      simp (eq-eqb _ _ (if1 .left), ne-eqb _ _ (c .if2 .taken)),
+      simp (eq-eqb _ _ (if1 .left), ne-eqb _ _ (c .if2 .taken)),
+    )
 
 returns-3 : tie.Need-returns-3
 unfolding first writeIn
-returns-3 c = (simp (eq-eqb _ _ (c .before .before .if1 .left), eq-eqb _ _ (c .before .if2 .left), lt-ltb _ _ (c .if3 .taken)), simp (eq-eqb _ _ (c .before .before .if1 .left), eq-eqb _ _ (c .before .if2 .left), lt-ltb _ _ (c .if3 .taken)))
+returns-3 c =
+    let if2 = c .before .if2 in
+    let if1 = c .before .before .if1 in (
+      simp (eq-eqb _ _ (if1 .left), eq-eqb _ _ (if2 .left), lt-ltb _ _ (c .if3 .taken)),
+      simp (eq-eqb _ _ (if1 .left), eq-eqb _ _ (if2 .left), lt-ltb _ _ (c .if3 .taken)),
+    )
 
 returns-4 : tie.Need-returns-4
-returns-4 c = let a = c .before .before .before .before .before .before .before .before .args in
-    let e = write-above flashSize (a .image .now) (a .map .now) (a .from .0) (length (a .buffer .now)) (c .before .before .before .before .if1 .left) (c .before .before .before .if2 .left) (c .before .before .if3 .left) (c .if4 .taken) in (rw e, rw e)
+returns-4 c =
+    let a = c .before .before .before .before .before .before .before .before .args in
+    let e = write-above flashSize (a .image .now) (a .map .now) (a .from .0) (length (a .buffer .now))
+    (c .before .before .before .before .if1 .left) (c .before .before .before .if2 .left)
+    (c .before .before .if3 .left) (c .if4 .taken) in
+    (rw e, rw e)
 
 next-named-requires : tie.Need-next-named-requires
 next-named-requires c κs = search needs
@@ -46,8 +59,19 @@ same-length : tie.Need-same-length
 same-length c = search needs
 
 returns-5 : tie.Need-returns-5
-returns-5 c = let a = c .before .before .before .before .before .before .before .before .before .before .before .before .before .before .before .before .args in
-    let e = write-end flashSize (a .image .now) (a .map .now) (a .from .0) (length (a .buffer .now)) (c .before .before .before .before .before .before .before .before .before .before .before .before .if1 .left) (c .before .before .before .before .before .before .before .before .before .before .before .if2 .left) (c .before .before .before .before .before .before .before .before .before .before .if3 .left) (c .before .before .before .before .before .before .before .before .if4 .left) _ (c .before .before .before .before .before .before .before .next-named .ensures) (c .before .before .before .before .before .if5 .taken) in (rw (e, c .before .before .print .ensures .0), rw e (c .before .before .print .ensures .1))
+returns-5 c =
+    let print = c .before .before .print in
+    let next-named = c .before .before .before .before .before .before .before .next-named in
+    let if4 = c .before .before .before .before .before .before .before .before .if4 in
+    let p = c .before .before .before .before .before .before .before .before .before .before in
+    let if3 = p .if3 in
+    let if2 = p .before .if2 in
+    let if1 = p .before .before .if1 in
+    let a = p .before .before .before .before .before .before .args in
+    let e = write-end flashSize (a .image .now) (a .map .now) (a .from .0) (length (a .buffer .now))
+    (if1 .left) (if2 .left) (if3 .left) (if4 .left) _ (next-named .ensures)
+    (c .before .before .before .before .before .if5 .taken) in
+    (rw (e, print .ensures .0), rw e (print .ensures .1))
 
 sub-row-len : tie.Need-sub-row-len
 sub-row-len c = search needs
@@ -74,22 +98,67 @@ part-print-start : tie.Need-part-print-start
 part-print-start c = search needs
 
 part-print-end : tie.Need-part-print-end
-part-print-end c = omega (arith, c .row-len .ensures, len-le (named (c .before .before .before .before .before .before .before .before .before .before .before .before .args .map .now)) (c .before .before .before .next-named .result .0) (16 - c .before .before .before .next-named .result .0 % 16), c .before .if5 .left, c .before .before .before .before .before .before .before .before .if1 .left)
+part-print-end c =
+    let next-named = c .before .before .before .next-named in
+    let if1 = c .before .before .before .before .before .before .before .before .if1 in
+    let p = c .before .before .before .before .before .before .before .before .before .before .before .before in
+    let args = p .args in
+    omega (
+      arith,
+      c .row-len .ensures,
+      len-le (named (args .map .now)) (next-named .result .0) (16 - next-named .result .0 % 16),
+      c .before .if5 .left,
+      if1 .left,
+    )
 
 print-requires-2 : tie.Need-print-requires-2
-print-requires-2 c κs = (simp (length-take, length-drop) (omega (arith, c .before .before .row-len .ensures, len-le (named (c .before .before .before .before .before .before .before .before .before .before .before .before .before .before .args .map .now)) (c .before .before .before .before .before .next-named .result .0) (16 - c .before .before .before .before .before .next-named .result .0 % 16))), c .before .before .before .before .before .before .before .before .if3 .left)
+print-requires-2 c κs =
+    let next-named = c .before .before .before .before .before .next-named in
+    let if3 = c .before .before .before .before .before .before .before .before .if3 in
+    let p = c .before .before .before .before .before .before .before .before .before .before .before .before .before .before in
+    let args = p .args in (
+      simp (length-take, length-drop) (omega (
+        arith,
+        c .before .before .row-len .ensures,
+        len-le (named (args .map .now)) (next-named .result .0) (16 - next-named .result .0 % 16),
+      )),
+      if3 .left,
+    )
 
 add-t25 : tie.Need-add-t25
-add-t25 c = omega (arith, c .before .before .before .before .before .row-len .ensures, len-le (named (c .before .before .before .before .before .before .before .before .before .before .before .before .before .before .before .before .before .args .map .now)) (c .before .before .before .before .before .before .before .before .next-named .result .0) (16 - c .before .before .before .before .before .before .before .before .next-named .result .0 % 16), c .before .before .before .before .before .before .if5 .left)
+add-t25 c =
+    let if5 = c .before .before .before .before .before .before .if5 in
+    let next-named = c .before .before .before .before .before .before .before .before .next-named in
+    let p = c .before .before .before .before .before .before .before .before .before .before .before .before .before .before .before .before .before in
+    let args = p .args in
+    omega (
+      arith,
+      c .before .before .before .before .before .row-len .ensures,
+      len-le (named (args .map .now)) (next-named .result .0) (16 - next-named .result .0 % 16),
+      if5 .left,
+    )
 
 same-length-2 : tie.Need-same-length-2
 same-length-2 c = search needs
 
 returns-6 : tie.Need-returns-6
-returns-6 c = let a = c .before .before .before .before .before .before .before .before .before .before .before .before .before .before .before .before .before .args in
-    let k = c .before .before .before .before .before .before .before .before .next-named .result .0 in
-    let m : k + c .before .before .before .before .before .row-len .result - k ≡ c .before .before .before .before .before .row-len .result = omega arith in
-    let e = write-run flashSize (a .image .now) (a .map .now) (a .from .0) (length (a .buffer .now)) (c .before .before .before .before .before .before .before .before .before .before .before .before .before .if1 .left) (c .before .before .before .before .before .before .before .before .before .before .before .before .if2 .left) (c .before .before .before .before .before .before .before .before .before .before .before .if3 .left) (c .before .before .before .before .before .before .before .before .before .if4 .left) k (c .before .before .before .before .before .before .before .before .next-named .ensures) _ _ (c .before .before .before .before .before .before .if5 .left) (c .before .before .before .before .before .row-len .ensures) m in (rw (e, c .before .before .print2 .ensures .0), rw e (c .before .before .print2 .ensures .1))
+returns-6 c =
+    let print2 = c .before .before .print2 in
+    let row-len = c .before .before .before .before .before .row-len in
+    let if5 = c .before .before .before .before .before .before .if5 in
+    let next-named = c .before .before .before .before .before .before .before .before .next-named in
+    let p = c .before .before .before .before .before .before .before .before .before in
+    let if4 = p .if4 in
+    let if3 = p .before .before .if3 in
+    let if2 = p .before .before .before .if2 in
+    let if1 = p .before .before .before .before .if1 in
+    let a = p .before .before .before .before .before .before .before .before .args in
+    let k = next-named .result .0 in
+    let m : k + row-len .result - k ≡ row-len .result = omega arith in
+    let e = write-run flashSize (a .image .now) (a .map .now) (a .from .0) (length (a .buffer .now))
+    (if1 .left) (if2 .left) (if3 .left) (if4 .left) k (next-named .ensures) _ _ (if5 .left)
+    (row-len .ensures) m in
+    (rw (e, print2 .ensures .0), rw e (print2 .ensures .1))
 
 pub write-spec : {M : Type 1} → statement M
 write-spec =

@@ -46,19 +46,35 @@ enum-told : tie.Need-enum-told
 enum-told c = search needs
 
 write-requires : tie.Need-write-requires
-write-requires c κs = let a = c .before .before .before .before .before .before .before .before .args in
-    (c .before .before .before .before .before .if1 .left, build-given _ (a .command) (a .address .0) (a .plain .now) _ _ (c .before .before .before .before .before .if1 .left) (c .before .before .before .before .first-byte .ensures) (sym (c .before .before .before .look-up .ensures) ∙ ap paperRow (c .before .enum-told .given .1)) .0)
+write-requires c κs =
+    let if1 = c .before .before .before .before .before .if1 in
+    let a = c .before .before .before .before .before .before .before .before .args in (
+      if1 .left,
+      build-given _ (a .command) (a .address .0) (a .plain .now) _ _ (if1 .left)
+          (c .before .before .before .before .first-byte .ensures)
+          (sym (c .before .before .before .look-up .ensures) ∙ ap paperRow (c .before .enum-told .given .1)) .0,
+    )
 
 returns-2 : tie.Need-returns-2
-returns-2 c = leaves _ (build-refused _ _ _ _ _ _ (c .before .before .before .before .before .if1 .left) (c .before .before .before .before .first-byte .ensures) (sym (c .before .before .before .look-up .ensures) ∙ ap paperRow (c .before .why .given .1)))
+returns-2 c =
+    leaves _ (build-refused _ _ _ _ _ _ (c .before .before .before .before .before .if1 .left)
+    (c .before .before .before .before .first-byte .ensures)
+    (sym (c .before .before .before .look-up .ensures) ∙ ap paperRow (c .before .why .given .1)))
 
 same-length : tie.Need-same-length
 same-length c = search needs
 
 returns-3 : tie.Need-returns-3
-returns-3 c = let a = c .before .before .before .before .before .before .before .before .before .before .before .args in
-    let b = build-given _ _ (a .address .0) _ _ _ (c .before .before .before .before .before .before .before .before .if1 .left) (c .before .before .before .before .before .before .before .first-byte .ensures) (sym (c .before .before .before .before .before .before .look-up .ensures) ∙ ap paperRow (c .before .before .before .before .enum-told .given .1)) in
-    writes _ _ (b .1) (c .before .before .write .ensures .0 ∙ sym (packet-length (a .command) (a .address .0) (a .plain .now))) (c .before .before .write .ensures .1)
+returns-3 c =
+    let write = c .before .before .write in
+    let look-up = c .before .before .before .before .before .before .look-up in
+    let first-byte = c .before .before .before .before .before .before .before .first-byte in
+    let if1 = c .before .before .before .before .before .before .before .before .if1 in
+    let a = c .before .before .before .before .before .before .before .before .before .before .before .args in
+    let b = build-given _ _ (a .address .0) _ _ _ (if1 .left) (first-byte .ensures)
+    (sym (look-up .ensures) ∙ ap paperRow (c .before .before .before .before .enum-told .given .1)) in
+    writes _ _ (b .1) (write .ensures .0 ∙ sym (packet-length (a .command) (a .address .0) (a .plain .now)))
+    (write .ensures .1)
 
 pub build-spec : {M : Type 1} → statement M
 build-spec =

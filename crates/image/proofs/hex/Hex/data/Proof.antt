@@ -49,8 +49,14 @@ add-if2 : tie.Need-add-if2
 add-if2 c = search needs
 
 returns-2 : tie.Need-returns-2
-returns-2 c = let b = c .before .before .before .before .before .before .before .before .before .before .before .before .args .bytes .now in
-    data-high flashSize _ b _ _ (omega (arith, c .before .before .before .before .before .before .before .wide .ensures .0, c .before .before .before .before .before .before .if1 .left)) (omega (arith, c .before .before .before .before .before .before .before .wide .ensures .0, c .before .word .ensures, c .if2 .taken))
+returns-2 c =
+    let if1 = c .before .before .before .before .before .before .if1 in
+    let wide = c .before .before .before .before .before .before .before .wide in
+    let p = c .before .before .before .before .before .before .before .before .before .before .before .before in
+    let args = p .args in
+    let b = args .bytes .now in
+    data-high flashSize _ b _ _ (omega (arith, wide .ensures .0, if1 .left))
+    (omega (arith, wide .ensures .0, c .before .word .ensures, c .if2 .taken))
 
 cast-any-named : tie.Need-cast-any-named
 cast-any-named c = search needs
@@ -65,8 +71,16 @@ same-length : tie.Need-same-length
 same-length c = search needs
 
 returns-3 : tie.Need-returns-3
-returns-3 c = let b = c .before .before .before .before .before .before .before .before .before .before .before .before .before .before .before .args .bytes .now in
-    data-twice flashSize _ b _ _ (omega (arith, c .before .before .before .before .before .before .before .before .before .before .wide .ensures .0, c .before .before .before .before .before .before .before .before .before .if1 .left)) (omega (arith, c .before .before .before .before .before .before .before .before .before .before .wide .ensures .0, c .before .before .before .before .word .ensures, c .before .before .before .if2 .left)) (rw (← c .before .before .before .before .before .before .before .before .before .before .wide .ensures .0, ← c .before .before .before .before .word .ensures) (sym (c .before .any-named .ensures) ∙ c .if3 .taken))
+returns-3 c =
+    let word = c .before .before .before .before .word in
+    let p = c .before .before .before .before .before .before .before .before .before in
+    let if1 = p .if1 in
+    let wide = p .before .wide in
+    let args = p .before .before .before .before .before .before .args in
+    let b = args .bytes .now in
+    data-twice flashSize _ b _ _ (omega (arith, wide .ensures .0, if1 .left))
+    (omega (arith, wide .ensures .0, word .ensures, c .before .before .before .if2 .left))
+    (rw (← wide .ensures .0, ← word .ensures) (sym (c .before .any-named .ensures) ∙ c .if3 .taken))
 
 add-end : tie.Need-add-end
 add-end c = search needs
@@ -96,9 +110,24 @@ same-length-3 : tie.Need-same-length-3
 same-length-3 c = search needs
 
 returns-4 : tie.Need-returns-4
-returns-4 c = let b = c .before .before .before .before .before .before .before .before .before .before .before .before .before .before .before .before .before .before .before .before .before .before .before .before .args .bytes .now in
-    let size : 4 + c .before .before .before .before .before .before .before .before .before .before .before .before .before .before .before .before .before .before .before .wide .result - 4 ≡ count b = omega (arith, c .before .before .before .before .before .before .before .before .before .before .before .before .before .before .before .before .before .before .before .wide .ensures .0) in
-    data-given flashSize _ b _ _ (omega (arith, c .before .before .before .before .before .before .before .before .before .before .before .before .before .before .before .before .before .before .before .wide .ensures .0, c .before .before .before .before .before .before .before .before .before .before .before .before .before .before .before .before .before .before .if1 .left)) (omega (arith, c .before .before .before .before .before .before .before .before .before .before .before .before .before .before .before .before .before .before .before .wide .ensures .0, c .before .before .before .before .before .before .before .before .before .before .before .before .before .word .ensures, c .before .before .before .before .before .before .before .before .before .before .before .before .if2 .left)) _ _ (rw (← c .before .before .before .before .before .before .before .before .before .before .before .before .before .before .before .before .before .before .before .wide .ensures .0, ← c .before .before .before .before .before .before .before .before .before .before .before .before .before .word .ensures) (sym (c .before .before .before .before .before .before .before .before .before .before .any-named .ensures) ∙ c .before .before .before .before .before .before .before .before .before .if3 .left)) (c .before .before .before .before .before .before .copy .ensures ∙ rw (size, c .before .before .before .before .before .before .before .before .before .before .before .before .before .word .ensures)) (c .before .before .name-all .ensures ∙ rw (c .before .before .before .before .before .before .before .before .before .before .before .before .before .before .before .before .before .before .before .wide .ensures .0, c .before .before .before .before .before .before .before .before .before .before .before .before .before .word .ensures))
+returns-4 c =
+    let copy = c .before .before .before .before .before .before .copy in
+    let p = c .before .before .before .before .before .before .before .before .before in
+    let if3 = p .if3 in
+    let any-named = p .before .any-named in
+    let if2 = p .before .before .before .if2 in
+    let word = p .before .before .before .before .word in
+    let q = p .before .before .before .before .before .before .before .before .before in
+    let if1 = q .if1 in
+    let wide = q .before .wide in
+    let args = q .before .before .before .before .before .before .args in
+    let b = args .bytes .now in
+    let size : 4 + wide .result - 4 ≡ count b = omega (arith, wide .ensures .0) in
+    data-given flashSize _ b _ _ (omega (arith, wide .ensures .0, if1 .left))
+    (omega (arith, wide .ensures .0, word .ensures, if2 .left)) _ _
+    (rw (← wide .ensures .0, ← word .ensures) (sym (any-named .ensures) ∙ if3 .left))
+    (copy .ensures ∙ rw (size, word .ensures))
+    (c .before .before .name-all .ensures ∙ rw (wide .ensures .0, word .ensures))
 
 pub data-spec : {M : Type 1} → statement M
 data-spec =
