@@ -1,4 +1,1 @@
 pub mod FlashTurns
-pub mod Characters
-pub mod Records
-pub mod Printing

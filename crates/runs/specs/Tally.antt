@@ -1,4 +1,4 @@
--- What a pass over places has met so far, and how it goes on.
+-- What a walk over places has met so far, and how it goes on.
 use Prim.Native.Nat.{ℕ, zero, suc, _+_, _-_, _/_, _%_}
 use mathlib.Core.Bool.{Bool}
 use lib.Dec.{eqb, ltb}

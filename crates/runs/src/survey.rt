@@ -1,4 +1,4 @@
-// The survey: one pass over the map that counts what a file has, and ranks a place among it.
+// The survey: one walk over the map that counts what a file has, and ranks a place among it.
 ghost use mathlib.Core.Path.{_≡_};
 ghost use Prim.Native.Nat.{_*_, _<_, _≤_};
 ghost use lib.ListN.{length};
@@ -8,11 +8,11 @@ ghost use Rattle.runs.specs.Map.{named};
 ghost use Rattle.runs.specs.Pieces.{pieceMost};
 ghost use Rattle.runs.specs.Survey.{surveyOf};
 ghost use Rattle.runs.specs.Tally.{tallyAt};
-use crate::passes::Pass;
-use crate::passes::over_pages;
-use crate::passes::over_places;
-use crate::passes::over_words;
 use crate::tally::Tally;
+use crate::walks::Tallies;
+use crate::walks::over_pages;
+use crate::walks::over_places;
+use crate::walks::over_words;
 use basis::board::PAGES;
 use basis::units::Address;
 use basis::units::Page;
@@ -43,7 +43,7 @@ pub fn survey(map: &[u8], at: Address) -> Surveyed
         pieces: 0,
         off: 0,
     };
-    let start = Pass {
+    let start = Tallies {
         bytes: none,
         pages: none,
     };

@@ -1,4 +1,4 @@
-// What a pass over places has met so far, and the two ways on: one place, or 64 at once.
+// What a walk over places has met so far, and the two ways on: one place, or 64 at once.
 ghost use mathlib.Core.Path.{_≡_};
 ghost use Prim.Native.Nat.{_+_, _-_, _^_, _<_, _≤_};
 ghost use lib.Dec.{eqb};

@@ -1,15 +1,64 @@
 -- `decode` meets its contract: what was decoded, and then what is left, is what the line spells.
-use Rattle.basis.specs.Laws.Choice.{true-false}
-use Prim.Native.Nat.{_≤_, _-_, _+_, _*_, _/_}
-use mathlib.Core.Path.{_≡_, refl, sym, _∙_}
-use mathlib.Core.List.{_++_, append-nil}
+use Prim.Native.Nat.{ℕ, suc, _+_, _*_, _≤_, _<_, _-_, _/_}
+use mathlib.Core.Path.{_≡_, sym, ap, _∙_, refl}
+use mathlib.Core.Bool.{true, false}
+use mathlib.Core.List.{List, [], _∷_, _++_, append-nil}
+use native.Mathlib.Numerals.{add-one}
 use native.Mathlib.Omega.{arith}
+use lib.ListN.{length, getD, take, drop, set, drop-of-length-le, length-set}
+use lib.Seq.{drop-cons, append-snoc, take-suc-set}
+use borrow.Author.Tests.{lt-ltb, le-ltb}
+use Rattle.basis.specs.Laws.Choice.{true-false}
+use Rattle.image.specs.Digits.{digitOf, allDigits, decoded}
 use borrow.Author.Needs.{needs}
-use lib.ListN.{length, take, drop, length-set}
-use Rattle.image.specs.Digits.{allDigits, decoded}
-use Rattle.image.proofs.Characters.{digits-end, bytes-end, high-wrong, low-wrong, digits-more, bytes-more}
 use Rattle.image.proofs.digits.decode.Statement.{statement}
 use Rattle.image.proofs.digits.decode.Tie as tie
+
+-- the end of a line, and two characters more of it
+module _ (line : List ℕ) (k : ℕ) (h : length line ≤ k) where
+  digits-end : allDigits (drop k line) ≡ true
+  unfolding allDigits
+  digits-end = rw (drop-of-length-le line h)
+
+  bytes-end : decoded (drop k line) ≡ []
+  unfolding decoded
+  bytes-end = rw (drop-of-length-le line h)
+
+module _ (line : List ℕ) (i : ℕ) (h : 2 * i + 2 < length line) where
+  abbrev high : ℕ
+  high = digitOf (getD line (2 * i + 1) 0)
+
+  abbrev low : ℕ
+  low = digitOf (getD line (2 * i + 2) 0)
+
+  pair : drop (2 * i + 1) line
+      ≡ getD line (2 * i + 1) 0 ∷ getD line (2 * i + 2) 0 ∷ drop (2 * (i + 1) + 1) line
+  pair =
+      let e : suc (2 * i + 1) ≡ 2 * i + 2 = omega arith in
+      let f : suc (2 * i + 2) ≡ 2 * (i + 1) + 1 = omega arith in
+      drop-cons line (2 * i + 1) 0 (omega arith) ∙ rw (e, drop-cons line (2 * i + 2) 0 h, f)
+
+  high-wrong : 16 ≤ high → allDigits (drop (2 * i + 1) line) ≡ false
+  unfolding allDigits
+  high-wrong a = rw (pair, le-ltb _ _ a)
+
+  low-wrong : high < 16 → 16 ≤ low → allDigits (drop (2 * i + 1) line) ≡ false
+  unfolding allDigits
+  low-wrong a b = rw (pair, lt-ltb _ _ a, le-ltb _ _ b)
+
+  digits-more : high < 16 → low < 16
+      → allDigits (drop (2 * i + 1) line) ≡ allDigits (drop (2 * (i + 1) + 1) line)
+  unfolding allDigits
+  digits-more a b = rw (pair, lt-ltb _ _ a, lt-ltb _ _ b)
+
+  bytes-more : (bytes : List ℕ) → i < length bytes
+      → take i bytes ++ decoded (drop (2 * i + 1) line)
+      ≡ take (i + 1) (set bytes i (16 * high + low)) ++ decoded (drop (2 * (i + 1) + 1) line)
+  unfolding decoded
+  bytes-more bytes l =
+      ap (λ (d : List ℕ). take i bytes ++ decoded d) pair
+      ∙ sym (append-snoc (take i bytes) (16 * high + low) (decoded (drop (2 * (i + 1) + 1) line)))
+      ∙ rw (add-one i, take-suc-set bytes i (16 * high + low) l)
 
 abbrev Inv-loop : tie.InvT-loop
 Inv-loop line bytes₀ n i₀ bytes i =

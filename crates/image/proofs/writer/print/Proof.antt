@@ -1,13 +1,60 @@
 -- `print` meets its contract: colon, head, bytes, checksum and 0A are written one behind the other.
-use Prim.Native.Nat.{_/_, _%_}
-use mathlib.Core.Path.{sym, _∙_}
-use mathlib.Core.List.{[], _∷_}
+use Prim.Native.Nat.{ℕ, _+_, _*_, _-_, _/_, _%_, _≤_}
+use mathlib.Core.Path.{_≡_, refl, sym, ap, _∙_}
+use mathlib.Core.List.{List, [], _∷_, _++_}
 use native.Mathlib.Omega.{arith}
-use lib.ListN.{length, length-set}
-use Rattle.image.proofs.Printing.{checksum-parts, text-length, print-done}
+use lib.ListN.{length, set, length-append, length-set}
+use Rattle.basis.specs.Lists.{overlay}
+use Rattle.basis.specs.Sums.{sumOf, checksumOf}
+use Rattle.basis.specs.Laws.Lists.{overlay-next}
+use Rattle.basis.specs.Laws.Sums.{sum-append}
+use Rattle.image.specs.Flash.{copyOf}
+use Rattle.image.specs.Writer.{spelt, content, text}
+use Rattle.image.specs.Laws.Flash.{copy-overlay}
+use Rattle.image.specs.Laws.Writer.{length-spelt, spelt-append}
 use borrow.Author.Needs.{needs}
 use Rattle.image.proofs.writer.print.Statement.{statement}
 use Rattle.image.proofs.writer.print.Tie as tie
+
+-- the sum of two parts makes the checksum of the whole
+checksum-parts : (s t : List ℕ) (x : ℕ) → x ≡ (sumOf s + sumOf t) % 256
+    → (256 - x) % 256 ≡ checksumOf (s ++ t)
+checksum-parts s t x e = rw (e, sum-append s t)
+
+module _ (address kind : ℕ) (s old : List ℕ) (few : length s ≤ 16) (room : 44 ≤ length old) where
+  abbrev head : List ℕ
+  head = length s ∷ address / 256 ∷ address % 256 ∷ kind ∷ []
+
+  text-length : length (text address kind s) ≡ 9 + 2 * length s + 3
+  unfolding text
+  text-length = simp (length-append, length-spelt) (omega arith)
+
+  -- colon, head, bytes, checksum and 0A, one behind the other
+  print-done : (x : ℕ) (b c d : List ℕ) → x ≡ checksumOf (content address kind s)
+      → b ≡ copyOf (set old 0 0x3A) 1 (spelt head) → c ≡ copyOf b 9 (spelt s)
+      → d ≡ copyOf c (9 + 2 * length s) (spelt (x ∷ []))
+      → set d (9 + 2 * length s + 2) 0x0A ≡ overlay (text address kind s) old
+  unfolding text
+  print-done x b c d ex eb ec ed =
+      let w : List ℕ = 0x3A ∷ spelt head in
+      let v : List ℕ = w ++ spelt s in
+      let u : List ℕ = v ++ spelt (x ∷ []) in
+      let lh = length-spelt head in
+      let ls = length-spelt s in
+      let lx = length-spelt (x ∷ []) in
+      let lw : length w ≡ 9 = omega (arith, lh) in
+      let lv : length v ≡ 9 + 2 * length s = omega (arith, length-append w (spelt s)) in
+      let lu : length u ≡ 9 + 2 * length s + 2 = omega (arith, length-append v (spelt (x ∷ []))) in
+      let rb : b ≡ overlay w old =
+      eb ∙ ap (λ (l : List ℕ). copyOf l 1 (spelt head)) (overlay-next [] old 0 0x3A refl (omega arith)) ∙ copy-overlay (0x3A ∷ []) old (spelt head) 1 refl (omega arith) in
+      let rc : c ≡ overlay v old = ec ∙ ap (λ (l : List ℕ). copyOf l 9 (spelt s)) rb ∙ copy-overlay w old (spelt s) 9 lw (omega arith) in
+      let rd : d ≡ overlay u old =
+      ed ∙ ap (λ (l : List ℕ). copyOf l (9 + 2 * length s) (spelt (x ∷ []))) rc ∙ copy-overlay v old (spelt (x ∷ [])) (9 + 2 * length s) lv (omega arith) in
+      let t : u ≡ 0x3A ∷ spelt (content address kind s ++ (x ∷ [])) =
+      sym (ap (λ (l : List ℕ). 0x3A ∷ l) (spelt-append (content address kind s) (x ∷ []) ∙ ap (λ (l : List ℕ). l ++ spelt (x ∷ [])) (spelt-append head s))) in
+      ap (λ (l : List ℕ). set l (9 + 2 * length s + 2) 0x0A) rd
+      ∙ overlay-next u old (9 + 2 * length s + 2) 0x0A lu (omega arith)
+      ∙ ap (λ (l : List ℕ). overlay (l ++ (0x0A ∷ [])) old) (t ∙ ap (λ (y : ℕ). 0x3A ∷ spelt (content address kind s ++ (y ∷ []))) ex)
 
 cast-wrapping-add-u8 : tie.Need-cast-wrapping-add-u8
 cast-wrapping-add-u8 c = search needs

@@ -1,18 +1,40 @@
 -- `write` meets its contract: one lemma for each way out.
-use Prim.Native.Nat.{_+_, _-_, _%_}
-use mathlib.Core.Path.{_≡_}
+use Prim.Native.Nat.{ℕ, _+_, _-_, _/_, _%_, _<_, _≤_}
+use mathlib.Core.Path.{_≡_, sym, ap, _∙_}
+use mathlib.Core.List.{List, []}
 use native.Mathlib.Omega.{arith}
-use borrow.Author.Tests.{eq-eqb, ne-eqb, lt-ltb}
-use lib.ListN.{length, length-take, length-drop}
-use Rattle.basis.specs.Refusals.{first}
+use lib.ListN.{length, take, drop, length-take, length-drop}
+use borrow.Author.Tests.{eq-eqb, lt-ltb, le-ltb, le-leb, lt-leb, ne-eqb}
+use Rattle.basis.specs.Refusals.{given, first}
+use Rattle.image.specs.Writer.{text, step, recordLength, recordFrom, lowest, stepFrom, writeIn}
 use Rattle.runs.specs.Map.{named}
 use Rattle.runs.specs.Laws.Runs.{len-le}
-use Rattle.image.specs.Writer.{writeIn}
-use Rattle.image.proofs.Printing.{write-above, write-end, write-run}
 use borrow.Author.Needs.{needs}
+use Rattle.basis.specs.Board.{flashSize}
 use Rattle.image.proofs.writer.write.Statement.{statement}
 use Rattle.image.proofs.writer.write.Tie as tie
-use Rattle.basis.specs.Board.{flashSize}
+
+-- what is given once size and buffer are right
+module _ (size : ℕ) (image map : List ℕ) (a n : ℕ) (p : length image ≡ size) (q : length map ≡ size / 8) (room : 44 ≤ n) where
+  write-step : writeIn size image map a n ≡ given (stepFrom size image map a)
+  unfolding first writeIn
+  write-step = simp (eq-eqb _ _ p, eq-eqb _ _ q, le-ltb _ _ room)
+
+  write-above : size < a → writeIn size image map a n ≡ given (step [] a)
+  unfolding stepFrom
+  write-above h = write-step ∙ simp (lt-ltb _ _ h)
+
+  module _ (low : a ≤ size) (k : ℕ) (ek : k ≡ lowest size map a) where
+    write-end : size ≤ k → writeIn size image map a n ≡ given (step (text 0 1 []) (size + 1))
+    unfolding stepFrom
+    write-end h = write-step ∙ simp (le-ltb _ _ low, le-leb _ _ (rw ek at h))
+
+    write-run : (c m : ℕ) → k < size → c ≡ recordLength map k → m ≡ c
+        → writeIn size image map a n ≡ given (step (text k 0 (take m (drop k image))) (k + c))
+    unfolding stepFrom
+    write-run c m h ec em =
+        write-step
+        ∙ ap given ((simp (le-ltb _ _ low, lt-leb _ _ (rw ek at h))) ∙ ap (recordFrom image map) (sym ek) ∙ ap (λ (l : ℕ). step (text k 0 (take l (drop k image))) (k + l)) (sym ec) ∙ ap (λ (l : ℕ). step (text k 0 (take l (drop k image))) (k + c)) (sym em))
 
 returns : tie.Need-returns
 unfolding first writeIn

@@ -1,15 +1,38 @@
 -- `apply` meets its contract: one lemma for each way out.
-use mathlib.Core.Path.{sym, ap, _∙_}
+use Prim.Native.Nat.{ℕ}
+use mathlib.Core.Path.{_≡_, sym, ap, _∙_}
+use mathlib.Core.List.{List}
+use borrow.Author.Tests.{eq-eqb, ne-eqb}
+use Rattle.basis.specs.Refusals.{refused, given}
+use Rattle.image.specs.Record.{kind, framingOf, shapeOf}
+use Rattle.image.specs.Hex.{file, settledAs, settled, otherOf, applyIn, dataIn}
+use Rattle.image.specs.declared.hex.Hex.{Hex}
+use Rattle.image.specs.Laws.Hex.{apply-cut, framing-count}
 use native.Mathlib.Omega.{arith}
 use denote.Ref.{now}
 use Rattle.image.specs.Paper.{paperCheck}
-use Rattle.image.specs.Hex.{settled}
-use Rattle.image.specs.Laws.Hex.{framing-count}
-use Rattle.image.proofs.Records.{apply-framing, apply-shape, apply-data, apply-other}
 use borrow.Author.Needs.{needs}
+use Rattle.basis.specs.Board.{flashSize}
 use Rattle.image.proofs.hex.Hex.apply.Statement.{statement}
 use Rattle.image.proofs.hex.Hex.apply.Tie as tie
-use Rattle.basis.specs.Board.{flashSize}
+
+-- the ways out, each by the table
+module _ (size : ℕ) (h : Hex) (n : ℕ) (b image map : List ℕ) where
+  apply-framing : (k : ℕ) → framingOf n b ≡ refused k
+      → settledAs (refused k) image map ≡ settled (applyIn size h n b image map) image map
+  apply-framing k e = rw (apply-cut size h image map n b, e)
+
+  module _ (f : framingOf n b ≡ given tt) where
+    apply-shape : (k : ℕ) → shapeOf b ≡ refused k
+        → settledAs (refused k) image map ≡ settled (applyIn size h n b image map) image map
+    apply-shape k e = rw (apply-cut size h image map n b, f, e)
+
+    module _ (s : shapeOf b ≡ given tt) where
+      apply-data : kind b ≡ 0 → dataIn size h b image map ≡ applyIn size h n b image map
+      apply-data e = rw (apply-cut size h image map n b, f, s, eq-eqb _ _ e)
+
+      apply-other : (kind b ≡ 0 → ⊥) → given (file (otherOf h b) image map) ≡ applyIn size h n b image map
+      apply-other e = rw (apply-cut size h image map n b, f, s, ne-eqb (kind b) 0 e)
 
 framing-requires : tie.Need-framing-requires
 framing-requires c κs = search needs

@@ -1,13 +1,46 @@
 -- `data` meets its contract: one lemma for each way out.
-use Prim.Native.Nat.{_+_, _-_}
+use Prim.Native.Nat.{ℕ, _+_, _<_, _≤_, _-_}
 use mathlib.Core.Path.{_≡_, sym, _∙_}
+use mathlib.Core.Bool.{true, false}
+use mathlib.Core.List.{List}
+use borrow.Author.Tests.{lt-ltb, le-ltb}
+use Rattle.basis.specs.Refusals.{refused, given, first}
+use Rattle.image.specs.Record.{count, payload}
+use Rattle.image.specs.Flash.{stored, copyOf}
+use Rattle.runs.specs.Map.{nameAllOf}
+use Rattle.basis.specs.Choice.{any}
+use Rattle.image.specs.Hex.{hex, settledAs, settled, place, namedBefore, dataIn}
+use Rattle.image.specs.declared.hex.Hex.{Hex}
 use native.Mathlib.Omega.{arith}
-use Rattle.image.specs.Record.{count}
-use Rattle.image.proofs.Records.{data-none, data-high, data-twice, data-given}
 use borrow.Author.Needs.{needs}
+use Rattle.basis.specs.Board.{flashSize}
 use Rattle.image.proofs.hex.Hex.data.Statement.{statement}
 use Rattle.image.proofs.hex.Hex.data.Tie as tie
-use Rattle.basis.specs.Board.{flashSize}
+
+-- the ways out, each by the table
+module _ (size : ℕ) (h : Hex) (b image map : List ℕ) where
+  data-none : count b ≡ 0 → settledAs (given h) image map ≡ settled (dataIn size h b image map) image map
+  unfolding first dataIn any nameAllOf stored
+  data-none e = rw e
+
+  module _ (some : 0 < count b) where
+    data-high : size < place h b + count b
+        → settledAs (refused 29) image map ≡ settled (dataIn size h b image map) image map
+    unfolding first dataIn
+    data-high e = simp (lt-ltb _ _ some, lt-ltb _ _ e)
+
+    module _ (fits : place h b + count b ≤ size) where
+      data-twice : namedBefore h b map ≡ true
+          → settledAs (refused 30) image map ≡ settled (dataIn size h b image map) image map
+      unfolding first dataIn
+      data-twice e = simp (lt-ltb _ _ some, le-ltb _ _ fits, e)
+
+      data-given : (i m : List ℕ) → namedBefore h b map ≡ false → i ≡ copyOf image (place h b) (payload b)
+          → m ≡ nameAllOf map (place h b) (count b)
+          → settledAs (given (hex (h .linear) (h .segment) (h .ended) true)) i m
+          ≡ settled (dataIn size h b image map) image map
+      unfolding first dataIn
+      data-given i m e ei em = simp (lt-ltb _ _ some, le-ltb _ _ fits, e, ei, em)
 
 shared-slice-read-wide : tie.Need-shared-slice-read-wide
 shared-slice-read-wide c = search needs

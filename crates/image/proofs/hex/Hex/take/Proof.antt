@@ -1,18 +1,33 @@
 -- `take` meets its contract: what the characters spell is handed on.
-use lib.ListN.{length}
+use Prim.Native.Nat.{ℕ, _/_}
+use mathlib.Core.Path.{_≡_, sym, ap, _∙_}
+use mathlib.Core.Bool.{false}
+use mathlib.Core.List.{List}
+use lib.ListN.{length, drop}
+use Rattle.basis.specs.Refusals.{refused, given}
+use Rattle.image.specs.Digits.{decoded}
+use Rattle.image.specs.Record.{charactersOf}
+use Rattle.image.specs.Hex.{settledAs, settled, recordIn, applyIn}
+use Rattle.image.specs.declared.hex.Hex.{Hex}
+use Rattle.image.specs.Laws.Hex.{size-right, record-cut, characters-length}
 use lib.Seq.{length-take-le}
-use Prim.Native.Nat.{_/_}
-use mathlib.Core.Path.{sym, ap, _∙_}
 use native.Mathlib.Omega.{arith}
 use denote.Ref.{now}
 use Rattle.image.specs.Paper.{paperCheck}
-use Rattle.image.specs.Hex.{settled}
-use Rattle.image.specs.Laws.Hex.{characters-length}
-use Rattle.image.proofs.Records.{take-refused, take-applied}
 use borrow.Author.Needs.{needs}
+use Rattle.basis.specs.Board.{flashSize}
 use Rattle.image.proofs.hex.Hex.take.Statement.{statement}
 use Rattle.image.proofs.hex.Hex.take.Tie as tie
-use Rattle.basis.specs.Board.{flashSize}
+
+-- the ways out, each by the table
+module _ (size : ℕ) (h : Hex) (line image map : List ℕ) (p : length image ≡ size) (q : length map ≡ size / 8) (going : h .ended ≡ false) where
+  take-refused : (k : ℕ) → charactersOf line ≡ refused k
+      → settledAs (refused k) image map ≡ settled (recordIn size h line image map) image map
+  take-refused k e = rw (record-cut size h image map line (size-right size image map p q) going, e)
+
+  take-applied : (b : List ℕ) → charactersOf line ≡ given tt → b ≡ decoded (drop 1 line)
+      → applyIn size h (length line) b image map ≡ recordIn size h line image map
+  take-applied b e s = rw (record-cut size h image map line (size-right size image map p q) going, e, s)
 
 characters-requires : tie.Need-characters-requires
 characters-requires c κs = search needs
