@@ -86,11 +86,11 @@ placed h b image map =
 abbrev pub effect : Hex → List ℕ → List ℕ → List ℕ → File
 effect h b image map = pick (isData b) (placed h b image map) (file (otherOf h b) image map)
 
--- of a data record
+-- 29 and 30, of a data record
 abbrev pub placeRows : ℕ → Hex → List ℕ → List ℕ → List Rule
 placeRows size h b map = 29 when pastBoard size h b ∷ 30 when namedBefore h b map ∷ []
 
--- from 25 on, of the bytes of a record of n characters
+-- 25 to 30, of the bytes of a record of n characters
 abbrev pub applyRows : ℕ → Hex → ℕ → List ℕ → List ℕ → List Rule
 applyRows size h n b map = byteRows n b ++ shapeRows b ++ pick (isData b) (placeRows size h b map) []
 

@@ -66,21 +66,21 @@ shapeWrong b =
 
 -- ---- the rows of the paper's table, and the cuts: what one part of them says
 
--- of the characters
+-- 22 to 24, of the characters
 abbrev pub characterRows : List ℕ → List Rule
 characterRows line = 22 when noColon line ∷ 23 when lengthWrong line ∷ 24 when notDigits line ∷ []
 
 unfoldable pub charactersOf : List ℕ → Answer Unit
 charactersOf line = first (characterRows line) (given tt)
 
--- of the bytes of a record of n characters
+-- 25 and 26, of the bytes of a record of n characters
 abbrev pub byteRows : ℕ → List ℕ → List Rule
 byteRows n b = 25 when countWrong n b ∷ 26 when sumWrong b ∷ []
 
 unfoldable pub framingOf : ℕ → List ℕ → Answer Unit
 framingOf n b = first (byteRows n b) (given tt)
 
--- of type and shape
+-- 27 and 28, of type and shape
 abbrev pub shapeRows : List ℕ → List Rule
 shapeRows b = 27 when kindWrong b ∷ 28 when shapeWrong b ∷ []
 

@@ -16,8 +16,8 @@ use Rattle.image.specs.Digits.{digitOf, allDigits, decoded}
 use Rattle.image.specs.Writer.{letterOf, spelt, line}
 use Rattle.image.specs.Laws.Writer.{length-spelt, spelt-digits, spelt-bytes}
 use Rattle.basis.specs.Laws.Choice.{pick-second, both-none, either-none}
-use Rattle.image.specs.Record.{count, kind, address, noColon, lengthWrong, notDigits, countWrong, sumWrong, isData, kindWrong, shapeWrong, characterRows, byteRows, shapeRows, charactersOf, framingOf, shapeOf}
-use Rattle.image.specs.Hex.{hex, file, place, placeRows, pastBoard, namedBefore, placed, otherOf, sizeWrong, recordIn, applyIn, dataIn}
+use Rattle.image.specs.Record.{count, kind, address, noColon, lengthWrong, countWrong, isData, kindWrong, shapeWrong, characterRows, byteRows, shapeRows, charactersOf, framingOf, shapeOf}
+use Rattle.image.specs.Hex.{hex, file, place, placeRows, namedBefore, placed, otherOf, sizeWrong, recordIn, applyIn, dataIn}
 use Rattle.image.specs.declared.hex.Hex.{Hex}
 
 -- types 02 to 05 have BB 2
