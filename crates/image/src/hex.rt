@@ -98,8 +98,8 @@ impl Hex {
             (recordIn flashSize self (now (line .entry)) i m) i m)
             ⌝ }
     {
-        let spelt = characters(line, bytes);
-        if let Check::Refused(x) = spelt {
+        let checked = characters(line, bytes);
+        if let Check::Refused(x) = checked {
             return Read::Refused(x);
         }
         let n = line.len();

@@ -1,8 +1,7 @@
 // What a walk over places has met so far, and the two ways on: one place, or 64 at once.
 ghost use mathlib.Core.Path.{_≡_};
 ghost use Prim.Native.Nat.{_+_, _-_, _^_, _<_, _≤_};
-ghost use lib.Dec.{eqb};
-ghost use Rattle.basis.specs.Choice.{pick};
+ghost use Rattle.runs.specs.Runs.{wrappedOf};
 ghost use Rattle.runs.specs.Tally.{tookOf, tookBits, joinsOf, cutOf};
 
 // How many places passed, how many pieces started, and how much of a piece is open.
@@ -90,7 +89,7 @@ impl Tally {
 
 // x, or 0 where x is cap.
 fn wrapped(x: u32, cap: u32) -> u32
-    ensures { λ r. ⌜ r ≡ pick (eqb x cap) 0 x ⌝ }
+    ensures { λ r. ⌜ r ≡ wrappedOf x cap ⌝ }
 {
     if x == cap {
         return 0;

@@ -32,8 +32,8 @@ module _ (size : ℕ) (h : Hex) (line image map : List ℕ) (p : length image �
 characters-requires : tie.Need-characters-requires
 characters-requires c κs = search needs
 
-enum-known-spelt : tie.Need-enum-known-spelt
-enum-known-spelt c = search needs
+enum-known-checked : tie.Need-enum-known-checked
+enum-known-checked c = search needs
 
 same-length : tie.Need-same-length
 same-length c = search needs
@@ -44,7 +44,7 @@ returns c =
     let pre = p .pre in
     take-refused flashSize _ _ _ _ (pre .1) (pre .2) (pre .3) _
     (sym (c .before .before .before .before .before .characters .ensures .0)
-    ∙ ap paperCheck (c .before .spelt .given .1))
+    ∙ ap paperCheck (c .before .checked .given .1))
 
 enum-told : tie.Need-enum-told
 enum-told c = search needs
@@ -111,7 +111,7 @@ take-spec =
     tie.close
     (tie.spec
     characters-requires
-    enum-known-spelt
+    enum-known-checked
     same-length
     returns
     enum-told
