@@ -9,14 +9,14 @@ pageSize = 512
 abbrev pub groupSize : ℕ
 groupSize = 0x800
 
--- flash has 124 pages: 63,488 bytes
+-- flash is 63,488 bytes: 124 pages of 512
 abbrev pub pages : ℕ
 pages = 124
 
 abbrev pub flashSize : ℕ
 flashSize = 0xF800
 
--- the map has one bit for each byte: 7,936 bytes
+-- the map is 7,936 bytes: one bit for each byte of flash
 abbrev pub mapSize : ℕ
 mapSize = 7936
 

@@ -24,6 +24,11 @@ unfoldable pub first : {A : Type 0} → List Rule → Answer A → Answer A
 first [] r = r
 first (x ∷ l) r = pick (x .holds) (refused (x .number)) (first l r)
 
+-- what a check refuses is refused; what it passes goes on
+abbrev pub andThen : {A : Type 0} → Answer (Unit {0}) → Answer A → Answer A
+andThen (refused n) r = refused n
+andThen (given x) r = r
+
 -- of an answer that is bytes: how many, and which are written
 abbrev pub counted : Answer (List ℕ) → Answer ℕ
 counted (refused n) = refused n

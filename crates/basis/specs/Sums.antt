@@ -11,6 +11,10 @@ plainSum (x ∷ s) = x + plainSum s
 unfoldable pub sumOf : List ℕ → ℕ
 sumOf s = plainSum s % 256
 
+-- what makes a low byte zero
+abbrev pub complementOf : ℕ → ℕ
+complementOf total = (256 - total) % 256
+
 -- the checksum makes the low byte of the sum zero
 abbrev pub checksumOf : List ℕ → ℕ
-checksumOf s = (256 - sumOf s) % 256
+checksumOf s = complementOf (sumOf s)

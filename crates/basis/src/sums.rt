@@ -1,6 +1,6 @@
 // The sum of bytes by wrapping adds, and its wrapping complement: for packets and hex records alike.
 ghost use mathlib.Core.Path.{_≡_};
-ghost use Rattle.basis.specs.Sums.{sumOf, checksumOf};
+ghost use Rattle.basis.specs.Sums.{sumOf, complementOf, checksumOf};
 
 pub fn sum(bytes: &[u8]) -> u8
     ensures { λ r. ⌜ r ≡ sumOf (now (bytes .entry)) ⌝ }
@@ -14,8 +14,15 @@ pub fn sum(bytes: &[u8]) -> u8
     total
 }
 
+// The byte that makes a total zero.
+pub fn complement(total: u8) -> u8
+    ensures { λ r. ⌜ r ≡ complementOf total ⌝ }
+{
+    std::num::wrapping_sub_u8(0, total)
+}
+
 pub fn checksum(bytes: &[u8]) -> u8
     ensures { λ r. ⌜ r ≡ checksumOf (now (bytes .entry)) ⌝ }
 {
-    std::num::wrapping_sub_u8(0, sum(bytes))
+    complement(sum(bytes))
 }

@@ -6,8 +6,9 @@ ghost use Rattle.basis.specs.Lists.{overlay};
 ghost use Rattle.basis.specs.Refusals.{refused};
 ghost use Rattle.gremolunde.specs.Answers.{noReader, hexAnswer, writtenAnswer};
 ghost use Rattle.gremolunde.specs.States.{hexMeant};
-ghost use Rattle.image.specs.Hex.{paperRead, settled, startIn, recordIn, closeOf};
-ghost use Rattle.image.specs.Writer.{paperWritten, measured, textBytes, writeIn};
+ghost use Rattle.image.specs.Paper.{paperRead, paperWritten};
+ghost use Rattle.image.specs.Hex.{settled, startIn, recordIn, closeOf};
+ghost use Rattle.image.specs.Writer.{measured, textBytes, writeIn};
 use crate::states::HexState;
 use crate::states::hex_meant;
 use crate::states::hex_shown;
@@ -111,8 +112,7 @@ fn told(from: u32, answer: Written) -> HexWritten
             next: next.0,
             length,
         },
-        Written::Size => unwritten(20, from),
-        Written::Short => unwritten(33, from),
+        Written::Refused(why) => unwritten(why.number(), from),
     }
 }
 

@@ -1,22 +1,16 @@
 -- The hex reader: what start, one record and closing give, on a board of `size` bytes.
 use Prim.Native.Nat.{ℕ, _+_, _*_, _/_}
-use mathlib.Core.List.{List, [], _∷_}
+use mathlib.Core.List.{List, [], _∷_, _++_}
 use mathlib.Core.Bool.{Bool, true, false, not}
 use lib.Dec.{eqb, ltb}
 use lib.ListN.{length, drop, replicate}
 use Rattle.basis.specs.Choice.{pick, both, either}
-use Rattle.basis.specs.Refusals.{Answer, refused, given, _when_, first}
+use Rattle.basis.specs.Refusals.{Answer, refused, given, Rule, _when_, first}
 use Rattle.image.specs.Digits.{decoded}
 use Rattle.image.specs.Flash.{copyOf}
-use Rattle.image.specs.Places.{anyNamed, nameAllOf}
-use Rattle.image.specs.Record.{paperRefusal, count, address, kind, payload, value, noColon, lengthWrong, notDigits, countWrong, sumWrong, isData, kindWrong, shapeWrong}
+use Rattle.image.specs.Record.{count, address, kind, payload, value, isData, characterRows, byteRows, shapeRows}
 use Rattle.image.specs.declared.hex.Hex.{Hex}
-use Rattle.image.specs.declared.hex.Read.{Read}
-use Rattle.image.specs.declared.hex.Read.the-variants.{Taken, Refused}
-
-abbrev pub paperRead : Read → Answer Hex
-paperRead (Taken h) = given h
-paperRead (Refused x) = refused (paperRefusal x)
+use Rattle.runs.specs.Map.{anyNamed, nameAllOf}
 
 -- reader, image and map together
 pub record File : Type 0 where
@@ -41,34 +35,39 @@ abbrev pub settled : Answer File → List ℕ → List ℕ → Settled
 settled (refused n) image map = settledAs (refused n) image map
 settled (given f) image map = settledAs (given (f .reader)) (f .image) (f .map)
 
--- one bit an address
+-- an image that is not the board's size, or a map that has not one bit an address
 abbrev pub sizeWrong : ℕ → List ℕ → List ℕ → Bool
 sizeWrong size image map = not (both (eqb (length image) size) (eqb (length map) (size / 8)))
 
+-- both bases, whether the end record came, and whether a data byte was taken
+abbrev pub hex : ℕ → ℕ → Bool → Bool → Hex
+hex linear segment ended taken = record { linear = linear; segment = segment; ended = ended; taken = taken }
+
 abbrev pub fresh : Hex
-fresh = record { linear = 0; segment = 0; ended = false; taken = false }
+fresh = hex 0 0 false false
 
 -- a file at its start
 abbrev pub started : ℕ → File
 started size = file fresh (replicate size 0xFF) (replicate (size / 8) 0)
 
+-- start: 20, else image and map filled
 unfoldable pub startIn : ℕ → List ℕ → List ℕ → Answer File
 startIn size image map = first (20 when sizeWrong size image map ∷ []) (given (started size))
 
--- the place of the first data byte, as a whole paperRefusal
+-- the place of the first data byte: linear base + segment base + AAAA, a whole number with no wrap
 abbrev pub place : Hex → List ℕ → ℕ
 place h b = h .linear + h .segment + address b
 
 -- the reader after n data bytes
 abbrev pub fed : Hex → ℕ → Hex
-fed h n = record { linear = h .linear; segment = h .segment; ended = h .ended; taken = either (ltb 0 n) (h .taken) }
+fed h n = hex (h .linear) (h .segment) (h .ended) (either (ltb 0 n) (h .taken))
 
 -- and after a record of another type: 01 ends, 02 sets the segment base, 04 the linear base
 abbrev pub otherOf : Hex → List ℕ → Hex
 otherOf h b =
-    pick (eqb (kind b) 1) (record { linear = h .linear; segment = h .segment; ended = true; taken = h .taken })
-    (pick (eqb (kind b) 2) (record { linear = h .linear; segment = 16 * value b; ended = h .ended; taken = h .taken })
-    (pick (eqb (kind b) 4) (record { linear = 65536 * value b; segment = h .segment; ended = h .ended; taken = h .taken }) h))
+    pick (eqb (kind b) 1) (hex (h .linear) (h .segment) true (h .taken))
+    (pick (eqb (kind b) 2) (hex (h .linear) (16 * value b) (h .ended) (h .taken))
+    (pick (eqb (kind b) 4) (hex (65536 * value b) (h .segment) (h .ended) (h .taken)) h))
 
 -- BB above 0 and place + BB above the board
 abbrev pub pastBoard : ℕ → Hex → List ℕ → Bool
@@ -80,47 +79,37 @@ namedBefore h b map = anyNamed map (place h b) (count b)
 
 -- what a data record does
 abbrev pub placed : Hex → List ℕ → List ℕ → List ℕ → File
-placed h b image map = file (fed h (count b)) (copyOf image (place h b) (payload b)) (nameAllOf map (place h b) (count b))
+placed h b image map =
+    file (fed h (count b)) (copyOf image (place h b) (payload b)) (nameAllOf map (place h b) (count b))
 
 -- what a record does
 abbrev pub effect : Hex → List ℕ → List ℕ → List ℕ → File
 effect h b image map = pick (isData b) (placed h b image map) (file (otherOf h b) image map)
 
+-- 29 and 30, of a data record
+abbrev pub placeRows : ℕ → Hex → List ℕ → List ℕ → List Rule
+placeRows size h b map = 29 when pastBoard size h b ∷ 30 when namedBefore h b map ∷ []
+
+-- 25 to 30, of the bytes of a record of n characters
+abbrev pub applyRows : ℕ → Hex → ℕ → List ℕ → List ℕ → List Rule
+applyRows size h n b map = byteRows n b ++ shapeRows b ++ pick (isData b) (placeRows size h b map) []
+
+-- one record, its line end removed: the refusals in the paper's order, else what it does
 unfoldable pub recordIn : ℕ → Hex → List ℕ → List ℕ → List ℕ → Answer File
 recordIn size h line image map =
     let b = decoded (drop 1 line) in
     first
     (20 when sizeWrong size image map
     ∷ 21 when h .ended
-    ∷ 22 when noColon line
-    ∷ 23 when lengthWrong line
-    ∷ 24 when notDigits line
-    ∷ 25 when countWrong (length line) b
-    ∷ 26 when sumWrong b
-    ∷ 27 when kindWrong b
-    ∷ 28 when shapeWrong b
-    ∷ 29 when both (isData b) (pastBoard size h b)
-    ∷ 30 when both (isData b) (namedBefore h b map)
-    ∷ [])
+    ∷ characterRows line ++ applyRows size h (length line) b map)
     (given (effect h b image map))
 
--- the table from 25 on, of the bytes of a record of n characters
+-- and its cuts: from 25 on, and from 29 on
 unfoldable pub applyIn : ℕ → Hex → ℕ → List ℕ → List ℕ → List ℕ → Answer File
-applyIn size h n b image map =
-    first
-    (25 when countWrong n b
-    ∷ 26 when sumWrong b
-    ∷ 27 when kindWrong b
-    ∷ 28 when shapeWrong b
-    ∷ 29 when both (isData b) (pastBoard size h b)
-    ∷ 30 when both (isData b) (namedBefore h b map)
-    ∷ [])
-    (given (effect h b image map))
+applyIn size h n b image map = first (applyRows size h n b map) (given (effect h b image map))
 
--- and from 29 on, of a data record
 unfoldable pub dataIn : ℕ → Hex → List ℕ → List ℕ → List ℕ → Answer File
-dataIn size h b image map =
-    first (29 when pastBoard size h b ∷ 30 when namedBefore h b map ∷ []) (given (placed h b image map))
+dataIn size h b image map = first (placeRows size h b map) (given (placed h b image map))
 
 -- no end record; no data byte taken since the start
 unfoldable pub closeOf : Hex → Answer Hex

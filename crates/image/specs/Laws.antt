@@ -1,5 +1,4 @@
 pub mod Flash
-pub mod Places
 pub mod Writer
 pub mod Hex
 pub mod RoundTrip

@@ -1,37 +1,13 @@
--- A record by itself: its parts, and its refusals 22 to 28 as the functions cut them.
+-- A record by itself: its parts, and its refusals 22 to 28.
 use Prim.Native.Nat.{ℕ, _+_, _*_, _%_}
 use mathlib.Core.List.{List, [], _∷_}
 use mathlib.Core.Bool.{Bool, false, not}
 use lib.Dec.{eqb, ltb}
 use lib.ListN.{length, getD, take, drop}
 use Rattle.basis.specs.Choice.{pick, either}
-use Rattle.basis.specs.Refusals.{Answer, refused, given, _when_, first}
+use Rattle.basis.specs.Refusals.{Answer, given, Rule, _when_, first}
 use Rattle.basis.specs.Sums.{sumOf}
 use Rattle.image.specs.Digits.{allDigits}
-use Rattle.image.specs.declared.record.Refusal.{Refusal}
-use Rattle.image.specs.declared.record.Refusal.the-variants.{Size, Ended, Colon, Length, Digit, Count, Checksum, Kind, Shape, Place, Twice, NoEnd, NoData}
-use Rattle.image.specs.declared.record.Check.{Check}
-use Rattle.image.specs.declared.record.Check.the-variants.{Passed, Refused}
-
--- the paper's number of each refusal
-abbrev pub paperRefusal : Refusal → ℕ
-paperRefusal Size = 20
-paperRefusal Ended = 21
-paperRefusal Colon = 22
-paperRefusal Length = 23
-paperRefusal Digit = 24
-paperRefusal Count = 25
-paperRefusal Checksum = 26
-paperRefusal Kind = 27
-paperRefusal Shape = 28
-paperRefusal Place = 29
-paperRefusal Twice = 30
-paperRefusal NoEnd = 31
-paperRefusal NoData = 32
-
-abbrev pub paperCheck : Check → Answer Unit
-paperCheck Passed = given tt
-paperCheck (Refused x) = refused (paperRefusal x)
 
 -- ---- the parts of a record, of its bytes
 
@@ -85,18 +61,28 @@ kindWrong b = ltb 5 (kind b)
 
 -- BB or AAAA wrong for the type: 01 has BB 0, 02 to 05 have BB 2, and all of them AAAA 0
 abbrev pub shapeWrong : List ℕ → Bool
-shapeWrong b = pick (isData b) false (either (not (eqb (address b) 0)) (not (eqb (count b) (pick (eqb (kind b) 1) 0 2))))
+shapeWrong b =
+    pick (isData b) false (either (not (eqb (address b) 0)) (not (eqb (count b) (pick (eqb (kind b) 1) 0 2))))
 
--- ---- the cuts
+-- ---- the rows of the paper's table, and the cuts: what one part of them says
 
--- of the characters
+-- 22 to 24, of the characters
+abbrev pub characterRows : List ℕ → List Rule
+characterRows line = 22 when noColon line ∷ 23 when lengthWrong line ∷ 24 when notDigits line ∷ []
+
 unfoldable pub charactersOf : List ℕ → Answer Unit
-charactersOf line = first (22 when noColon line ∷ 23 when lengthWrong line ∷ 24 when notDigits line ∷ []) (given tt)
+charactersOf line = first (characterRows line) (given tt)
 
--- of the bytes of a record of n characters
+-- 25 and 26, of the bytes of a record of n characters
+abbrev pub byteRows : ℕ → List ℕ → List Rule
+byteRows n b = 25 when countWrong n b ∷ 26 when sumWrong b ∷ []
+
 unfoldable pub framingOf : ℕ → List ℕ → Answer Unit
-framingOf n b = first (25 when countWrong n b ∷ 26 when sumWrong b ∷ []) (given tt)
+framingOf n b = first (byteRows n b) (given tt)
 
--- of type and shape
+-- 27 and 28, of type and shape
+abbrev pub shapeRows : List ℕ → List Rule
+shapeRows b = 27 when kindWrong b ∷ 28 when shapeWrong b ∷ []
+
 unfoldable pub shapeOf : List ℕ → Answer Unit
-shapeOf b = first (27 when kindWrong b ∷ 28 when shapeWrong b ∷ []) (given tt)
+shapeOf b = first (shapeRows b) (given tt)

@@ -9,8 +9,6 @@ use Rattle.basis.specs.Sums.{checksumOf}
 use Rattle.runs.specs.Map.{named}
 use Rattle.runs.specs.Runs.{len, next}
 use Rattle.image.specs.Hex.{sizeWrong}
-use Rattle.image.specs.declared.writer.Written.{Written}
-use Rattle.image.specs.declared.writer.Written.the-variants.{Size, Short, Record}
 
 -- the upper case character of a digit
 unfoldable pub letterOf : ℕ → ℕ
@@ -53,12 +51,15 @@ recordFrom image map a = step (text a 0 (take (recordLength map a) (drop a image
 abbrev pub lowest : ℕ → List ℕ → ℕ → ℕ
 lowest size map a = next (named map) a (size - a)
 
+-- above the board nothing; with no named byte left the end record, and on from one past the board;
+-- else the record of the run at the lowest
 unfoldable pub stepFrom : ℕ → List ℕ → List ℕ → ℕ → Step
 stepFrom size image map a =
     pick (ltb size a) (step [] a)
-    (pick (leb size (lowest size map a)) (step (text 0 1 []) (size + 1)) (recordFrom image map (lowest size map a)))
+    (pick (leb size (lowest size map a)) (step (text 0 1 []) (size + 1))
+    (recordFrom image map (lowest size map a)))
 
--- with a buffer of n bytes
+-- writing into a buffer of n bytes: 20, 33, else the next record
 unfoldable pub writeIn : ℕ → List ℕ → List ℕ → ℕ → ℕ → Answer Step
 writeIn size image map a n =
     first (20 when sizeWrong size image map ∷ 33 when ltb n 44 ∷ []) (given (stepFrom size image map a))
@@ -68,11 +69,7 @@ pub record Measured : Type 0 where
   pub length : ℕ
   pub next : ℕ
 
-abbrev pub paperWritten : Written → Answer Measured
-paperWritten Size = refused 20
-paperWritten Short = refused 33
-paperWritten (Record n a) = given (record { length = n; next = a .0 })
-
+-- what is given of a step
 abbrev pub measured : Answer Step → Answer Measured
 measured (refused n) = refused n
 measured (given s) = given (record { length = length (s .text); next = s .next })

@@ -10,9 +10,9 @@ pub fn digit(c: u8) -> u8
     ensures { λ r. ⌜ r ≡ digitOf c ⌝ }
 {
     match c {
-        b'0'..=b'9' => c - 48,
-        b'A'..=b'F' => c - 55,
-        b'a'..=b'f' => c - 87,
+        b'0'..=b'9' => c - 0x30,
+        b'A'..=b'F' => c - 0x37,
+        b'a'..=b'f' => c - 0x57,
         _ => 16,
     }
 }
@@ -21,7 +21,10 @@ pub fn digit(c: u8) -> u8
 pub fn decode(line: &[u8], bytes: &mut [u8]) -> bool
     requires { ⌜ (length (now line) % 2 ≡ 1) × (length (now line) / 2 ≤ length (now bytes)) ⌝ }
     ensures digits { λ r. ⌜ r ≡ allDigits (drop 1 (now (line .entry))) ⌝ }
-    ensures bytes { λ r. ⌜ (r ≡ true → take (length (now (line .entry)) / 2) (now (bytes .exit)) ≡ decoded (drop 1 (now (line .entry)))) ⌝ }
+    ensures bytes { λ r. ⌜
+        (r ≡ true
+        → take (length (now (line .entry)) / 2) (now (bytes .exit)) ≡ decoded (drop 1 (now (line .entry))))
+        ⌝ }
 {
     let n = line.len() / 2;
     let mut i = 0;

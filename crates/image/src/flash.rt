@@ -4,21 +4,24 @@ ghost use mathlib.Core.Path.{_≡_};
 ghost use Prim.Native.Nat.{_+_, _≤_};
 ghost use lib.ListN.{length};
 ghost use Rattle.image.specs.Flash.{eraseOf, storeOf, copyOf};
+use basis::units::Address;
 
-pub fn erase(flash: &mut [u8], at: usize, count: usize)
-    requires { ⌜ at + count ≤ length (now flash) ⌝ }
-    ensures { λ _. ⌜ now (flash .exit) ≡ eraseOf (now (flash .entry)) at count ⌝ }
+pub fn erase(flash: &mut [u8], from: Address, count: usize)
+    requires { ⌜ from .0 + count ≤ length (now flash) ⌝ }
+    ensures { λ _. ⌜ now (flash .exit) ≡ eraseOf (now (flash .entry)) (from .0) count ⌝ }
 {
+    let at = from.0 as usize;
     for i in 0..count {
         flash[at + i] = 0xFF;
     }
 }
 
 // A store can clear bits and never sets one.
-pub fn store(flash: &mut [u8], at: usize, bytes: &[u8])
-    requires { ⌜ at + length (now bytes) ≤ length (now flash) ⌝ }
-    ensures { λ _. ⌜ now (flash .exit) ≡ storeOf (now (flash .entry)) at (now (bytes .entry)) ⌝ }
+pub fn store(flash: &mut [u8], from: Address, bytes: &[u8])
+    requires { ⌜ from .0 + length (now bytes) ≤ length (now flash) ⌝ }
+    ensures { λ _. ⌜ now (flash .exit) ≡ storeOf (now (flash .entry)) (from .0) (now (bytes .entry)) ⌝ }
 {
+    let at = from.0 as usize;
     let mut i = 0;
     while i < bytes.len() {
         flash[at + i] = flash[at + i] & bytes[i];

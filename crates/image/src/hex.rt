@@ -6,10 +6,9 @@ ghost use lib.ListN.{length, replicate};
 ghost use Rattle.basis.specs.Refusals.{given};
 ghost use Rattle.basis.specs.Board.{flashSize, mapSize};
 ghost use Rattle.image.specs.Record.{count, kind, shapeOf};
-ghost use Rattle.image.specs.Hex.{paperRead, settledAs, settled, startIn, recordIn, applyIn, dataIn, otherOf, closeOf};
+ghost use Rattle.image.specs.Paper.{paperRead, Reads};
+ghost use Rattle.image.specs.Hex.{startIn, recordIn, applyIn, dataIn, otherOf, closeOf};
 use crate::flash::copy;
-use crate::places::any_named;
-use crate::places::name_all;
 use crate::record::Check;
 use crate::record::Refusal;
 use crate::record::characters;
@@ -21,6 +20,8 @@ use basis::board::END;
 use basis::board::MAP;
 use basis::board::SIZE;
 use basis::units::Address;
+use runs::places::any_named;
+use runs::places::name_all;
 
 // Both bases, whether the end record came, and whether a data byte was taken.
 // A base fits 32 bits, so no sum of the two, an address and a count wraps in 64.
@@ -39,7 +40,11 @@ pub enum Read {
 impl Hex {
     // A reader at the start of a file: the image filled with 0xFF, the map with 0.
     pub fn start(image: &mut [u8], map: &mut [u8]) -> Read
-        ensures { λ r. ⌜ settledAs (paperRead r) (now (image .exit)) (now (map .exit)) ≡ settled (startIn flashSize (now (image .entry)) (now (map .entry))) (now (image .entry)) (now (map .entry)) ⌝ }
+        ensures { λ r. ⌜
+            (let i = now (image .entry) in
+            let m = now (map .entry) in
+            Reads r (now (image .exit)) (now (map .exit)) (startIn flashSize i m) i m)
+            ⌝ }
     {
         if image.len() != SIZE {
             return Read::Refused(Refusal::Size);
@@ -59,7 +64,12 @@ impl Hex {
 
     // One record, its line end removed. A refusal leaves image, map and reader as they stood.
     pub fn record(self, line: &[u8], image: &mut [u8], map: &mut [u8]) -> Read
-        ensures { λ r. ⌜ settledAs (paperRead r) (now (image .exit)) (now (map .exit)) ≡ settled (recordIn flashSize self (now (line .entry)) (now (image .entry)) (now (map .entry))) (now (image .entry)) (now (map .entry)) ⌝ }
+        ensures { λ r. ⌜
+            (let i = now (image .entry) in
+            let m = now (map .entry) in
+            Reads r (now (image .exit)) (now (map .exit))
+            (recordIn flashSize self (now (line .entry)) i m) i m)
+            ⌝ }
     {
         if image.len() != SIZE {
             return Read::Refused(Refusal::Size);
@@ -70,17 +80,26 @@ impl Hex {
         if self.ended {
             return Read::Refused(Refusal::Ended);
         }
+        // A line of 521 characters has 260 bytes.
         let mut bytes = [0u8; 260];
         self.take(line, &mut bytes, image, map)
     }
 
     // 22 to 30 and what the record does, with room for its bytes.
     fn take(self, line: &[u8], bytes: &mut [u8], image: &mut [u8], map: &mut [u8]) -> Read
-        requires { ⌜ (length (now bytes) ≡ 260) × (length (now image) ≡ flashSize) × (length (now map) ≡ mapSize) × (self .ended ≡ false) ⌝ }
-        ensures { λ r. ⌜ settledAs (paperRead r) (now (image .exit)) (now (map .exit)) ≡ settled (recordIn flashSize self (now (line .entry)) (now (image .entry)) (now (map .entry))) (now (image .entry)) (now (map .entry)) ⌝ }
+        requires { ⌜
+            (length (now bytes) ≡ 260) × (length (now image) ≡ flashSize) × (length (now map) ≡ mapSize)
+            × (self .ended ≡ false)
+            ⌝ }
+        ensures { λ r. ⌜
+            (let i = now (image .entry) in
+            let m = now (map .entry) in
+            Reads r (now (image .exit)) (now (map .exit))
+            (recordIn flashSize self (now (line .entry)) i m) i m)
+            ⌝ }
     {
-        let spelt = characters(line, bytes);
-        if let Check::Refused(x) = spelt {
+        let checked = characters(line, bytes);
+        if let Check::Refused(x) = checked {
             return Read::Refused(x);
         }
         let n = line.len();
@@ -90,8 +109,16 @@ impl Hex {
 
     // 25 to 30 and what the record does, of the bytes of a record of `n` characters.
     fn apply(self, n: usize, bytes: &[u8], image: &mut [u8], map: &mut [u8]) -> Read
-        requires { ⌜ (n ≡ 2 * length (now bytes) + 1) × (5 ≤ length (now bytes)) × (length (now image) ≡ flashSize) × (length (now map) ≡ mapSize) ⌝ }
-        ensures { λ r. ⌜ settledAs (paperRead r) (now (image .exit)) (now (map .exit)) ≡ settled (applyIn flashSize self n (now (bytes .entry)) (now (image .entry)) (now (map .entry))) (now (image .entry)) (now (map .entry)) ⌝ }
+        requires { ⌜
+            (n ≡ 2 * length (now bytes) + 1) × (5 ≤ length (now bytes))
+            × (length (now image) ≡ flashSize) × (length (now map) ≡ mapSize)
+            ⌝ }
+        ensures { λ r. ⌜
+            (let i = now (image .entry) in
+            let m = now (map .entry) in
+            Reads r (now (image .exit)) (now (map .exit))
+            (applyIn flashSize self n (now (bytes .entry)) i m) i m)
+            ⌝ }
     {
         let framed = framing(n, bytes);
         if let Check::Refused(x) = framed {
@@ -109,8 +136,16 @@ impl Hex {
 
     // 29 and 30, and the data bytes into image and map.
     fn data(self, bytes: &[u8], image: &mut [u8], map: &mut [u8]) -> Read
-        requires { ⌜ (length (now bytes) ≡ 5 + count (now bytes)) × (length (now image) ≡ flashSize) × (length (now map) ≡ mapSize) ⌝ }
-        ensures { λ r. ⌜ settledAs (paperRead r) (now (image .exit)) (now (map .exit)) ≡ settled (dataIn flashSize self (now (bytes .entry)) (now (image .entry)) (now (map .entry))) (now (image .entry)) (now (map .entry)) ⌝ }
+        requires { ⌜
+            (length (now bytes) ≡ 5 + count (now bytes))
+            × (length (now image) ≡ flashSize) × (length (now map) ≡ mapSize)
+            ⌝ }
+        ensures { λ r. ⌜
+            (let i = now (image .entry) in
+            let m = now (map .entry) in
+            Reads r (now (image .exit)) (now (map .exit))
+            (dataIn flashSize self (now (bytes .entry)) i m) i m)
+            ⌝ }
     {
         let count = wide(bytes[0]);
         if count == 0 {
@@ -138,7 +173,10 @@ impl Hex {
 
     // The reader after a record that is no data.
     fn other(mut self, bytes: &[u8]) -> Hex
-        requires { ⌜ (length (now bytes) ≡ 5 + count (now bytes)) × (shapeOf (now bytes) ≡ given tt) × (kind (now bytes) ≡ 0 → ⊥) ⌝ }
+        requires { ⌜
+            (length (now bytes) ≡ 5 + count (now bytes)) × (shapeOf (now bytes) ≡ given tt)
+            × (kind (now bytes) ≡ 0 → ⊥)
+            ⌝ }
         ensures { λ r. ⌜ r ≡ otherOf self (now (bytes .entry)) ⌝ }
     {
         let kind = bytes[3];

@@ -4,7 +4,8 @@ ghost use Prim.Native.Nat.{_+_, _*_, _/_, _≤_};
 ghost use lib.ListN.{length, take, drop};
 ghost use Rattle.basis.specs.Refusals.{given};
 ghost use Rattle.image.specs.Digits.{decoded};
-ghost use Rattle.image.specs.Record.{paperRefusal, paperCheck, count, charactersOf, framingOf, shapeOf};
+ghost use Rattle.image.specs.Paper.{paperRefusal, paperCheck};
+ghost use Rattle.image.specs.Record.{count, charactersOf, framingOf, shapeOf};
 use crate::digits::decode;
 use basis::sums::sum;
 
@@ -22,6 +23,7 @@ pub enum Refusal {
     Twice,
     NoEnd,
     NoData,
+    Short,
 }
 
 impl Refusal {
@@ -42,6 +44,7 @@ impl Refusal {
             Refusal::Twice => 30,
             Refusal::NoEnd => 31,
             Refusal::NoData => 32,
+            Refusal::Short => 33,
         }
     }
 }
@@ -55,7 +58,10 @@ pub enum Check {
 pub fn characters(line: &[u8], bytes: &mut [u8]) -> Check
     requires { ⌜ 260 ≤ length (now bytes) ⌝ }
     ensures answer { λ r. ⌜ paperCheck r ≡ charactersOf (now (line .entry)) ⌝ }
-    ensures bytes { λ r. ⌜ (paperCheck r ≡ given tt → take (length (now (line .entry)) / 2) (now (bytes .exit)) ≡ decoded (drop 1 (now (line .entry)))) ⌝ }
+    ensures bytes { λ r. ⌜
+        (paperCheck r ≡ given tt
+        → take (length (now (line .entry)) / 2) (now (bytes .exit)) ≡ decoded (drop 1 (now (line .entry))))
+        ⌝ }
 {
     let n = line.len();
     if n == 0 {
@@ -100,7 +106,7 @@ pub fn shape(bytes: &[u8]) -> Check
     ensures { λ r. ⌜ paperCheck r ≡ shapeOf (now (bytes .entry)) ⌝ }
 {
     let count = bytes[0];
-    let at = word(bytes[1], bytes[2]);
+    let address = word(bytes[1], bytes[2]);
     let kind = bytes[3];
     if 5 < kind {
         return Check::Refused(Refusal::Kind);
@@ -108,7 +114,7 @@ pub fn shape(bytes: &[u8]) -> Check
     if kind == 0 {
         return Check::Passed;
     }
-    if at != 0 {
+    if address != 0 {
         return Check::Refused(Refusal::Shape);
     }
     if kind == 1 {
@@ -123,6 +129,7 @@ pub fn shape(bytes: &[u8]) -> Check
     Check::Passed
 }
 
+// A byte as a number, known to be at most 255.
 pub fn wide(x: u8) -> usize
     ensures { λ r. ⌜ (r ≡ x) × (r ≤ 255) ⌝ }
 {

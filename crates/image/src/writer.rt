@@ -5,35 +5,40 @@ ghost use lib.ListN.{length};
 ghost use Rattle.basis.specs.Lists.{overlay};
 ghost use Rattle.basis.specs.Board.{flashSize};
 ghost use Rattle.image.specs.Flash.{copyOf};
-ghost use Rattle.image.specs.Writer.{letterOf, spelt, text, paperWritten, measured, textBytes, writeIn};
+ghost use Rattle.image.specs.Paper.{paperWritten};
+ghost use Rattle.image.specs.Writer.{letterOf, spelt, text, measured, textBytes, writeIn};
+use crate::record::Refusal;
 use basis::board::END;
 use basis::board::MAP;
 use basis::board::SIZE;
+use basis::sums::complement;
 use basis::sums::sum;
 use basis::units::Address;
 use runs::places::next_named;
 use runs::places::row_len;
 
 pub enum Written {
-    Size,
-    Short,
+    Refused(Refusal),
     Record { length: usize, next: Address },
 }
 
-// The record that starts at the lowest named byte from `from` on, closed by 0A; the end record where there is none.
-// From above the board nothing is written.
+// The record that starts at the lowest named byte from `from` on, closed by 0A; the end record
+// where there is none. From above the board nothing is written.
 pub fn write(image: &[u8], map: &[u8], from: Address, buffer: &mut [u8]) -> Written
-    ensures answer { λ r. ⌜ paperWritten r ≡ measured (writeIn flashSize (now (image .entry)) (now (map .entry)) (from .0) (length (now (buffer .entry)))) ⌝ }
-    ensures buffer { λ _. ⌜ now (buffer .exit) ≡ overlay (textBytes (writeIn flashSize (now (image .entry)) (now (map .entry)) (from .0) (length (now (buffer .entry))))) (now (buffer .entry)) ⌝ }
+    ensures { λ r. ⌜
+        (let n = length (now (buffer .entry)) in
+        let w = writeIn flashSize (now (image .entry)) (now (map .entry)) (from .0) n in
+        (paperWritten r ≡ measured w) × (now (buffer .exit) ≡ overlay (textBytes w) (now (buffer .entry))))
+        ⌝ }
 {
     if image.len() != SIZE {
-        return Written::Size;
+        return Written::Refused(Refusal::Size);
     }
     if map.len() != MAP {
-        return Written::Size;
+        return Written::Refused(Refusal::Size);
     }
     if buffer.len() < 44 {
-        return Written::Short;
+        return Written::Refused(Refusal::Short);
     }
     if END < from.0 {
         return Written::Record {
@@ -64,12 +69,14 @@ pub fn write(image: &[u8], map: &[u8], from: Address, buffer: &mut [u8]) -> Writ
 fn print(address: u16, kind: u8, bytes: &[u8], buffer: &mut [u8]) -> usize
     requires { ⌜ (length (now bytes) ≤ 16) × (44 ≤ length (now buffer)) ⌝ }
     ensures length { λ r. ⌜ r ≡ length (text address kind (now (bytes .entry))) ⌝ }
-    ensures buffer { λ _. ⌜ now (buffer .exit) ≡ overlay (text address kind (now (bytes .entry))) (now (buffer .entry)) ⌝ }
+    ensures buffer { λ _. ⌜
+        now (buffer .exit) ≡ overlay (text address kind (now (bytes .entry))) (now (buffer .entry))
+        ⌝ }
 {
     let n = bytes.len();
     let head = [n as u8, (address / 256) as u8, (address % 256) as u8, kind];
     let total = std::num::wrapping_add_u8(sum(&head), sum(bytes));
-    let check = [std::num::wrapping_sub_u8(0, total)];
+    let check = [complement(total)];
     let end = 9 + 2 * n;
     buffer[0] = b':';
     spell(buffer, 1, &head);
@@ -97,5 +104,5 @@ fn letter(d: u8) -> u8
     requires { ⌜ d < 16 ⌝ }
     ensures { λ r. ⌜ r ≡ letterOf d ⌝ }
 {
-    if d < 10 { 48 + d } else { 55 + d }
+    if d < 10 { 0x30 + d } else { 0x37 + d }
 }

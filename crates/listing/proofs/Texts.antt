@@ -6,9 +6,9 @@ use native.Mathlib.Omega.{arith}
 use borrow.Author.Tests.{eq-eqb, ne-eqb}
 use lib.ListN.{length, getD, set, take}
 use Rattle.basis.specs.Refusals.{Answer}
-use Rattle.image.specs.Hex.{paperRead, Settled, settledAs, settled, startIn, recordIn}
+use Rattle.image.specs.Hex.{Settled, settledAs, settled, startIn, recordIn}
 use Rattle.image.specs.Hex.{closeOf as closing}
-use Rattle.image.specs.Record.{paperRefusal}
+use Rattle.image.specs.Paper.{paperRefusal, paperRead}
 use Rattle.image.specs.declared.hex.Hex.{Hex}
 use Rattle.image.specs.declared.hex.Read.{Read}
 use Rattle.image.specs.declared.record.Refusal.{Refusal}

@@ -8,7 +8,7 @@ use Rattle.basis.specs.Choice.{pick}
 use Rattle.basis.specs.Refusals.{Answer, refused, given}
 use Rattle.image.specs.Hex.{Settled, settled, recordIn}
 use Rattle.image.specs.Hex.{closeOf as closing}
-use Rattle.image.specs.Record.{paperRefusal}
+use Rattle.image.specs.Paper.{paperRefusal}
 use Rattle.image.specs.declared.hex.Hex.{Hex}
 use Rattle.listing.specs.Text.{Verdict, refusedAt, whole, Result, result, trimmedOf}
 use Rattle.listing.specs.declared.text.Ended.{Ended}

@@ -3,7 +3,7 @@ ghost use mathlib.Core.Path.{_≡_};
 ghost use Prim.Native.Nat.{_≤_};
 ghost use lib.ListN.{length};
 ghost use Rattle.basis.specs.Lists.{overlay};
-ghost use Rattle.image.specs.Record.{paperRefusal};
+ghost use Rattle.image.specs.Paper.{paperRefusal};
 ghost use Rattle.listing.specs.Lines.{refusalAt, refusalLine};
 use crate::numbers::field;
 use image::record::Refusal;

@@ -1,31 +1,15 @@
 -- One turn of each loop, and its end, in the loop's own terms.
-use Prim.Native.Nat.{ℕ, _+_, _-_, _≤_, _<_, suc}
+use Prim.Native.Nat.{ℕ, _+_, _≤_, _<_}
 use mathlib.Core.Bool.{true, false}
 use mathlib.Core.List.{List}
 use mathlib.Core.Path.{_≡_}
 use native.Mathlib.Nat.{add-assoc}
 use native.Mathlib.Numerals.{add-one}
-use native.Mathlib.Omega.{arith}
 use borrow.Author.Tests.{eq-eqb, ne-eqb}
 use lib.ListN.{length, getD, drop, drop-of-length-le}
 use lib.Seq.{drop-cons}
-use Rattle.basis.specs.Bits.{bit}
-use Rattle.loader.specs.Protection.{anyOf}
 use Rattle.loader.specs.Verify.{equalsOf}
 use Rattle.packet.specs.Turn.{restoredOf}
-
-module _ (s g end : ℕ) where
-  pub any-here : g < end → bit s g ≡ true → anyOf s g (end - g) ≡ true
-  unfolding anyOf
-  any-here h t = let e : end - g ≡ suc (end - (g + 1)) = omega arith in rw (e, t)
-
-  pub any-on : g < end → bit s g ≡ false → anyOf s g (end - g) ≡ anyOf s (g + 1) (end - (g + 1))
-  unfolding anyOf
-  any-on h t = let e : end - g ≡ suc (end - (g + 1)) = omega arith in rw (e, t)
-
-  pub any-end : end ≤ g → anyOf s g (end - g) ≡ false
-  unfolding anyOf
-  any-end h = let e : end - g ≡ 0 = omega arith in rw e
 
 module _ (flash : List ℕ) (at i : ℕ) (s : List ℕ) where
   pub equals-on : i < length s → getD flash (at + i) 0 ≡ restoredOf (getD s i 0) → equalsOf flash (at + i) (drop i s) ≡ equalsOf flash (at + (i + 1)) (drop (i + 1) s)

@@ -41,7 +41,7 @@ pub fn erase(loader: Loader, address: Address, count: u8, flash: &mut [u8]) -> A
         Verdict::Accepted => {
             image::flash::erase(
                 flash,
-                address.page().start().0 as usize,
+                address.page().start(),
                 count as usize * PAGE as usize,
             );
             Acted {
@@ -69,7 +69,7 @@ fn mass_erase(loader: Loader, flash: &mut [u8]) -> Acted
         ⌝ }
 {
     let end = flash.len();
-    image::flash::erase(flash, 0, end);
+    image::flash::erase(flash, Address(0), end);
     Acted {
         loader: loader.cleared(),
         verdict: Verdict::Accepted,

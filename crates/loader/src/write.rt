@@ -28,7 +28,7 @@ pub fn write(loader: Loader, address: Address, bytes: &[u8], flash: &mut [u8]) -
             verdict: Verdict::Refused(why),
         },
         Verdict::Accepted => {
-            image::flash::store(flash, address.0 as usize, bytes);
+            image::flash::store(flash, address, bytes);
             Acted {
                 loader,
                 verdict: Verdict::Accepted,

@@ -37,9 +37,11 @@ dataMost = 250
 abbrev pub packetMost : ℕ
 packetMost = 259
 
--- building into a buffer with room for so many bytes: 20, 5, 6, else the packet
+-- building into a buffer with room for so many bytes: 20, 5, 6, else the packet;
+-- P's type is the first data byte, 0 where there is none, which no row looks at
 unfoldable pub buildOf : ℕ → ℕ → ℕ → List ℕ → Answer (List ℕ)
-buildOf room c a d = first (20 when ltb room packetMost ∷ table c (length d + 5) (getD d 0 0)) (given (packet c a d))
+buildOf room c a d =
+    first (20 when ltb room packetMost ∷ table c (length d + 5) (getD d 0 0)) (given (packet c a d))
 
 -- where an input has N, the command, the byte after the address, and the address
 abbrev pub count : List ℕ → ℕ
@@ -76,7 +78,7 @@ startsRight s = both (leb 2 (length s)) (both (eqb (getD s 0 0) 0x07) (eqb (getD
 unfoldable pub tabledOf : List ℕ → Answer Parts
 tabledOf s = first (table (command s) (count s) (kind s)) (given (parts s))
 
--- the rows of the loader's table that come before it, in the loader's order
+-- 1 to 4, in the loader's order
 unfoldable pub rows : List ℕ → List Rule
 rows s =
     1 when not (startsRight s)
@@ -86,7 +88,7 @@ rows s =
     ∷ 4 when not (eqb (sumOf (drop 2 s)) 0)
     ∷ []
 
--- reading
+-- reading: 1 to 4, then 5, 6 or what the packet says
 unfoldable pub readOf : List ℕ → Answer Parts
 readOf s = first (rows s) (tabledOf s)
 
@@ -94,9 +96,10 @@ readOf s = first (rows s) (tabledOf s)
 abbrev pub said : ℕ → ℕ → List ℕ → Parts
 said c a d = record { command = c; address = a; place = 8; size = length d }
 
--- the plain data that a reading of s names: those of V turned back
+-- a byte as the file has it: that of V turned back
 abbrev pub plain : ℕ → ℕ → ℕ
 plain c b = pick (eqb c 0x56) (restoredOf b) b
 
+-- the plain data that a reading of s names
 abbrev pub plainData : Parts → List ℕ → List ℕ
 plainData p s = map (plain (p .command)) (take (p .size) (drop (p .place) s))

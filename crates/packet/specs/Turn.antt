@@ -5,7 +5,7 @@ use Prim.Native.Nat.{ℕ, _+_, _-_, _*_, _/_, _%_, _^_}
 abbrev pub turnedOf : ℕ → ℕ
 turnedOf b = b * 8 % 256 + b / 32
 
--- the inverse
+-- turned back
 abbrev pub restoredOf : ℕ → ℕ
 restoredOf t = t * 32 % 256 + t / 8
 

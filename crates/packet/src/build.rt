@@ -47,7 +47,8 @@ fn write(buffer: &mut [u8], command: u8, address: Address, plain: &[u8]) -> usiz
     requires { ⌜ (packetMost ≤ length (now buffer)) × (length (now plain) ≤ dataMost) ⌝ }
     ensures { λ r. ⌜
         (r ≡ length (now (plain .entry)) + 9)
-        × (now (buffer .exit) ≡ overlay (packet command (address .0) (now (plain .entry))) (now (buffer .entry)))
+        × (now (buffer .exit)
+        ≡ overlay (packet command (address .0) (now (plain .entry))) (now (buffer .entry)))
         ⌝ }
 {
     let end = 8 + plain.len();
@@ -76,7 +77,9 @@ fn front(buffer: &mut [u8], command: u8, address: Address, n: usize)
 // The data as the packet carries them, at the start of the part behind the front.
 fn fill(part: &mut [u8], command: u8, plain: &[u8])
     requires { ⌜ length (now plain) ≤ length (now part) ⌝ }
-    ensures { λ _. ⌜ now (part .exit) ≡ overlay (map (carriedOf command) (now (plain .entry))) (now (part .entry)) ⌝ }
+    ensures { λ _. ⌜
+        now (part .exit) ≡ overlay (map (carriedOf command) (now (plain .entry))) (now (part .entry))
+        ⌝ }
 {
     let mut i = 0;
     while i < plain.len() {

@@ -1,4 +1,4 @@
--- A pass is two tallies, and the survey is told by those of its halts.
+-- A walk has two tallies, and the survey is told by those of its halts.
 use Prim.Native.Nat.{ℕ, _+_}
 use lib.Dec.{ltb}
 use mathlib.Core.Path.{_≡_, ap}
@@ -8,33 +8,33 @@ use Rattle.basis.specs.Units.{pageOf, startOf}
 use Rattle.runs.specs.Map.{named}
 use Rattle.runs.specs.Pages.{touched}
 use Rattle.runs.specs.Pieces.{pieceMost, runStarts, pieceStarts}
-use Rattle.runs.specs.Survey.{passAt, surveyOf}
+use Rattle.runs.specs.Survey.{talliesAt, surveyOf}
 use Rattle.runs.specs.Tally.{tallyAt}
 use Rattle.runs.specs.Laws.Runs.{count-tells}
-use Rattle.runs.specs.declared.passes.Pass.{Pass}
+use Rattle.runs.specs.declared.walks.Tallies.{Tallies}
 use Rattle.runs.specs.declared.tally.Tally.{Tally}
 use Rattle.runs.proofs.Tallies.{tally-none}
 
 module _ (m : List ℕ) (q : ℕ) where
-  -- a pass is its two tallies
-  pub pass-bytes : {s : Pass} → s ≡ passAt m q → s .bytes ≡ tallyAt (named m) pieceMost (startOf q)
-  unfolding passAt
-  pass-bytes e = ap (λ (s : Pass). s .bytes) e
+  -- the two tallies
+  pub tallies-bytes : {s : Tallies} → s ≡ talliesAt m q → s .bytes ≡ tallyAt (named m) pieceMost (startOf q)
+  unfolding talliesAt
+  tallies-bytes e = ap (λ (s : Tallies). s .bytes) e
 
-  pub pass-pages : {s : Pass} → s ≡ passAt m q → s .pages ≡ tallyAt (touched m) pages q
-  unfolding passAt
-  pass-pages e = ap (λ (s : Pass). s .pages) e
+  pub tallies-pages : {s : Tallies} → s ≡ talliesAt m q → s .pages ≡ tallyAt (touched m) pages q
+  unfolding talliesAt
+  tallies-pages e = ap (λ (s : Tallies). s .pages) e
 
-  pub pass-of : {b p : Tally} → b ≡ tallyAt (named m) pieceMost (startOf q) → p ≡ tallyAt (touched m) pages q → record { bytes = b; pages = p } ≡ passAt m q
-  unfolding passAt
-  pass-of e f = rw (e, f)
+  pub tallies-of : {b p : Tally} → b ≡ tallyAt (named m) pieceMost (startOf q) → p ≡ tallyAt (touched m) pages q → record { bytes = b; pages = p } ≡ talliesAt m q
+  unfolding talliesAt
+  tallies-of e f = rw (e, f)
 
--- a pass begins with nothing
-pub pass-none : (m : List ℕ) → record { bytes = record { passed = 0; pieces = 0; off = 0 }; pages = record { passed = 0; pieces = 0; off = 0 } } ≡ passAt m 0
-pass-none m = pass-of m 0 (tally-none (named m) pieceMost) (tally-none (touched m) pages)
+-- a walk begins with nothing
+pub tallies-none : (m : List ℕ) → record { bytes = record { passed = 0; pieces = 0; off = 0 }; pages = record { passed = 0; pieces = 0; off = 0 } } ≡ talliesAt m 0
+tallies-none m = tallies-of m 0 (tally-none (named m) pieceMost) (tally-none (touched m) pages)
 
 -- the survey from the tallies below the place, at it, behind it and in all
-pub surveyed : (m : List ℕ) (a q : ℕ) {below here all : Pass} {place next : Tally} → q ≡ pageOf a → below ≡ passAt m q → here ≡ passAt m (q + 1) → all ≡ passAt m pages
+pub surveyed : (m : List ℕ) (a q : ℕ) {below here all : Tallies} {place next : Tally} → q ≡ pageOf a → below ≡ talliesAt m q → here ≡ talliesAt m (q + 1) → all ≡ talliesAt m pages
     → place ≡ tallyAt (named m) pieceMost a → next ≡ tallyAt (named m) pieceMost (a + 1)
     → record {
       all = record { runs = all .pages .pieces; pieces = all .bytes .pieces; named = all .bytes .passed };
@@ -42,6 +42,6 @@ pub surveyed : (m : List ℕ) (a q : ℕ) {below here all : Pass} {place next : 
       run = ltb (below .pages .pieces) (here .pages .pieces);
       piece = ltb (place .pieces) (next .pieces);
     } ≡ surveyOf m a
-unfolding surveyOf passAt tallyAt
+unfolding surveyOf talliesAt tallyAt
 surveyed m a q f e b h p n =
     rw (e, b, h, p, n, f, count-tells (runStarts m) (pageOf a), count-tells (pieceStarts m) a)

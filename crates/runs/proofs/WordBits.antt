@@ -65,7 +65,7 @@ byte-tally m cap i =
         rw (p, q)
 
 -- the k bytes from the i-th on
-pub word-tally : (m : List ℕ) (cap k i : ℕ) → Bytes m → tookBits cap (tallyAt (named m) cap (8 * i)) (wordOf m i k) (8 * k) ≡ tallyAt (named m) cap (8 * (i + k))
+word-tally : (m : List ℕ) (cap k i : ℕ) → Bytes m → tookBits cap (tallyAt (named m) cap (8 * i)) (wordOf m i k) (8 * k) ≡ tallyAt (named m) cap (8 * (i + k))
 unfolding wordOf tookBits
 word-tally m cap zero i h = ap (tallyAt (named m) cap) (omega arith)
 word-tally m cap (suc k) i h =

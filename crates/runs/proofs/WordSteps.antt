@@ -40,7 +40,7 @@ module _ (cap : ℕ) (t : Tally) {b : Bool} where
   unfolding tookOf
   took-more d e = rw (d, ne-eqb _ _ e)
 
-pub took-below : (cap : ℕ) (t : Tally) (b : Bool) → t .off < cap → tookOf cap t b .off < cap
+took-below : (cap : ℕ) (t : Tally) (b : Bool) → t .off < cap → tookOf cap t b .off < cap
 took-below cap t b h =
     decide b
     (λ d. decide (eqb (t .off + 1) cap)
@@ -119,7 +119,7 @@ row-one k w h n =
 
 -- ---- what passed
 
-pub word-passed : (cap k w : ℕ) (t : Tally) → w < 2 ^ k → tookBits cap t w k .passed ≡ t .passed + ones w
+word-passed : (cap k w : ℕ) (t : Tally) → w < 2 ^ k → tookBits cap t w k .passed ≡ t .passed + ones w
 unfolding tookBits
 word-passed cap zero w t h = rw (none w h, ones-zero) (omega arith)
 word-passed cap (suc k) w t h =
@@ -227,7 +227,7 @@ module _ (cap k w P : ℕ) (t : Tally) (h : w < 2 ^ suc k) (l : suc k ≤ cap) (
       in
       omega (arith, ones-step w, inner-odd w z, ap (λ (r : ℕ). joinsOf (t .off) r cap) (row-odd k w h z))
 
-pub word-pieces : (cap k w : ℕ) (t : Tally) → w < 2 ^ k → k ≤ cap → t .off < cap
+word-pieces : (cap k w : ℕ) (t : Tally) → w < 2 ^ k → k ≤ cap → t .off < cap
     → tookBits cap t w k .pieces + inner w + joinsOf (t .off) (row k w) cap ≡ t .pieces + ones w
 unfolding tookBits
 word-pieces cap zero w t h l o =
@@ -245,24 +245,24 @@ word-pieces cap (suc k) w t h l o =
 -- ---- what is open after it
 
 -- after k places, of which those fail whose bits are set in g
-unfoldable pub openOf : ℕ → ℕ → ℕ → ℕ → ℕ
-openOf k o g cap = pick (eqb g 0) (cutOf (o + k) cap) (leadingZeros k g)
+unfoldable pub openAfter : ℕ → ℕ → ℕ → ℕ → ℕ
+openAfter k o g cap = pick (eqb g 0) (cutOf (o + k) cap) (leadingZeros k g)
 
 module _ (k o g cap : ℕ) where
-  open-whole : g ≡ 0 → o + k < cap → openOf k o g cap ≡ o + k
-  unfolding openOf cutOf
+  open-whole : g ≡ 0 → o + k < cap → openAfter k o g cap ≡ o + k
+  unfolding openAfter cutOf
   open-whole e l = rw (e, lt-ltb (o + k) cap l)
 
-  open-wrap : g ≡ 0 → cap ≤ o + k → openOf k o g cap ≡ o + k - cap
-  unfolding openOf cutOf
+  open-wrap : g ≡ 0 → cap ≤ o + k → openAfter k o g cap ≡ o + k - cap
+  unfolding openAfter cutOf
   open-wrap e l = rw (e, le-ltb (o + k) cap l)
 
-  open-cut : g ≡ 0 → openOf k o g cap ≡ cutOf (o + k) cap
-  unfolding openOf
+  open-cut : g ≡ 0 → openAfter k o g cap ≡ cutOf (o + k) cap
+  unfolding openAfter
   open-cut e = rw e
 
-  open-gap : (g ≡ 0 → ⊥) → openOf k o g cap ≡ leadingZeros k g
-  unfolding openOf
+  open-gap : (g ≡ 0 → ⊥) → openAfter k o g cap ≡ leadingZeros k g
+  unfolding openAfter
   open-gap n = rw (ne-eqb g 0 n)
 
 leading-half : (k g : ℕ) → (g ≡ 0 → ⊥) → leadingZeros (suc k) g ≡ leadingZeros k (g / 2)
@@ -275,7 +275,7 @@ module _ (cap k w : ℕ) (t : Tally) (h : w < 2 ^ suc k) (l : suc k ≤ cap) (o 
   first-open = tookOf cap t (eqb (w % 2) 1) .off
 
   -- no gap: the piece goes on, or is cut and begun anew
-  open-on : gaps (suc k) w ≡ 0 → openOf k first-open (gaps k (w / 2)) cap ≡ openOf (suc k) (t .off) (gaps (suc k) w) cap
+  open-on : gaps (suc k) w ≡ 0 → openAfter k first-open (gaps k (w / 2)) cap ≡ openAfter (suc k) (t .off) (gaps (suc k) w) cap
   unfolding first-open
   open-on g =
       let d : eqb (w % 2) 1 ≡ true = eq-eqb (w % 2) 1 (omega (arith, gaps-low k w h)) in
@@ -290,7 +290,7 @@ module _ (cap k w : ℕ) (t : Tally) (h : w < 2 ^ suc k) (l : suc k ≤ cap) (o 
       (λ q. omega (arith, open-wrap k u (gaps k (w / 2)) cap g2 (omega (arith, ltb-false (t .off + suc k) cap q)), open-wrap (suc k) (t .off) (gaps (suc k) w) cap g (ltb-false _ _ q))))
 
   -- a gap: the row above the highest one is open
-  open-anew : (gaps (suc k) w ≡ 0 → ⊥) → openOf k first-open (gaps k (w / 2)) cap ≡ openOf (suc k) (t .off) (gaps (suc k) w) cap
+  open-anew : (gaps (suc k) w ≡ 0 → ⊥) → openAfter k first-open (gaps k (w / 2)) cap ≡ openAfter (suc k) (t .off) (gaps (suc k) w) cap
   unfolding first-open
   open-anew n =
       let u = tookOf cap t (eqb (w % 2) 1) .off in
@@ -301,7 +301,7 @@ module _ (cap k w : ℕ) (t : Tally) (h : w < 2 ^ suc k) (l : suc k ≤ cap) (o 
       omega (arith, open-whole k u (gaps k (w / 2)) cap g (omega (arith, took-no cap t d .2)), took-no cap t d .2, e, ap (leadingZeros k) g, leading-of-zero k))
       (λ f. open-gap k u (gaps k (w / 2)) cap (eqb-false _ _ f) ∙ sym e)
 
-pub word-open : (cap k w : ℕ) (t : Tally) → w < 2 ^ k → k ≤ cap → t .off < cap → tookBits cap t w k .off ≡ openOf k (t .off) (gaps k w) cap
+word-open : (cap k w : ℕ) (t : Tally) → w < 2 ^ k → k ≤ cap → t .off < cap → tookBits cap t w k .off ≡ openAfter k (t .off) (gaps k w) cap
 unfolding tookBits first-open
 word-open cap zero w t h l o =
     let g : gaps zero w ≡ 0 = gaps-none w in

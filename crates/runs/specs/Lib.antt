@@ -1,4 +1,4 @@
--- Definitions stand here, what is proved of them under Laws.
+-- The map, its runs and pieces. Definitions stand here, what is proved of them under Laws.
 pub mod Map
 pub mod Runs
 pub mod Pages

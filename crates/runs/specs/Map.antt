@@ -5,6 +5,7 @@ use mathlib.Core.Bool.{Bool}
 use lib.ListN.{getD, set}
 use lib.Bits.{bitOr}
 use Rattle.basis.specs.Bits.{bit}
+use Rattle.basis.specs.Choice.{any}
 
 -- the address is named
 unfoldable pub named : List ℕ → ℕ → Bool
@@ -13,6 +14,15 @@ named m a = bit (getD m (a / 8) 0) (a % 8)
 -- the map with the address named, all other bits as they were
 unfoldable pub nameOf : List ℕ → ℕ → List ℕ
 nameOf m a = set m (a / 8) (bitOr (getD m (a / 8) 0) (2 ^ (a % 8)))
+
+-- one of the n places from a on is named
+abbrev pub anyNamed : List ℕ → ℕ → ℕ → Bool
+anyNamed m a n = any (named m) a n
+
+-- the map with the n places from a on named
+unfoldable pub nameAllOf : List ℕ → ℕ → ℕ → List ℕ
+nameAllOf m a zero = m
+nameAllOf m a (suc n) = nameAllOf (nameOf m a) (a + 1) n
 
 -- the number that k bytes of the map from the i-th on make, the first lowest
 unfoldable pub wordOf : List ℕ → ℕ → ℕ → ℕ

@@ -10,10 +10,14 @@ unfoldable pub count : (ℕ → Bool) → ℕ → ℕ
 count p zero = 0
 count p (suc n) = pick (p n) (suc (count p n)) (count p n)
 
+-- what is open of a piece of x: nothing once it has cap
+abbrev pub wrappedOf : ℕ → ℕ → ℕ
+wrappedOf x cap = pick (eqb x cap) 0 x
+
 -- how much of a's piece stands before a: a piece ends where p fails, and when it has cap
 unfoldable pub off : (ℕ → Bool) → ℕ → ℕ → ℕ
 off p cap zero = 0
-off p cap (suc a) = pick (p a) (pick (eqb (suc (off p cap a)) cap) 0 (suc (off p cap a))) 0
+off p cap (suc a) = pick (p a) (wrappedOf (suc (off p cap a)) cap) 0
 
 -- a piece starts at a
 unfoldable pub starts : (ℕ → Bool) → ℕ → ℕ → Bool

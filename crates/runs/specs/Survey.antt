@@ -1,4 +1,4 @@
--- What one pass over the map tells.
+-- What one walk over the map tells.
 use Prim.Native.Nat.{ℕ}
 use mathlib.Core.List.{List}
 use Rattle.basis.specs.Board.{pages}
@@ -8,19 +8,21 @@ use Rattle.runs.specs.Pages.{touched}
 use Rattle.runs.specs.Pieces.{pieceMost, pieceStarts, runStarts, runCount, pieceCount, namedCount}
 use Rattle.runs.specs.Runs.{count}
 use Rattle.runs.specs.Tally.{tallyAt}
-use Rattle.runs.specs.declared.passes.Pass.{Pass}
+use Rattle.runs.specs.declared.walks.Tallies.{Tallies}
 use Rattle.runs.specs.declared.survey.Surveyed.{Surveyed}
 
 -- the tallies of the named bytes and the touched pages below the page q
-unfoldable pub passAt : List ℕ → ℕ → Pass
-passAt m q = record { bytes = tallyAt (named m) pieceMost (startOf q); pages = tallyAt (touched m) pages q }
+unfoldable pub talliesAt : List ℕ → ℕ → Tallies
+talliesAt m q = record { bytes = tallyAt (named m) pieceMost (startOf q); pages = tallyAt (touched m) pages q }
 
--- what the file has in all, what starts and is named below the address a and its page, and whether a run of pages and a piece start there
+-- what the file has in all, what starts and is named below the address a and its page,
+-- and whether a run of pages and a piece start there
 unfoldable pub surveyOf : List ℕ → ℕ → Surveyed
 surveyOf m a =
     record {
       all = record { runs = runCount m; pieces = pieceCount m; named = namedCount m };
-      below = record { runs = count (runStarts m) (pageOf a); pieces = count (pieceStarts m) a; named = count (named m) a };
+      below =
+          record { runs = count (runStarts m) (pageOf a); pieces = count (pieceStarts m) a; named = count (named m) a };
       run = runStarts m (pageOf a);
       piece = pieceStarts m a;
     }

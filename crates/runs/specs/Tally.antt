@@ -1,9 +1,9 @@
--- What a pass over places has met so far, and how it goes on.
+-- What a walk over places has met so far, and how it goes on.
 use Prim.Native.Nat.{ℕ, zero, suc, _+_, _-_, _/_, _%_}
 use mathlib.Core.Bool.{Bool}
 use lib.Dec.{eqb, ltb}
 use Rattle.basis.specs.Choice.{pick, both}
-use Rattle.runs.specs.Runs.{count, off, starts}
+use Rattle.runs.specs.Runs.{count, wrappedOf, off, starts}
 use Rattle.runs.specs.declared.tally.Tally.{Tally}
 
 -- the tally of the places below n
@@ -16,7 +16,7 @@ tookOf cap t b =
     record {
       passed = pick b (t .passed + 1) (t .passed);
       pieces = pick (both b (eqb (t .off) 0)) (t .pieces + 1) (t .pieces);
-      off = pick b (pick (eqb (t .off + 1) cap) 0 (t .off + 1)) 0;
+      off = pick b (wrappedOf (t .off + 1) cap) 0;
     }
 
 -- k places more: the lowest k bits of a word, the lowest first

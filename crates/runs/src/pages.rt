@@ -5,7 +5,8 @@ ghost use lib.ListN.{length};
 ghost use Rattle.basis.specs.Units.{startOf};
 ghost use Rattle.runs.specs.Pages.{touched};
 ghost use Rattle.runs.specs.Runs.{next, len};
-use crate::places::next_named;
+use crate::places::any_named;
+use basis::board::PAGE;
 use basis::units::Page;
 
 // Whether the page holds a named byte.
@@ -13,8 +14,7 @@ pub fn touched(map: &[u8], page: Page) -> bool
     requires { ⌜ (page .0 + 1 < 2 ^ 23) × (startOf (page .0 + 1) ≤ 8 * length (now map)) ⌝ }
     ensures { λ r. ⌜ r ≡ touched (now (map .entry)) (page .0) ⌝ }
 {
-    let end = Page(page.0 + 1).start();
-    next_named(map, page.start(), end).0 < end.0
+    any_named(map, page.start(), PAGE)
 }
 
 // The lowest touched page from `from` on and below `limit`, or `limit`.
@@ -42,6 +42,7 @@ pub fn page_row_len(map: &[u8], from: Page, cap: u32) -> u32
     let mut n: u32 = 0;
     while n < cap {
         let page = start + n;
+        // A page has 64 bytes of the map.
         if map.len() / 64 <= page as usize {
             return n;
         }

@@ -1,9 +1,11 @@
-// Named addresses in order: the next one, and how many stand in a row.
+// Named addresses in order: the next one, whether one of some is named, how many stand in a row.
+// And naming some that stand in a row.
 ghost use mathlib.Core.Path.{_≡_};
 ghost use Prim.Native.Nat.{_+_, _-_, _*_, _^_, _<_, _≤_};
 ghost use lib.ListN.{length};
-ghost use Rattle.runs.specs.Map.{named};
+ghost use Rattle.runs.specs.Map.{named, anyNamed, nameAllOf};
 ghost use Rattle.runs.specs.Runs.{next, len};
+use crate::map::name;
 use crate::map::named;
 use basis::units::Address;
 
@@ -24,6 +26,26 @@ pub fn next_named(map: &[u8], from: Address, limit: Address) -> Address
         at += 1;
     }
     Address(at)
+}
+
+// Whether one of `count` addresses from `from` on is named.
+pub fn any_named(map: &[u8], from: Address, count: u32) -> bool
+    requires { ⌜ (from .0 + count ≤ 8 * length (now map)) × (from .0 + count < 2 ^ 32) ⌝ }
+    ensures { λ r. ⌜ r ≡ anyNamed (now (map .entry)) (from .0) count ⌝ }
+{
+    let end = from.0 + count;
+    next_named(map, from, Address(end)).0 < end
+}
+
+// Names `count` addresses from `from` on.
+pub fn name_all(map: &mut [u8], from: Address, count: u32)
+    requires { ⌜ (from .0 + count ≤ 8 * length (now map)) × (from .0 + count < 2 ^ 32) ⌝ }
+    ensures { λ _. ⌜ now (map .exit) ≡ nameAllOf (now (map .entry)) (from .0) count ⌝ }
+{
+    let first = from.0;
+    for i in 0..count {
+        name(map, Address(first + i));
+    }
 }
 
 // How many named bytes stand in a row from `from` on, at most `cap`.

@@ -1,4 +1,4 @@
-// The survey: one pass over the map that counts what a file has, and ranks a place among it.
+// The survey: one walk over the map that counts what a file has, and ranks a place among it.
 ghost use mathlib.Core.Path.{_≡_};
 ghost use Prim.Native.Nat.{_*_, _<_, _≤_};
 ghost use lib.ListN.{length};
@@ -8,11 +8,11 @@ ghost use Rattle.runs.specs.Map.{named};
 ghost use Rattle.runs.specs.Pieces.{pieceMost};
 ghost use Rattle.runs.specs.Survey.{surveyOf};
 ghost use Rattle.runs.specs.Tally.{tallyAt};
-use crate::passes::Pass;
-use crate::passes::over_pages;
-use crate::passes::over_places;
-use crate::passes::over_words;
 use crate::tally::Tally;
+use crate::walks::Tallies;
+use crate::walks::over_pages;
+use crate::walks::over_places;
+use crate::walks::over_words;
 use basis::board::PAGES;
 use basis::units::Address;
 use basis::units::Page;
@@ -32,7 +32,8 @@ pub struct Surveyed {
     pub piece: bool,
 }
 
-// Surveys the whole map in one pass, which halts before and behind the page of `at` to rank both.
+// Surveys the whole map in three stretches: below the page of `at`, that page, and behind it.
+// The page's words up to `at` are taken once more, to rank `at` itself.
 pub fn survey(map: &[u8], at: Address) -> Surveyed
     requires { ⌜ (length (now map) ≡ mapSize) × (at .0 < flashSize) ⌝ }
     ensures { λ r. ⌜ r ≡ surveyOf (now (map .entry)) (at .0) ⌝ }
@@ -42,7 +43,7 @@ pub fn survey(map: &[u8], at: Address) -> Surveyed
         pieces: 0,
         off: 0,
     };
-    let start = Pass {
+    let start = Tallies {
         bytes: none,
         pages: none,
     };
@@ -71,9 +72,13 @@ pub fn survey(map: &[u8], at: Address) -> Surveyed
 
 // From the tally of the addresses below a page to that of the addresses below one of the page's.
 fn up_to(map: &[u8], tally: Tally, page: Page, at: Address) -> Tally
-    requires { ⌜ (startOf (page .0) ≤ at .0) × (at .0 < flashSize) × (length (now map) ≡ mapSize) × (tally ≡ tallyAt (named (now map)) pieceMost (startOf (page .0))) ⌝ }
+    requires { ⌜
+        (startOf (page .0) ≤ at .0) × (at .0 < flashSize) × (length (now map) ≡ mapSize)
+        × (tally ≡ tallyAt (named (now map)) pieceMost (startOf (page .0)))
+        ⌝ }
     ensures { λ r. ⌜ r ≡ tallyAt (named (now (map .entry))) pieceMost (at .0) ⌝ }
 {
+    // The word that `at` lies in.
     let word = at.0 / 64;
     let t = over_words(map, tally, 8 * (page.0 as usize), word as usize);
     over_places(map, t, Address(word * 64), at)

@@ -1,8 +1,7 @@
-// What a pass over places has met so far, and the two ways on: one place, or 64 at once.
+// What a walk over places has met so far, and the two ways on: one place, or 64 at once.
 ghost use mathlib.Core.Path.{_≡_};
 ghost use Prim.Native.Nat.{_+_, _-_, _^_, _<_, _≤_};
-ghost use lib.Dec.{eqb};
-ghost use Rattle.basis.specs.Choice.{pick};
+ghost use Rattle.runs.specs.Runs.{wrappedOf};
 ghost use Rattle.runs.specs.Tally.{tookOf, tookBits, joinsOf, cutOf};
 
 // How many places passed, how many pieces started, and how much of a piece is open.
@@ -40,9 +39,13 @@ impl Tally {
         }
     }
 
-    // 64 places more: the bits of a word, the lowest first. Each of its runs starts a piece, but for one that goes on from before.
+    // 64 places more: the bits of a word, the lowest first.
+    // Each of its runs starts a piece, but for one that goes on from before.
     pub fn took_word(self, word: u64, cap: u32) -> Tally
-        requires { ⌜ (self .passed < 2 ^ 31) × (self .pieces < 2 ^ 31) × (self .off < cap) × (64 ≤ cap) × (cap < 2 ^ 31) ⌝ }
+        requires { ⌜
+            (self .passed < 2 ^ 31) × (self .pieces < 2 ^ 31) × (self .off < cap)
+            × (64 ≤ cap) × (cap < 2 ^ 31)
+            ⌝ }
         ensures { λ r. ⌜ r ≡ tookBits cap self word 64 ⌝ }
     {
         if word == 0 {
@@ -56,6 +59,7 @@ impl Tally {
         if gaps == 0 {
             return self.took_whole(cap);
         }
+        // In a run all but its last place have a next that passes too, so ones - inner is the number of runs.
         let ones = u64::count_ones(word);
         let inner = u64::count_ones(word & (word / 2));
         let joined = joins(self.off, u64::trailing_zeros(gaps), cap);
@@ -68,7 +72,10 @@ impl Tally {
 
     // 64 places more that all pass.
     fn took_whole(self, cap: u32) -> Tally
-        requires { ⌜ (self .passed < 2 ^ 31) × (self .pieces < 2 ^ 31) × (self .off < cap) × (64 ≤ cap) × (cap < 2 ^ 31) ⌝ }
+        requires { ⌜
+            (self .passed < 2 ^ 31) × (self .pieces < 2 ^ 31) × (self .off < cap)
+            × (64 ≤ cap) × (cap < 2 ^ 31)
+            ⌝ }
         ensures { λ r. ⌜ r ≡ tookBits cap self (2 ^ 64 - 1) 64 ⌝ }
     {
         let joined = joins(self.off, 64, cap);
@@ -82,7 +89,7 @@ impl Tally {
 
 // x, or 0 where x is cap.
 fn wrapped(x: u32, cap: u32) -> u32
-    ensures { λ r. ⌜ r ≡ pick (eqb x cap) 0 x ⌝ }
+    ensures { λ r. ⌜ r ≡ wrappedOf x cap ⌝ }
 {
     if x == cap {
         return 0;

@@ -1,6 +1,5 @@
 -- Laws of bits.
 use Prim.Native.Nat.{ℕ, zero, suc, _/_, _%_, _^_, _<_}
-use mathlib.Core.Bool.{Bool, true, false}
 use mathlib.Core.Path.{_≡_, refl}
 use native.Mathlib.Omega.{arith}
 use lib.Bits.{bitOr, or-shr, or-mod}
@@ -19,4 +18,6 @@ or-two (suc zero) (suc (suc y)) h k = absurd (omega arith)
 
 -- a bit of an OR is one of the two
 pub bit-or : (x y k : ℕ) → bit (bitOr x y) k ≡ either (bit x k) (bit y k)
-bit-or x y k = rw (or-shr x y k, or-mod (x / 2 ^ k) (y / 2 ^ k) 1) (or-two (x / 2 ^ k % 2) (y / 2 ^ k % 2) (omega arith) (omega arith))
+bit-or x y k =
+    rw (or-shr x y k, or-mod (x / 2 ^ k) (y / 2 ^ k) 1)
+    (or-two (x / 2 ^ k % 2) (y / 2 ^ k % 2) (omega arith) (omega arith))

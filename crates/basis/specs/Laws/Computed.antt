@@ -1,17 +1,11 @@
 -- Facts that are computed over all numbers below a bound, and the law that takes one number out.
 use Prim.Native.Nat.{ℕ, zero, suc, _<_}
 use mathlib.Core.Bool.{Bool, true, false}
-use mathlib.Core.List.{List, [], _∷_}
 use mathlib.Core.Logic.{⊎-elim}
 use mathlib.Core.Path.{_≡_, sym, subst}
 use native.Mathlib.Nat.{le-of-suc-le-suc, not-suc-le-zero, eq-or-lt-of-le}
 use lib.Dec.{T, eqb, eqb→eq}
 use Rattle.basis.specs.Choice.{both}
-
--- all of a list of tests hold
-abbrev pub all : List Bool → Bool
-all [] = true
-all (t ∷ s) = both t (all s)
 
 -- the test passes at every number below n
 abbrev pub allBelow : (ℕ → Bool) → ℕ → Bool

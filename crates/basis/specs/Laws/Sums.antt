@@ -5,7 +5,7 @@ use mathlib.Core.Path.{_≡_, refl}
 use native.Mathlib.Omega.{arith}
 use Rattle.basis.specs.Sums.{plainSum, sumOf, checksumOf}
 
-pub plain-append : (s t : List ℕ) → plainSum (s ++ t) ≡ plainSum s + plainSum t
+plain-append : (s t : List ℕ) → plainSum (s ++ t) ≡ plainSum s + plainSum t
 unfolding plainSum
 plain-append [] t = omega arith
 plain-append (x ∷ s) t = omega (arith, plain-append s t)
@@ -23,7 +23,7 @@ pub sum-more : (s : List ℕ) (x : ℕ) → sumOf (s ++ (x ∷ [])) ≡ (sumOf s
 unfolding sumOf plainSum
 sum-more s x = omega (arith, plain-append s (x ∷ []))
 
-pub sum-below : (s : List ℕ) → sumOf s < 256
+sum-below : (s : List ℕ) → sumOf s < 256
 unfolding sumOf
 sum-below s = omega arith
 

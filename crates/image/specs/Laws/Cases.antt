@@ -5,16 +5,14 @@ use mathlib.Core.List.{List, [], _∷_}
 use mathlib.Core.Path.{_≡_, refl}
 use lib.Dec.{eqb}
 use lib.ListN.{getD, replicate}
-use Rattle.basis.specs.Choice.{both}
-use Rattle.basis.specs.Laws.Computed.{all}
+use Rattle.basis.specs.Choice.{both, all, any}
 use Rattle.basis.specs.Refusals.{Answer, refused, given, first}
 use Rattle.basis.specs.Sums.{plainSum, sumOf}
 use Rattle.image.specs.Digits.{digitOf, allDigits, decoded}
 use Rattle.image.specs.Flash.{stored}
 use Rattle.image.specs.Hex.{File, fresh, recordIn}
-use Rattle.image.specs.Places.{anyNamed, nameAllOf}
 use Rattle.image.specs.Writer.{letterOf, spelt}
-use Rattle.runs.specs.Map.{named, nameOf}
+use Rattle.runs.specs.Map.{named, nameOf, nameAllOf}
 
 -- a record of these bytes, read
 abbrev on : List ℕ → Answer File
@@ -63,5 +61,5 @@ cases =
     ∷ []
 
 pub record-cases : all cases ≡ true
-unfolding first recordIn digitOf allDigits decoded stored anyNamed nameAllOf named nameOf plainSum sumOf letterOf spelt
+unfolding first recordIn digitOf allDigits decoded stored any nameAllOf named nameOf plainSum sumOf letterOf spelt
 record-cases = refl

@@ -2,20 +2,19 @@
 use Prim.Native.Nat.{ℕ}
 use mathlib.Core.List.{List}
 use mathlib.Core.Path.{_≡_, refl, sym, ap, _∙_}
-use native.Mathlib.Omega.{arith}
 use lib.Dec.{eqb}
 use Rattle.basis.specs.Choice.{pick}
-use Rattle.basis.specs.Laws.Refusals.{apart, given-one, refused-one, determined}
+use Rattle.basis.specs.Laws.Refusals.{apart, given-one, refused-one, back-one, determined}
 use Rattle.basis.specs.Lists.{overlay}
 use Rattle.basis.specs.Refusals.{Answer}
-use Rattle.image.specs.Hex.{paperRead, Settled, settledAs}
-use Rattle.image.specs.Record.{paperRefusal}
-use Rattle.image.specs.Writer.{Step, paperWritten, measured, textBytes}
+use Rattle.image.specs.Hex.{Settled, settledAs}
+use Rattle.image.specs.Paper.{paperRefusal, paperRead, paperWritten}
+use Rattle.image.specs.Writer.{Step, measured, textBytes}
 use Rattle.image.specs.declared.hex.Hex.{Hex}
 use Rattle.image.specs.declared.hex.Read.{Read}
 use Rattle.image.specs.declared.hex.Read.the-variants.{Taken, Refused}
 use Rattle.image.specs.declared.record.Refusal.{Refusal}
-use Rattle.image.specs.declared.record.Refusal.the-variants.{Size, Ended, Colon, Length, Digit, Count, Checksum, Kind, Shape, Place, Twice, NoEnd, NoData}
+use Rattle.image.specs.declared.record.Refusal.the-variants.{Size, Ended, Colon, Length, Digit, Count, Checksum, Kind, Shape, Place, Twice, NoEnd, NoData, Short}
 use Rattle.image.specs.declared.writer.Written.{Written}
 use Rattle.image.specs.declared.writer.Written.the-variants as written
 
@@ -33,7 +32,8 @@ refusalBy n =
     (pick (eqb n 28) Shape
     (pick (eqb n 29) Place
     (pick (eqb n 30) Twice
-    (pick (eqb n 31) NoEnd NoData)))))))))))
+    (pick (eqb n 31) NoEnd
+    (pick (eqb n 32) NoData Short))))))))))))
 
 refusal-back : (x : Refusal) → refusalBy (paperRefusal x) ≡ x
 unfolding refusalBy
@@ -50,12 +50,10 @@ refusal-back Place = refl
 refusal-back Twice = refl
 refusal-back NoEnd = refl
 refusal-back NoData = refl
+refusal-back Short = refl
 
-apart-numbers : _≡_ {A = ℕ} 20 33 → ⊥
-apart-numbers e = omega arith
-
-refusal-one : (x y : Refusal) → paperRefusal x ≡ paperRefusal y → x ≡ y
-refusal-one x y e = sym (refusal-back x) ∙ ap refusalBy e ∙ refusal-back y
+pub refusal-one : (x y : Refusal) → paperRefusal x ≡ paperRefusal y → x ≡ y
+refusal-one = back-one paperRefusal refusalBy refusal-back
 
 -- reading
 read-one : (r s : Read) → paperRead r ≡ paperRead s → r ≡ s
@@ -65,7 +63,10 @@ read-one (Refused x) (Taken g) e = absurd (apart e)
 read-one (Refused x) (Refused y) e = ap Refused (refusal-one x y (refused-one e))
 
 -- of start and of a record, with image and map as they leave them
-pub record-determined : {o : Settled} (r s : Read) (i j m n : List ℕ) → settledAs (paperRead r) i m ≡ o → settledAs (paperRead s) j n ≡ o → (r ≡ s) × (i ≡ j) × (m ≡ n)
+pub record-determined : {o : Settled} (r s : Read) (i j m n : List ℕ)
+    → settledAs (paperRead r) i m ≡ o
+    → settledAs (paperRead s) j n ≡ o
+    → (r ≡ s) × (i ≡ j) × (m ≡ n)
 record-determined r s i j m n p q =
     let e = p ∙ sym q in
     (read-one r s (ap (λ (x : Settled). x .answer) e), ap (λ (x : Settled). x .image) e, ap (λ (x : Settled). x .map) e)
@@ -75,16 +76,15 @@ close-determined = determined paperRead read-one
 
 -- writing
 written-one : (r s : Written) → paperWritten r ≡ paperWritten s → r ≡ s
-written-one written.Size written.Size e = refl
-written-one written.Size written.Short e = absurd (apart-numbers (refused-one e))
-written-one written.Size (written.Record n a) e = absurd (apart e)
-written-one written.Short written.Size e = absurd (apart-numbers (sym (refused-one e)))
-written-one written.Short written.Short e = refl
-written-one written.Short (written.Record n a) e = absurd (apart e)
-written-one (written.Record n a) written.Size e = absurd (apart (sym e))
-written-one (written.Record n a) written.Short e = absurd (apart (sym e))
+written-one (written.Refused x) (written.Refused y) e = ap written.Refused (refusal-one x y (refused-one e))
+written-one (written.Refused x) (written.Record n a) e = absurd (apart e)
+written-one (written.Record n a) (written.Refused y) e = absurd (apart (sym e))
 written-one (written.Record n a) (written.Record m b) e =
     let g = given-one e in λ i. written.Record (g i .length) (record { 0 = g i .next })
 
-pub write-determined : (a : Answer Step) (r s : Written) (x y old : List ℕ) → (paperWritten r ≡ measured a) × (x ≡ overlay (textBytes a) old) → (paperWritten s ≡ measured a) × (y ≡ overlay (textBytes a) old) → (r ≡ s) × (x ≡ y)
-write-determined a r s x y old p q = (determined paperWritten written-one r s (p .0) (q .0), p .1 ∙ sym (q .1))
+pub write-determined : (a : Answer Step) (r s : Written) (x y old : List ℕ)
+    → (paperWritten r ≡ measured a) × (x ≡ overlay (textBytes a) old)
+    → (paperWritten s ≡ measured a) × (y ≡ overlay (textBytes a) old)
+    → (r ≡ s) × (x ≡ y)
+write-determined a r s x y old p q =
+    (determined paperWritten written-one r s (p .0) (q .0), p .1 ∙ sym (q .1))

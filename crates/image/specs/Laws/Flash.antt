@@ -10,7 +10,7 @@ use lib.ListN.{length, take, drop, set, getD, replicate, length-set, length-take
 use lib.Seq.{getD-set-same, getD-set-other, getD-take, getD-drop, ext-getD}
 use Rattle.basis.specs.Laws.Lists.{overlay-next}
 use Rattle.basis.specs.Lists.{Bytes, overlay}
-use Rattle.image.specs.Flash.{stored, storeOf, copyOf, eraseOf, new}
+use Rattle.image.specs.Flash.{stored, storeOf, copyOf, eraseOf, new, Blank}
 
 module _ (op : ℕ → ℕ → ℕ) where
   -- flash after the first byte
@@ -23,24 +23,28 @@ module _ (op : ℕ → ℕ → ℕ) where
   length-stored flash a (x ∷ s) = length-stored (one flash a x) (a + 1) s ∙ simp length-set
 
   -- some bytes, then others
-  pub stored-append : (flash : List ℕ) (a : ℕ) (s t : List ℕ) → stored op flash a (s ++ t) ≡ stored op (stored op flash a s) (a + length s) t
+  pub stored-append : (flash : List ℕ) (a : ℕ) (s t : List ℕ)
+      → stored op flash a (s ++ t) ≡ stored op (stored op flash a s) (a + length s) t
   unfolding stored
   stored-append flash a [] t = rw add-zero
   stored-append flash a (x ∷ s) t = stored-append (one flash a x) (a + 1) s t ∙ rw (add-one, add-suc, suc-add)
 
-  pub stored-below : (flash : List ℕ) (a : ℕ) (s : List ℕ) (j : ℕ) → j < a → getD (stored op flash a s) j 0 ≡ getD flash j 0
+  pub stored-below : (flash : List ℕ) (a : ℕ) (s : List ℕ) (j : ℕ) → j < a
+      → getD (stored op flash a s) j 0 ≡ getD flash j 0
   unfolding stored
   stored-below flash a [] j h = refl
   stored-below flash a (x ∷ s) j h =
       stored-below (one flash a x) (a + 1) s j (omega arith) ∙ getD-set-other flash a j _ 0 (λ e. omega arith)
 
-  pub stored-above : (flash : List ℕ) (a : ℕ) (s : List ℕ) (j : ℕ) → a + length s ≤ j → getD (stored op flash a s) j 0 ≡ getD flash j 0
+  stored-above : (flash : List ℕ) (a : ℕ) (s : List ℕ) (j : ℕ) → a + length s ≤ j
+      → getD (stored op flash a s) j 0 ≡ getD flash j 0
   unfolding stored
   stored-above flash a [] j h = refl
   stored-above flash a (x ∷ s) j h =
       stored-above (one flash a x) (a + 1) s j (omega arith) ∙ getD-set-other flash a j _ 0 (λ e. omega arith)
 
-  pub stored-at : (flash : List ℕ) (a : ℕ) (s : List ℕ) (k : ℕ) → k < length s → a + length s ≤ length flash → getD (stored op flash a s) (a + k) 0 ≡ op (getD flash (a + k) 0) (getD s k 0)
+  pub stored-at : (flash : List ℕ) (a : ℕ) (s : List ℕ) (k : ℕ) → k < length s → a + length s ≤ length flash
+      → getD (stored op flash a s) (a + k) 0 ≡ op (getD flash (a + k) 0) (getD s k 0)
   unfolding stored
   stored-at flash a [] k h l = absurd (not-suc-le-zero h)
   stored-at flash a (x ∷ s) zero h l =
@@ -54,7 +58,8 @@ module _ (op : ℕ → ℕ → ℕ) where
 -- ---- copies
 
 -- bytes copied in behind what was written are written
-pub copy-overlay : (w old s : List ℕ) (k : ℕ) → length w ≡ k → k + length s ≤ length old → copyOf (overlay w old) k s ≡ overlay (w ++ s) old
+pub copy-overlay : (w old s : List ℕ) (k : ℕ) → length w ≡ k → k + length s ≤ length old
+    → copyOf (overlay w old) k s ≡ overlay (w ++ s) old
 unfolding stored
 copy-overlay w old [] k e h = rw append-nil
 copy-overlay w old (x ∷ s) k e h =
@@ -73,7 +78,8 @@ erase-below flash a n = stored-below new flash a (replicate n 0xFF)
 pub erase-above : (flash : List ℕ) (a n j : ℕ) → a + n ≤ j → getD (eraseOf flash a n) j 0 ≡ getD flash j 0
 erase-above flash a n j h = stored-above new flash a (replicate n 0xFF) j (simp length-replicate h)
 
-pub erase-at : (flash : List ℕ) (a n k : ℕ) → k < n → a + n ≤ length flash → getD (eraseOf flash a n) (a + k) 0 ≡ 0xFF
+pub erase-at : (flash : List ℕ) (a n k : ℕ) → k < n → a + n ≤ length flash
+    → getD (eraseOf flash a n) (a + k) 0 ≡ 0xFF
 erase-at flash a n k h l =
     stored-at new flash a (replicate n 0xFF) k (simp length-replicate h) (simp length-replicate l) ∙ getD-replicate n k 0xFF 0 h
 
@@ -82,18 +88,17 @@ erase-at flash a n k h l =
 pub length-store : (flash : List ℕ) (a : ℕ) (s : List ℕ) → length (storeOf flash a s) ≡ length flash
 length-store = length-stored bitAnd
 
-pub store-below : (flash : List ℕ) (a : ℕ) (s : List ℕ) (j : ℕ) → j < a → getD (storeOf flash a s) j 0 ≡ getD flash j 0
+pub store-below : (flash : List ℕ) (a : ℕ) (s : List ℕ) (j : ℕ) → j < a
+    → getD (storeOf flash a s) j 0 ≡ getD flash j 0
 store-below = stored-below bitAnd
 
-pub store-above : (flash : List ℕ) (a : ℕ) (s : List ℕ) (j : ℕ) → a + length s ≤ j → getD (storeOf flash a s) j 0 ≡ getD flash j 0
+pub store-above : (flash : List ℕ) (a : ℕ) (s : List ℕ) (j : ℕ) → a + length s ≤ j
+    → getD (storeOf flash a s) j 0 ≡ getD flash j 0
 store-above = stored-above bitAnd
 
-pub store-at : (flash : List ℕ) (a : ℕ) (s : List ℕ) (k : ℕ) → k < length s → a + length s ≤ length flash → getD (storeOf flash a s) (a + k) 0 ≡ bitAnd (getD flash (a + k) 0) (getD s k 0)
+pub store-at : (flash : List ℕ) (a : ℕ) (s : List ℕ) (k : ℕ) → k < length s → a + length s ≤ length flash
+    → getD (storeOf flash a s) (a + k) 0 ≡ bitAnd (getD flash (a + k) 0) (getD s k 0)
 store-at = stored-at bitAnd
-
--- the n bytes from a on are 0xFF
-abbrev pub Blank : List ℕ → ℕ → ℕ → Type 0
-Blank flash a n = (k : ℕ) → k < n → getD flash (a + k) 0 ≡ 0xFF
 
 and-blank : (x : ℕ) → x < 256 → bitAnd 0xFF x ≡ x
 and-blank x h = and-comm 0xFF x ∙ and-mask x 8 ∙ mod-eq-of-lt h

@@ -4,27 +4,25 @@ use mathlib.Core.Path.{_≡_, refl, sym, ap, _∙_}
 use mathlib.Core.Bool.{true, false}
 use mathlib.Core.List.{List, [], _∷_, _++_}
 use native.Mathlib.Omega.{arith}
-use lib.Dec.{ltb, leb}
-use lib.ListN.{length, getD, take, drop, replicate, length-append, length-drop, length-replicate}
+use lib.Dec.{ltb, leb, lit<}
+use lib.ListN.{length, getD, take, drop, length-append, length-drop, length-replicate}
 use lib.Seq.{take-at, length-take-le, getD-take, getD-drop}
 use borrow.Author.Tests.{lt-ltb, le-ltb, ltb-true, ltb-false, leb-true, leb-false, le-leb, lt-leb}
 use Rattle.basis.specs.Lists.{Bytes}
 use Rattle.basis.specs.Refusals.{given, first}
 use Rattle.basis.specs.Sums.{checksumOf}
-use Rattle.basis.specs.Laws.Choice.{decide, true-false}
-use Rattle.basis.specs.Laws.Lists.{bytes-drop, bytes-take}
+use Rattle.basis.specs.Laws.Choice.{decide, true-false, any-none}
+use Rattle.basis.specs.Laws.Lists.{bytes-drop, bytes-take, zero-at}
 use Rattle.basis.specs.Laws.Sums.{sum-closed}
-use Rattle.runs.specs.Map.{named}
-use Rattle.runs.specs.Laws.Map.{named-past, named-none, named-only}
+use Rattle.runs.specs.Map.{named, nameAllOf}
+use Rattle.runs.specs.Laws.Map.{named-past, named-none, named-only, name-all-length, name-all-bytes, name-all-below, name-all-above, name-all-in}
 use Rattle.runs.specs.Laws.Runs.{next-ge, next-pass, next-skip, len-le, len-ge, len-in}
 use Rattle.image.specs.Flash.{copyOf, new}
-use Rattle.image.specs.Places.{nameAllOf}
-use Rattle.image.specs.Hex.{File, file, started, fed, place, placed, recordIn, closeOf}
+use Rattle.image.specs.Hex.{File, hex, file, started, fed, place, placed, recordIn, closeOf}
 use Rattle.image.specs.declared.hex.Hex.{Hex}
 use Rattle.image.specs.Writer.{content, line, text, step, recordLength, recordFrom, lowest, stepFrom}
 use Rattle.image.specs.RoundTrip.{unended, lines, addressAfter, readLines, Returned}
 use Rattle.image.specs.Laws.Flash.{length-stored, stored-below, stored-at}
-use Rattle.image.specs.Laws.Places.{any-none, name-all-length, name-all-bytes, name-all-below, name-all-above, name-all-in}
 use Rattle.image.specs.Laws.Hex.{size-right, data-taken, end-taken}
 
 -- ---- one record
@@ -55,19 +53,94 @@ place-at : (h : Hex) (a : ℕ) (s : List ℕ) → h .linear ≡ 0 → h .segment
 place-at h a s l g = omega arith
 
 -- what a data record at a does to a reader with both bases 0
-placed-at : (h : Hex) (a : ℕ) (s image map : List ℕ) → h .linear ≡ 0 → h .segment ≡ 0 → placed h (closed a s) image map ≡ file (fed h (length s)) (copyOf image a s) (nameAllOf map a (length s))
+placed-at : (h : Hex) (a : ℕ) (s image map : List ℕ) → h .linear ≡ 0 → h .segment ≡ 0
+    → placed h (closed a s) image map
+    ≡ file (fed h (length s)) (copyOf image a s) (nameAllOf map a (length s))
 placed-at h a s image map l g =
     let p : place h (closed a s) ≡ a = place-at h a s l g in
     rw (p, take-at s (checksumOf (content a 0 s) ∷ []) (length s) refl)
 
-zero-below : (n k : ℕ) → getD (replicate n 0) k 0 < 256
-zero-below zero k = omega arith
-zero-below (suc n) zero = omega arith
-zero-below (suc n) (suc k) = zero-below n k
-
--- ---- the reader after the records below an address
-
 module _ (size : ℕ) (image map : List ℕ) where
+  -- ---- the writer's steps, and its end
+
+  -- the run at the lowest named place from a on
+  module _ (a : ℕ) (h : lowest size map a < size) where
+    abbrev low : ℕ
+    low = lowest size map a
+
+    low-named : named map low ≡ true
+    low-named = next-pass (named map) (size - a) a (omega arith)
+
+    run-some : 0 < recordLength map low
+    run-some = len-ge (named map) (16 - low % 16) low 1 (omega arith) (λ i l. first-one i l)
+      where
+        first-one : (i : ℕ) → i < 1 → named map (low + i) ≡ true
+        first-one i l = let e : low + i ≡ low = omega arith in rw e low-named
+
+    run-few : recordLength map low ≤ 16 - low % 16
+    run-few = len-le (named map) low (16 - low % 16)
+
+    run-named : (j : ℕ) → low ≤ j → j < low + recordLength map low → named map j ≡ true
+    run-named j l m =
+        let e : low + (j - low) ≡ j = omega arith in
+        rw e at (len-in (named map) (16 - low % 16) low (j - low) (omega arith))
+
+  step-end : (a : ℕ) → a ≤ size → size ≤ lowest size map a
+      → stepFrom size image map a ≡ step (text 0 1 []) (size + 1)
+  unfolding stepFrom
+  step-end a l h = simp (le-ltb _ _ l, le-leb _ _ h)
+
+  step-run : (a : ℕ) → a ≤ size → lowest size map a < size
+      → stepFrom size image map a ≡ recordFrom image map (lowest size map a)
+  unfolding stepFrom
+  step-run a l h = simp (le-ltb _ _ l, lt-leb _ _ h)
+
+  beyond : (a : ℕ) → size < a → stepFrom size image map a ≡ step [] a
+  unfolding stepFrom
+  beyond a h = simp (lt-ltb _ _ h)
+
+  lines-step : (a k b c d : ℕ) (s : List ℕ) → a ≤ size → stepFrom size image map a ≡ step (text b c s) d
+      → lines size image map a (suc k) ≡ line b c s ∷ lines size image map d k
+  unfolding lines
+  lines-step a k b c d s l e = rw (le-ltb size a l, e, unended-text b c s)
+
+  lines-past : (k : ℕ) → lines size image map (size + 1) k ≡ []
+  unfolding lines
+  lines-past zero = refl
+  lines-past (suc k) = let h : size < size + 1 = omega arith in rw (lt-ltb size (size + 1) h)
+
+  read-step : (l : List ℕ) (s : List (List ℕ)) (f g : File)
+      → recordIn size (f .reader) l (f .image) (f .map) ≡ given g
+      → readLines size (l ∷ s) f ≡ readLines size s g
+  unfolding readLines
+  read-step l s f g e = rw e
+
+  read-none : (f : File) → readLines size [] f ≡ given f
+  unfolding readLines
+  read-none f = refl
+
+  address-past : (k : ℕ) → addressAfter size image map (size + 1) k ≡ size + 1
+  unfolding addressAfter
+  address-past zero = refl
+  address-past (suc k) = rw step-past (address-past k)
+    where
+      step-past : stepFrom size image map (size + 1) ≡ step [] (size + 1)
+      step-past = beyond (size + 1) (omega arith)
+
+  -- after at most size + 1 records the end record was written
+  writer-ends : size % 16 ≡ 0
+      → (k a : ℕ)
+      → a ≤ size → size - a < k → addressAfter size image map a k ≡ size + 1
+  unfolding addressAfter
+  writer-ends whole zero a l m = absurd (omega arith)
+  writer-ends whole (suc k) a l m =
+      decide (leb size (lowest size map a))
+      (λ e. rw (step-end a l (leb-true _ _ e)) (address-past k))
+      (λ e. let h : lowest size map a < size = leb-false _ _ e in
+      rw (step-run a l h) (writer-ends whole k (lowest size map a + recordLength map (lowest size map a)) (omega (arith, run-few a h)) (omega (arith, next-ge (named map) (size - a) a, run-some a h))))
+
+  -- ---- the reader after the records below an address
+
   -- all named bytes below a have been read, and nothing else
   record Upto (a : ℕ) (f : File) : Type 0 where
     pub linear : f .reader .linear ≡ 0
@@ -82,7 +155,8 @@ module _ (size : ℕ) (image map : List ℕ) where
     pub bytes : (j : ℕ) → j < a → named map j ≡ true → getD (f .image) j 0 ≡ getD image j 0
 
   -- where nothing is named nothing is missed
-  upto-skip : (a b : ℕ) (f : File) → Upto a f → a ≤ b → ((j : ℕ) → a ≤ j → j < b → named map j ≡ false) → Upto b f
+  upto-skip : (a b : ℕ) (f : File) → Upto a f → a ≤ b → ((j : ℕ) → a ≤ j → j < b → named map j ≡ false)
+      → Upto b f
   upto-skip a b f u l h =
       record {
         linear = u .linear;
@@ -92,12 +166,17 @@ module _ (size : ℕ) (image map : List ℕ) where
         imageLength = u .imageLength;
         mapLength = u .mapLength;
         mapBytes = u .mapBytes;
-        below = λ j m. decide (ltb j a) (λ e. u .below j (ltb-true j a e)) (λ e. u .above j (ltb-false j a e) ∙ sym (h j (ltb-false j a e) m));
+        below =
+            λ j m. decide (ltb j a) (λ e. u .below j (ltb-true j a e))
+            (λ e. u .above j (ltb-false j a e) ∙ sym (h j (ltb-false j a e) m));
         above = λ j m. u .above j (omega arith);
-        bytes = λ j m e. decide (ltb j a) (λ t. u .bytes j (ltb-true j a t) e) (λ t. absurd (true-false (sym e ∙ h j (ltb-false j a t) m)));
+        bytes =
+            λ j m e. decide (ltb j a) (λ t. u .bytes j (ltb-true j a t) e)
+            (λ t. absurd (true-false (sym e ∙ h j (ltb-false j a t) m)));
       }
     where
-      by : (j : ℕ) → (j < a → named map j ≡ false) → (a ≤ j → j < b → named map j ≡ false) → j < b → named map j ≡ false
+      by : (j : ℕ) → (j < a → named map j ≡ false) → (a ≤ j → j < b → named map j ≡ false) → j < b
+          → named map j ≡ false
       by j p q m = decide (ltb j a) (λ e. p (ltb-true j a e)) (λ e. q (ltb-false j a e) m)
 
   module _ (fits : size ≤ 65536) (imageBytes : Bytes image) where
@@ -124,13 +203,13 @@ module _ (size : ℕ) (image map : List ℕ) where
 
       run-read : recordIn size (f .reader) (line a 0 part) (f .image) (f .map) ≡ given more
       run-read =
-          data-taken size (f .reader) (f .image) (f .map) (size-right size (f .reader) (f .image) (f .map) (u .imageLength) (u .mapLength)) (u .going) (closed a part)
+          data-taken size (f .reader) (f .image) (f .map) (size-right size (f .image) (f .map) (u .imageLength) (u .mapLength)) (u .going) (closed a part)
           (closed-bytes a part (omega arith) (omega (arith, part-length)) part-bytes)
           (omega (arith, length-append part (checksumOf (content a 0 part) ∷ [])))
           (sum-closed (content a 0 part))
           refl
           (omega (arith, part-length, place-at (f .reader) a part (u .linear) (u .segment)))
-          (rw (place-at (f .reader) a part (u .linear) (u .segment), part-length) (any-none (f .map) a n (λ j l m. u .above j l)))
+          (rw (place-at (f .reader) a part (u .linear) (u .segment), part-length) (any-none (named (f .map)) a n (λ j l. u .above (a + j) (omega arith))))
           ∙ ap given (placed-at (f .reader) a part (f .image) (f .map) (u .linear) (u .segment) ∙ rw part-length)
 
       upto-more : Upto (a + n) more
@@ -143,9 +222,15 @@ module _ (size : ℕ) (image map : List ℕ) where
             imageLength = length-stored new (f .image) a part ∙ u .imageLength;
             mapLength = name-all-length (f .map) a n ∙ u .mapLength;
             mapBytes = name-all-bytes (f .map) a n room (u .mapBytes);
-            below = λ j m. decide (ltb j a) (λ e. name-all-below (f .map) a n j room (ltb-true j a e) ∙ u .below j (ltb-true j a e)) (λ e. name-all-in (f .map) a n j room (ltb-false j a e) m ∙ sym (run j (ltb-false j a e) m));
+            below =
+                λ j m. decide (ltb j a)
+                (λ e. name-all-below (f .map) a n j room (ltb-true j a e) ∙ u .below j (ltb-true j a e))
+                (λ e. name-all-in (f .map) a n j room (ltb-false j a e) m ∙ sym (run j (ltb-false j a e) m));
             above = λ j m. name-all-above (f .map) a n j room m ∙ u .above j (omega arith);
-            bytes = λ j m e. decide (ltb j a) (λ t. stored-below new (f .image) a part j (ltb-true j a t) ∙ u .bytes j (ltb-true j a t) e) (λ t. copied j (ltb-false j a t) m);
+            bytes =
+                λ j m e. decide (ltb j a)
+                (λ t. stored-below new (f .image) a part j (ltb-true j a t) ∙ u .bytes j (ltb-true j a t) e)
+                (λ t. copied j (ltb-false j a t) m);
           }
         where
           copied : (j : ℕ) → a ≤ j → j < a + n → getD (copyOf (f .image) a part) j 0 ≡ getD image j 0
@@ -157,57 +242,6 @@ module _ (size : ℕ) (image map : List ℕ) where
     -- ---- the whole file
 
     module _ (whole : size % 16 ≡ 0) (il : length image ≡ size) (ml : length map ≡ size / 8) where
-      -- the run at the lowest named place from a on
-      module _ (a : ℕ) (h : lowest size map a < size) where
-        abbrev low : ℕ
-        low = lowest size map a
-
-        low-named : named map low ≡ true
-        low-named = next-pass (named map) (size - a) a (omega arith)
-
-        run-some : 0 < recordLength map low
-        run-some = len-ge (named map) (16 - low % 16) low 1 (omega arith) (λ i l. first-one i l)
-          where
-            first-one : (i : ℕ) → i < 1 → named map (low + i) ≡ true
-            first-one i l = let e : low + i ≡ low = omega arith in rw e low-named
-
-        run-few : recordLength map low ≤ 16 - low % 16
-        run-few = len-le (named map) low (16 - low % 16)
-
-        run-named : (j : ℕ) → low ≤ j → j < low + recordLength map low → named map j ≡ true
-        run-named j l m =
-            let e : low + (j - low) ≡ j = omega arith in
-            rw e at (len-in (named map) (16 - low % 16) low (j - low) (omega arith))
-
-      step-end : (a : ℕ) → a ≤ size → size ≤ lowest size map a → stepFrom size image map a ≡ step (text 0 1 []) (size + 1)
-      unfolding stepFrom
-      step-end a l h = simp (le-ltb _ _ l, le-leb _ _ h)
-
-      step-run : (a : ℕ) → a ≤ size → lowest size map a < size → stepFrom size image map a ≡ recordFrom image map (lowest size map a)
-      unfolding stepFrom
-      step-run a l h = simp (le-ltb _ _ l, lt-leb _ _ h)
-
-      beyond : (a : ℕ) → size < a → stepFrom size image map a ≡ step [] a
-      unfolding stepFrom
-      beyond a h = simp (lt-ltb _ _ h)
-
-      lines-step : (a k b c d : ℕ) (s : List ℕ) → a ≤ size → stepFrom size image map a ≡ step (text b c s) d → lines size image map a (suc k) ≡ line b c s ∷ lines size image map d k
-      unfolding lines
-      lines-step a k b c d s l e = rw (le-ltb size a l, e, unended-text b c s)
-
-      lines-past : (k : ℕ) → lines size image map (size + 1) k ≡ []
-      unfolding lines
-      lines-past zero = refl
-      lines-past (suc k) = let h : size < size + 1 = omega arith in rw (lt-ltb size (size + 1) h)
-
-      read-step : (l : List ℕ) (s : List (List ℕ)) (f g : File) → recordIn size (f .reader) l (f .image) (f .map) ≡ given g → readLines size (l ∷ s) f ≡ readLines size s g
-      unfolding readLines
-      read-step l s f g e = rw e
-
-      read-none : (f : File) → readLines size [] f ≡ given f
-      unfolding readLines
-      read-none f = refl
-
       module _ (mapBytes : Bytes map) (x : ℕ) (nx : named map x ≡ true) where
         module _ (a k : ℕ) (f : File) (u : Upto a f) (l : a ≤ size) (h : size ≤ lowest size map a) where
           none-named : (j : ℕ) → a ≤ j → named map j ≡ false
@@ -228,7 +262,7 @@ module _ (size : ℕ) (image map : List ℕ) where
 
           abbrev last : File
           last =
-              file (record { linear = f .reader .linear; segment = f .reader .segment; ended = true; taken = f .reader .taken }) (f .image) (f .map)
+              file (hex (f .reader .linear) (f .reader .segment) true (f .reader .taken)) (f .image) (f .map)
 
           closed-well : closeOf (last .reader) ≡ given (last .reader)
           unfolding first closeOf
@@ -240,47 +274,54 @@ module _ (size : ℕ) (image map : List ℕ) where
                 result = last;
                 read =
                     ap (λ (s : List (List ℕ)). readLines size s f) (lines-step a k 0 1 (size + 1) [] l (step-end a l h))
-                    ∙ read-step (line 0 1 []) (lines size image map (size + 1) k) f last (end-taken size (f .reader) (f .image) (f .map) (size-right size (f .reader) (f .image) (f .map) (u .imageLength) (u .mapLength)) (u .going))
+                    ∙ read-step (line 0 1 []) (lines size image map (size + 1) k) f last (end-taken size (f .reader) (f .image) (f .map) (size-right size (f .image) (f .map) (u .imageLength) (u .mapLength)) (u .going))
                     ∙ ap (λ (s : List (List ℕ)). readLines size s last) (lines-past k)
                     ∙ read-none last;
                 back =
                     record {
                       closes = closed-well;
-                      sameMap = named-only (f .map) map (u .mapLength ∙ sym ml) (u .mapBytes) mapBytes (λ j. decide (ltb j a) (λ e. u .below j (ltb-true j a e)) (λ e. u .above j (ltb-false j a e) ∙ sym (none-named j (ltb-false j a e))));
-                      sameBytes = λ j e. decide (ltb j a) (λ t. u .bytes j (ltb-true j a t) e) (λ t. absurd (true-false (sym e ∙ none-named j (ltb-false j a t))));
+                      sameMap =
+                          named-only (f .map) map (u .mapLength ∙ sym ml) (u .mapBytes) mapBytes
+                          (λ j. decide (ltb j a) (λ e. u .below j (ltb-true j a e)) (λ e. u .above j (ltb-false j a e) ∙ sym (none-named j (ltb-false j a e))));
+                      sameBytes =
+                          λ j e. decide (ltb j a) (λ t. u .bytes j (ltb-true j a t) e)
+                          (λ t. absurd (true-false (sym e ∙ none-named j (ltb-false j a t))));
                     };
               }
 
         module _ (a k : ℕ) (f : File) (u : Upto a f) (l : a ≤ size) (h : lowest size map a < size) where
           abbrev far : ℕ
-          far = recordLength map (lowest size map a)
+          far = recordLength map (low a h)
 
-          upto-low : Upto (lowest size map a) f
+          upto-low : Upto (low a h) f
           upto-low =
-              upto-skip a (lowest size map a) f u (next-ge (named map) (size - a) a) (λ j m p. next-skip (named map) (size - a) a j m p)
+              upto-skip a (low a h) f u (next-ge (named map) (size - a) a) (λ j m p. next-skip (named map) (size - a) a j m p)
 
-          far-end : lowest size map a + far ≤ size
+          far-end : low a h + far ≤ size
           far-end = omega (arith, run-few a h)
+
+          abbrev piece : List ℕ
+          piece = take far (drop (low a h) image)
 
           abbrev onto : File
           onto =
-              file (fed (f .reader) far) (copyOf (f .image) (lowest size map a) (take far (drop (lowest size map a) image))) (nameAllOf (f .map) (lowest size map a) far)
+              file (fed (f .reader) far) (copyOf (f .image) (low a h) piece) (nameAllOf (f .map) (low a h) far)
 
-          onto-read : recordIn size (f .reader) (line (lowest size map a) 0 (take far (drop (lowest size map a) image))) (f .image) (f .map) ≡ given onto
+          onto-read : recordIn size (f .reader) (line (low a h) 0 piece) (f .image) (f .map) ≡ given onto
           onto-read =
-              run-read (lowest size map a) far f upto-low (run-some a h) (omega (arith, run-few a h)) far-end (omega arith) (run-named a h) il
+              run-read (low a h) far f upto-low (run-some a h) (omega (arith, run-few a h)) far-end (omega arith) (run-named a h) il
 
-          onto-upto : Upto (lowest size map a + far) onto
+          onto-upto : Upto (low a h + far) onto
           onto-upto =
-              upto-more (lowest size map a) far f upto-low (run-some a h) (omega (arith, run-few a h)) far-end (omega arith) (run-named a h) il
+              upto-more (low a h) far f upto-low (run-some a h) (omega (arith, run-few a h)) far-end (omega arith) (run-named a h) il
 
-          at-run : Returned size image map (lowest size map a + far) k onto → Returned size image map a (suc k) f
+          at-run : Returned size image map (low a h + far) k onto → Returned size image map a (suc k) f
           at-run r =
               record {
                 result = r .result;
                 read =
-                    ap (λ (s : List (List ℕ)). readLines size s f) (lines-step a k (lowest size map a) 0 (lowest size map a + far) (take far (drop (lowest size map a) image)) l (step-run a l h))
-                    ∙ read-step (line (lowest size map a) 0 (take far (drop (lowest size map a) image))) (lines size image map (lowest size map a + far) k) f onto onto-read
+                    ap (λ (s : List (List ℕ)). readLines size s f) (lines-step a k (low a h) 0 (low a h + far) piece l (step-run a l h))
+                    ∙ read-step (line (low a h) 0 piece) (lines size image map (low a h + far) k) f onto onto-read
                     ∙ r .read;
                 back = r .back;
               }
@@ -293,7 +334,9 @@ module _ (size : ℕ) (image map : List ℕ) where
             (λ e. let h : lowest size map a < size = leb-false _ _ e in
             at-run a k f u l h (from-here k (lowest size map a + far a k f u l h) (onto a k f u l h) (onto-upto a k f u l h) (far-end a k f u l h) (fewer a k f u l h m)))
           where
-            fewer : (a k : ℕ) (f : File) (u : Upto a f) (l : a ≤ size) (h : lowest size map a < size) → size - a < suc k → size - (lowest size map a + far a k f u l h) < k
+            fewer : (a k : ℕ) (f : File) (u : Upto a f) (l : a ≤ size) (h : lowest size map a < size)
+                → size - a < suc k
+                → size - (lowest size map a + far a k f u l h) < k
             fewer a k f u l h m = omega (arith, next-ge (named map) (size - a) a, run-some a h)
 
         file-returns : Returned size image map 0 (size + 1) (started size)
@@ -308,37 +351,28 @@ module _ (size : ℕ) (image map : List ℕ) where
                   none = λ e j m. absurd (omega arith);
                   imageLength = length-replicate size 0xFF;
                   mapLength = length-replicate (size / 8) 0;
-                  mapBytes = λ j. zero-below (size / 8) j;
+                  mapBytes = λ j. rw (zero-at (size / 8) j) (lit< tt);
                   below = λ j m. absurd (omega arith);
                   above = λ j m. named-none (size / 8) j;
                   bytes = λ j m e. absurd (omega arith);
                 }
 
-      -- ---- the writer comes to its end
-
-      address-past : (k : ℕ) → addressAfter size image map (size + 1) k ≡ size + 1
-      unfolding addressAfter
-      address-past zero = refl
-      address-past (suc k) = rw step-past (address-past k)
-        where
-          step-past : stepFrom size image map (size + 1) ≡ step [] (size + 1)
-          step-past = beyond (size + 1) (omega arith)
-
-      -- after at most size + 1 records the end record was written
-      writer-ends : (k a : ℕ) → a ≤ size → size - a < k → addressAfter size image map a k ≡ size + 1
-      unfolding addressAfter
-      writer-ends zero a l m = absurd (omega arith)
-      writer-ends (suc k) a l m =
-          decide (leb size (lowest size map a))
-          (λ e. rw (step-end a l (leb-true _ _ e)) (address-past k))
-          (λ e. let h : lowest size map a < size = leb-false _ _ e in
-          rw (step-run a l h) (writer-ends k (lowest size map a + recordLength map (lowest size map a)) (omega (arith, run-few a h)) (omega (arith, next-ge (named map) (size - a) a, run-some a h))))
-
--- Writing a file with a named byte record by record and reading the records back from a fresh reader is accepted throughout,
--- closes, and gives the same map and the same named bytes.
-pub round-trip : (size : ℕ) (image map : List ℕ) → size ≤ 65536 → size % 16 ≡ 0 → length image ≡ size → length map ≡ size / 8 → Bytes image → Bytes map → (x : ℕ) → named map x ≡ true → Returned size image map 0 (size + 1) (started size)
-round-trip size image map fits whole il ml ib mb x nx = file-returns size image map fits ib whole il ml mb x nx
+-- Writing a file with a named byte record by record and reading the records back from a fresh reader
+-- is accepted throughout, closes, and gives the same map and the same named bytes.
+pub round-trip : (size : ℕ) (image map : List ℕ)
+    → size ≤ 65536
+    → size % 16 ≡ 0
+    → length image ≡ size
+    → length map ≡ size / 8
+    → Bytes image
+    → Bytes map
+    → (x : ℕ)
+    → named map x ≡ true
+    → Returned size image map 0 (size + 1) (started size)
+round-trip size image map fits whole il ml ib mb x nx =
+    file-returns size image map fits ib whole il ml mb x nx
 
 -- The writer has given its end record after at most size + 1 records.
-pub end-comes : (size : ℕ) (image map : List ℕ) → size ≤ 65536 → size % 16 ≡ 0 → length image ≡ size → length map ≡ size / 8 → Bytes image → addressAfter size image map 0 (size + 1) ≡ size + 1
-end-comes size image map fits whole il ml ib = writer-ends size image map fits ib whole il ml (size + 1) 0 (omega arith) (omega arith)
+pub end-comes : (size : ℕ) (image map : List ℕ) → size % 16 ≡ 0
+    → addressAfter size image map 0 (size + 1) ≡ size + 1
+end-comes size image map whole = writer-ends size image map whole (size + 1) 0 (omega arith) (omega arith)

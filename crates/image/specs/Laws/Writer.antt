@@ -22,15 +22,15 @@ spelt-append [] t = refl
 spelt-append (x ∷ s) t = rw (spelt-append s t)
 
 -- a digit reads back
-pub digit-letter : (d : ℕ) → d < 16 → digitOf (letterOf d) ≡ d
+digit-letter : (d : ℕ) → d < 16 → digitOf (letterOf d) ≡ d
 unfolding digitOf letterOf
 digit-letter d h = agree (λ (d : ℕ). digitOf (letterOf d)) (λ (d : ℕ). d) 16 tt d h
 
 module _ (x : ℕ) (h : x < 256) where
-  pub digit-high : digitOf (letterOf (x / 16)) ≡ x / 16
+  digit-high : digitOf (letterOf (x / 16)) ≡ x / 16
   digit-high = digit-letter (x / 16) (omega arith)
 
-  pub digit-low : digitOf (letterOf (x % 16)) ≡ x % 16
+  digit-low : digitOf (letterOf (x % 16)) ≡ x % 16
   digit-low = digit-letter (x % 16) (omega arith)
 
 -- what is spelt is all digits, and reads back

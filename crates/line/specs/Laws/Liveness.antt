@@ -15,8 +15,8 @@ use Rattle.basis.specs.Laws.Lists.{bytes-take, bytes-drop}
 use Rattle.basis.specs.Lists.{Bytes}
 use Rattle.basis.specs.Refusals.{given}
 use Rattle.basis.specs.Units.{pageOf, startOf}
-use Rattle.image.specs.Flash.{storeOf}
-use Rattle.image.specs.Laws.Flash.{Blank, length-erase, erase-at, length-store, store-blank-at}
+use Rattle.image.specs.Flash.{storeOf, Blank}
+use Rattle.image.specs.Laws.Flash.{length-erase, erase-at, length-store, store-blank-at}
 use Rattle.line.specs.Demand.{Free}
 use Rattle.line.specs.Laws.Places.{page-start, store-or, erase-or, parts-equal}
 use Rattle.line.specs.Laws.Safety.{Serves, erasedRun, takes-erase, takes-write, takes-verify, takes-run}

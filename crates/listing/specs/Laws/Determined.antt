@@ -6,7 +6,7 @@ use native.Mathlib.Omega.{arith}
 use Rattle.basis.specs.Laws.Refusals.{apart, given-one, refused-one, determined}
 use Rattle.basis.specs.Refusals.{Answer, refused}
 use Rattle.image.specs.Laws.Determined.{close-determined}
-use Rattle.image.specs.Record.{paperRefusal}
+use Rattle.image.specs.Paper.{paperRefusal}
 use Rattle.image.specs.declared.hex.Read.{Read}
 use Rattle.image.specs.declared.record.Refusal.{Refusal}
 use Rattle.session.specs.Laws.Determined.{step-determined}

@@ -6,12 +6,11 @@ use mathlib.Core.Path.{_≡_, refl}
 use lib.Dec.{eqb}
 use lib.ListN.{getD, replicate}
 use Rattle.basis.specs.Board.{pages}
-use Rattle.basis.specs.Laws.Computed.{all}
+use Rattle.basis.specs.Choice.{all, any}
 use Rattle.basis.specs.Refusals.{Answer, refused, given, first}
 use Rattle.basis.specs.Sums.{plainSum, sumOf}
 use Rattle.image.specs.Flash.{stored}
 use Rattle.loader.specs.Commands.{Effect, eraseRows, erasing, writeRows, writing, verifyRows, obeyOf}
-use Rattle.loader.specs.Protection.{anyOf}
 use Rattle.loader.specs.State.{factoryOf, withCondition}
 use Rattle.loader.specs.Verify.{equalsOf}
 use Rattle.loader.specs.declared.state.Condition.the-variants.{Serving}
@@ -80,5 +79,5 @@ cases =
     ∷ []
 
 pub paper-cases : all cases ≡ true
-unfolding first packet sumOf plainSum stored eraseRows erasing writeRows writing verifyRows obeyOf anyOf equalsOf rows tabledOf readOf
+unfolding first packet sumOf plainSum stored eraseRows erasing writeRows writing verifyRows obeyOf any equalsOf rows tabledOf readOf
 paper-cases = refl

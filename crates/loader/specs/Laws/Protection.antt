@@ -1,9 +1,8 @@
 -- Laws of protection: which groups a set has, and when the protection in force changes.
-use Prim.Native.Nat.{ℕ, zero, suc, _+_, _-_, _*_, _≤_, _<_}
+use Prim.Native.Nat.{ℕ, _+_, _-_, _*_, _≤_, _<_}
 use mathlib.Core.Bool.{Bool, true, false, not}
 use mathlib.Core.List.{List, [], _∷_}
 use mathlib.Core.Path.{_≡_, refl, sym, subst, _∙_}
-use native.Mathlib.Nat.{add-zero}
 use native.Mathlib.Omega.{arith}
 use borrow.Author.Tests.{leb-true, leb-false, eqb-true}
 use lib.Dec.{leb, eqb}
@@ -12,28 +11,20 @@ use Rattle.basis.specs.Bits.{bit}
 use Rattle.basis.specs.Board.{groupSize}
 use Rattle.basis.specs.Choice.{pick, either}
 use Rattle.basis.specs.Laws.Bits.{bit-or}
-use Rattle.basis.specs.Laws.Choice.{decide, true-false, either-first, either-false}
+use Rattle.basis.specs.Laws.Choice.{decide, true-false, either-first, any-none}
 use Rattle.basis.specs.Laws.Refusals.{skip, stop, done}
 use Rattle.basis.specs.Refusals.{refused, given, Rule, first}
 use Rattle.basis.specs.Units.{groupOf, pageGroupOf, pageOf, startOf}
 use Rattle.loader.specs.Commands.{Effect, protectedPages, protectedBytes, massErase, eraseRows, erasing, writeRows, writing, verifyRows, opening, addedOf, adding, closing, protecting, running, obeyOf, loaderAfter, effectAfter}
 use Rattle.loader.specs.Laws.Commands.{either-way, erasing-open, erasing-pages, keeping-is}
 use Rattle.loader.specs.Laws.Take.{any-input}
-use Rattle.loader.specs.Protection.{none, joinOf, anyOf}
+use Rattle.loader.specs.Protection.{none, joinOf}
 use Rattle.loader.specs.State.{withCondition, withAdded, joinedOf}
 use Rattle.loader.specs.Take.{dataIn, takeOf}
 use Rattle.loader.specs.declared.protection.Protection.{Protection}
 use Rattle.loader.specs.declared.state.Condition.the-variants.{Left}
 use Rattle.loader.specs.declared.state.Loader.{Loader}
 use Rattle.packet.specs.Packet.{Parts, readOf}
-
--- none of n groups from g on is protected
-none-any : (s g n : ℕ) → ((j : ℕ) → j < n → bit s (g + j) ≡ false) → anyOf s g n ≡ false
-unfolding anyOf
-none-any s g zero h = refl
-none-any s g (suc n) h =
-    either-false (bit s g) (anyOf s (g + 1) n) (subst (λ (x : ℕ). bit s x ≡ false) (add-zero g) (h 0 (omega arith)))
-    (none-any s (g + 1) n (λ j l. let q : g + suc j ≡ g + 1 + j = omega arith in subst (λ (x : ℕ). bit s x ≡ false) q (h (suc j) (omega arith))))
 
 -- bytes and pages are free when each of their groups is
 module _ (p : Protection) where
@@ -44,7 +35,7 @@ module _ (p : Protection) where
       → protectedBytes p a e ≡ false
   unfolding Unprotected
   free-bytes a e h free =
-      none-any (p .groups) (groupOf a) (groupOf (e + (groupSize - 1)) - groupOf a)
+      any-none (bit (p .groups)) (groupOf a) (groupOf (e + (groupSize - 1)) - groupOf a)
       (λ n l. let g : ℕ = groupOf a + n in
       decide (leb a (groupSize * g))
       (λ t. let u = leb-true a (groupSize * g) t in

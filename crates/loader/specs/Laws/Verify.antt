@@ -11,8 +11,8 @@ use lib.ListN.{length, getD, take, drop, length-map}
 use lib.Seq.{drop-cons}
 use Rattle.basis.specs.Laws.Choice.{both-true, both-second}
 use Rattle.basis.specs.Lists.{Bytes}
-use Rattle.image.specs.Flash.{storeOf}
-use Rattle.image.specs.Laws.Flash.{Blank, length-store, store-blank}
+use Rattle.image.specs.Flash.{storeOf, Blank}
+use Rattle.image.specs.Laws.Flash.{length-store, store-blank}
 use Rattle.loader.specs.Verify.{equalsOf}
 use Rattle.packet.specs.Laws.Turn.{restored-turned, undone}
 use Rattle.packet.specs.Turn.{turnedOf, restoredOf}

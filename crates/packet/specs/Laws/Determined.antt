@@ -5,7 +5,7 @@ use mathlib.Core.Path.{_≡_, refl, ap, sym, _∙_}
 use native.Mathlib.Omega.{arith}
 use lib.Dec.{eqb}
 use Rattle.basis.specs.Choice.{pick}
-use Rattle.basis.specs.Laws.Refusals.{apart, given-one, refused-one, determined}
+use Rattle.basis.specs.Laws.Refusals.{apart, given-one, refused-one, back-one, determined}
 use Rattle.basis.specs.Lists.{overlay}
 use Rattle.basis.specs.Refusals.{Answer, counted, written}
 use Rattle.packet.specs.Packet.{Parts}
@@ -24,7 +24,9 @@ use Rattle.packet.specs.declared.table.Row.the-variants as row
 
 -- the command of a byte, and the refusal of a number
 commandBy : ℕ → Command
-commandBy n = pick (eqb n 0x45) Erase (pick (eqb n 0x57) Write (pick (eqb n 0x56) Verify (pick (eqb n 0x50) Protect Run)))
+commandBy n =
+    pick (eqb n 0x45) Erase
+    (pick (eqb n 0x57) Write (pick (eqb n 0x56) Verify (pick (eqb n 0x50) Protect Run)))
 
 command-back : (c : Command) → commandBy (paperCommand c) ≡ c
 unfolding commandBy
@@ -34,8 +36,8 @@ command-back Verify = refl
 command-back Protect = refl
 command-back Run = refl
 
-pub command-one : (c d : Command) → paperCommand c ≡ paperCommand d → c ≡ d
-command-one c d e = sym (command-back c) ∙ ap commandBy e ∙ command-back d
+command-one : (c d : Command) → paperCommand c ≡ paperCommand d → c ≡ d
+command-one = back-one paperCommand commandBy command-back
 
 unfoldable pub refusalBy : ℕ → Refusal
 refusalBy n =
@@ -50,7 +52,7 @@ refusal-back Checksum = refl
 refusal-back Unlisted = refl
 refusal-back Shape = refl
 
-pub refusal-small : (x : Refusal) → paperRefusal x ≤ 6
+refusal-small : (x : Refusal) → paperRefusal x ≤ 6
 refusal-small Start = omega arith
 refusal-small Length = omega arith
 refusal-small Count = omega arith
@@ -59,7 +61,7 @@ refusal-small Unlisted = omega arith
 refusal-small Shape = omega arith
 
 pub refusal-one : (x y : Refusal) → paperRefusal x ≡ paperRefusal y → x ≡ y
-refusal-one x y e = sym (refusal-back x) ∙ ap refusalBy e ∙ refusal-back y
+refusal-one = back-one paperRefusal refusalBy refusal-back
 
 -- looking up
 row-one : (r s : Row.Row) → paperRow r ≡ paperRow s → r ≡ s
@@ -86,7 +88,10 @@ built-one (built.Refused x) (built.Packet m) e = absurd (apart e)
 built-one (built.Refused x) built.NoRoom e = absurd (room-apart x (sym (refused-one e)))
 built-one (built.Refused x) (built.Refused y) e = ap built.Refused (refusal-one x y (refused-one e))
 
-pub build-determined : (b : Answer (List ℕ)) (r s : Built.Built) (x y old : List ℕ) → (paperBuilt r ≡ counted b) × (x ≡ overlay (written b) old) → (paperBuilt s ≡ counted b) × (y ≡ overlay (written b) old) → (r ≡ s) × (x ≡ y)
+pub build-determined : (b : Answer (List ℕ)) (r s : Built.Built) (x y old : List ℕ)
+    → (paperBuilt r ≡ counted b) × (x ≡ overlay (written b) old)
+    → (paperBuilt s ≡ counted b) × (y ≡ overlay (written b) old)
+    → (r ≡ s) × (x ≡ y)
 build-determined b r s x y old p q = (determined paperBuilt built-one r s (p .0) (q .0), p .1 ∙ sym (q .1))
 
 -- reading
@@ -99,5 +104,6 @@ reading-one (reading.Packet p) (reading.Refused y) e = absurd (apart (sym e))
 reading-one (reading.Refused x) (reading.Packet q) e = absurd (apart e)
 reading-one (reading.Refused x) (reading.Refused y) e = ap reading.Refused (refusal-one x y (refused-one e))
 
-pub read-determined : {a : Answer Parts} (r s : Reading.Reading) → paperReading r ≡ a → paperReading s ≡ a → r ≡ s
+pub read-determined : {a : Answer Parts} (r s : Reading.Reading) → paperReading r ≡ a → paperReading s ≡ a
+    → r ≡ s
 read-determined = determined paperReading reading-one

@@ -34,9 +34,17 @@ module _ (room c a : ℕ) (d : List ℕ) where
   unfolding buildOf
   build-small h = stop _ _ _ _ (lt-ltb _ _ h)
 
-  pub build-table : packetMost ≤ room → buildOf room c a d ≡ first (table c (length d + 5) (getD d 0 0)) (given (packet c a d))
+  pub build-table : packetMost ≤ room
+      → buildOf room c a d ≡ first (table c (length d + 5) (getD d 0 0)) (given (packet c a d))
   unfolding buildOf
   build-table h = skip _ _ _ _ (le-ltb _ _ h)
+
+  -- what the table allows is built
+  pub build-packet : packetMost ≤ room
+      → listed c ≡ true
+      → inShape c (length d + 5) (getD d 0 0) ≡ true
+      → buildOf room c a d ≡ given (packet c a d)
+  build-packet h l s = build-table h ∙ table-passes c (length d + 5) (getD d 0 0) (given (packet c a d)) l s
 
 -- ---- reading
 
@@ -45,11 +53,13 @@ pub packet-data : (c a : ℕ) (d : List ℕ) → take (length d) (drop 8 (packet
 unfolding packet
 packet-data c a d = take-at (map (carriedOf c) d) _ (length d) (length-map d (carriedOf c))
 
-join : (a q₁ q₂ q₃ r₀ r₁ r₂ : ℕ) → q₁ * 256 + r₀ ≡ a → q₂ * 256 + r₁ ≡ q₁ → q₃ * 256 + r₂ ≡ q₂ → joined q₃ r₂ r₁ r₀ ≡ a
+join : (a q₁ q₂ q₃ r₀ r₁ r₂ : ℕ) → q₁ * 256 + r₀ ≡ a → q₂ * 256 + r₁ ≡ q₁ → q₃ * 256 + r₂ ≡ q₂
+    → joined q₃ r₂ r₁ r₀ ≡ a
 join a q₁ q₂ q₃ r₀ r₁ r₂ e f g = omega arith
 
 -- an address is its four bytes
-address-back : (a : ℕ) → a < 2 ^ 32 → joined (a / 16777216 % 256) (a / 65536 % 256) (a / 256 % 256) (a % 256) ≡ a
+address-back : (a : ℕ) → a < 2 ^ 32
+    → joined (a / 16777216 % 256) (a / 65536 % 256) (a / 256 % 256) (a % 256) ≡ a
 address-back a h =
     let e₁ = rw (div-div-eq-div-mul a 256 256) at (div-add-mod' (a / 256) 256) in
     let e₂ = rw (div-div-eq-div-mul a 65536 256) at (div-add-mod' (a / 65536) 256) in
@@ -69,10 +79,14 @@ packet-parts c a d h =
     λ i. record { command = c; address = e i; place = 8; size = m i }
 
 data-fits : (d : List ℕ) → 0 < length d → length d ≤ dataMost → dataCount (length d + 5) ≡ true
-data-fits d l m = both-second (leb 6 (length d + 5)) (leb (length d + 5) 255) (le-leb 6 (length d + 5) (omega arith)) ∙ le-leb (length d + 5) 255 (omega arith)
+data-fits d l m =
+    both-second (leb 6 (length d + 5)) (leb (length d + 5) 255) (le-leb 6 (length d + 5) (omega arith))
+    ∙ le-leb (length d + 5) 255 (omega arith)
 
 -- what stands in the table reads back
-pub read-packet : (c a : ℕ) (d : List ℕ) → a < 2 ^ 32 → listed c ≡ true → inShape c (length d + 5) (getD d 0 0) ≡ true → readOf (packet c a d) ≡ given (said c a d)
+pub read-packet : (c a : ℕ) (d : List ℕ) → a < 2 ^ 32 → listed c ≡ true
+    → inShape c (length d + 5) (getD d 0 0) ≡ true
+    → readOf (packet c a d) ≡ given (said c a d)
 unfolding readOf rows tabledOf packet
 read-packet c a d h l s =
     let w = packet c a d in
@@ -91,10 +105,12 @@ module _ (a : ℕ) (h : a < 2 ^ 32) where
   pub read-erase : (n : ℕ) → readOf (packet 0x45 a (n ∷ [])) ≡ given (said 0x45 a (n ∷ []))
   read-erase n = read-packet 0x45 a (n ∷ []) h refl refl
 
-  pub read-write : (d : List ℕ) → 0 < length d → length d ≤ dataMost → readOf (packet 0x57 a d) ≡ given (said 0x57 a d)
+  pub read-write : (d : List ℕ) → 0 < length d → length d ≤ dataMost
+      → readOf (packet 0x57 a d) ≡ given (said 0x57 a d)
   read-write d l m = read-packet 0x57 a d h refl (data-fits d l m)
 
-  pub read-verify : (d : List ℕ) → 0 < length d → length d ≤ dataMost → readOf (packet 0x56 a d) ≡ given (said 0x56 a d)
+  pub read-verify : (d : List ℕ) → 0 < length d → length d ≤ dataMost
+      → readOf (packet 0x56 a d) ≡ given (said 0x56 a d)
   read-verify d l m = read-packet 0x56 a d h refl (data-fits d l m)
 
   pub read-run : readOf (packet 0x52 a []) ≡ given (said 0x52 a [])

@@ -16,8 +16,8 @@ use Rattle.basis.specs.Laws.Sums.{checksum-only}
 use Rattle.basis.specs.Lists.{Bytes}
 use Rattle.basis.specs.Refusals.{given}
 use Rattle.basis.specs.Sums.{sumOf, checksumOf}
-use Rattle.packet.specs.Laws.Packet.{packet-data, build-table, read-packet, Accepted, accepted}
-use Rattle.packet.specs.Laws.Table.{table-passes, table-holds, kind-counts}
+use Rattle.packet.specs.Laws.Packet.{packet-data, build-packet, read-packet, Accepted, accepted}
+use Rattle.packet.specs.Laws.Table.{table-holds, kind-counts}
 use Rattle.packet.specs.Laws.Turn.{restored-turned, turned-restored, undone}
 use Rattle.packet.specs.Packet.{addressBytes, carriedOf, plain, summed, packet, buildOf, count, command, kind, joined, address, Parts, parts, said, plainData, readOf, packetMost}
 use Rattle.packet.specs.Table.{inShape}
@@ -39,7 +39,8 @@ carried-plain c b h = go (eqb c 0x56)
     go false = refl
 
 -- what the builder accepts, the reader reads back to the same command, address and data
-pub read-built : (room c a : ℕ) (d s : List ℕ) → Bytes d → a < 2 ^ 32 → buildOf room c a d ≡ given s → (readOf s ≡ given (said c a d)) × (plainData (said c a d) s ≡ d)
+pub read-built : (room c a : ℕ) (d s : List ℕ) → Bytes d → a < 2 ^ 32 → buildOf room c a d ≡ given s
+    → (readOf s ≡ given (said c a d)) × (plainData (said c a d) s ≡ d)
 unfolding buildOf
 read-built room c a d s b h e =
     let p = passed 20 (ltb room packetMost) _ _ e in
@@ -48,7 +49,8 @@ read-built room c a d s b h e =
     rw (← q) (read-packet c a d h (t .0) (t .1), rw packet-data (undone (plain c) (carriedOf c) (plain-carried c) d b))
 
 -- four bytes joined are those bytes again
-bytes-back : (a b c d : ℕ) → a < 256 → b < 256 → c < 256 → d < 256 → addressBytes (joined a b c d) ≡ a ∷ b ∷ c ∷ d ∷ []
+bytes-back : (a b c d : ℕ) → a < 256 → b < 256 → c < 256 → d < 256
+    → addressBytes (joined a b c d) ≡ a ∷ b ∷ c ∷ d ∷ []
 bytes-back a b c d ha hb hc hd =
     let x = joined a b c d in
     let e₁ : x / 16777216 % 256 ≡ a = omega arith in
@@ -58,7 +60,9 @@ bytes-back a b c d ha hb hc hd =
     λ i. e₁ i ∷ e₂ i ∷ e₃ i ∷ e₄ i ∷ []
 
 -- the eight bytes before the data
-eight : (s : List ℕ) → 8 ≤ length s → s ≡ getD s 0 0 ∷ getD s 1 0 ∷ count s ∷ command s ∷ getD s 4 0 ∷ getD s 5 0 ∷ getD s 6 0 ∷ getD s 7 0 ∷ drop 8 s
+eight : (s : List ℕ) → 8 ≤ length s
+    → s
+    ≡ getD s 0 0 ∷ getD s 1 0 ∷ count s ∷ command s ∷ getD s 4 0 ∷ getD s 5 0 ∷ getD s 6 0 ∷ getD s 7 0 ∷ drop 8 s
 eight [] h = absurd (omega arith)
 eight (a ∷ []) h = absurd (omega arith)
 eight (a ∷ b ∷ []) h = absurd (omega arith)
@@ -81,7 +85,9 @@ module _ (s : List ℕ) (p : Parts) (b : Bytes s) (r : Accepted s p) where
 
   body-plain : map (carriedOf (command s)) (plainData (parts s) s) ≡ body
   unfolding body
-  body-plain = undone (carriedOf (command s)) (plain (command s)) (carried-plain (command s)) body (bytes-take (count s - 5) (drop 8 s) (bytes-drop 8 s b))
+  body-plain =
+      undone (carriedOf (command s)) (plain (command s)) (carried-plain (command s)) body
+      (bytes-take (count s - 5) (drop 8 s) (bytes-drop 8 s b))
 
   data-length : length (plainData (parts s) s) + 5 ≡ count s
   unfolding body
@@ -118,9 +124,11 @@ module _ (s : List ℕ) (p : Parts) (b : Bytes s) (r : Accepted s p) where
 
   last-checksum : last ≡ checksumOf middle
   unfolding last
-  last-checksum = checksum-only middle last (bytes-drop 8 s b (count s - 5)) (sym (ap (λ (l : List ℕ). sumOf (drop 2 l)) in-order) ∙ r .zero)
+  last-checksum =
+      checksum-only middle last (bytes-drop 8 s b (count s - 5))
+      (sym (ap (λ (l : List ℕ). sumOf (drop 2 l)) in-order) ∙ r .zero)
 
-  pub whole : packet (command s) (address s) (plainData (parts s) s) ≡ s
+  whole : packet (command s) (address s) (plainData (parts s) s) ≡ s
   unfolding packet
   whole =
       ap (λ (l : List ℕ). 0x07 ∷ 0x0E ∷ l ++ (checksumOf l ∷ [])) middle-summed
@@ -133,7 +141,8 @@ one-plain c n [] ec en = rw (ec, en)
 one-plain c n (x ∷ l) ec en = rw (ec, en)
 
 -- what the reader accepts is, byte for byte, what the builder writes for what it names
-pub built-read : (room : ℕ) (s : List ℕ) (p : Parts) → Bytes s → packetMost ≤ room → readOf s ≡ given p → buildOf room (p .command) (p .address) (plainData p s) ≡ given s
+pub built-read : (room : ℕ) (s : List ℕ) (p : Parts) → Bytes s → packetMost ≤ room → readOf s ≡ given p
+    → buildOf room (p .command) (p .address) (plainData p s) ≡ given s
 built-read room s p b h e =
     let r = accepted s p e in
     let c = command s in
@@ -142,6 +151,4 @@ built-read room s p b h e =
     rw (data-length s p b r)
     (kind-counts c (count s) (kind s) (getD d 0 0) (λ ec en. sym (getD-drop 8 s 0 0) ∙ one-plain c (count s) (drop 8 s) ec en) (r .shape)) in
     rw (← r .says)
-    (build-table room c (address s) d h
-    ∙ table-passes c (length d + 5) (getD d 0 0) (given (packet c (address s) d)) (r .command-listed) t
-    ∙ ap given (whole s p b r))
+    (build-packet room c (address s) d h (r .command-listed) t ∙ ap given (whole s p b r))

@@ -17,7 +17,8 @@ module _ {A : Type 0} (c n t : ℕ) where
   table-passes r l s = skip _ _ _ _ (ap not l) ∙ skip _ _ _ _ (ap not s) ∙ done r
 
   -- what passes it stands there
-  pub table-holds : {x : A} (r : Answer A) → first (table c n t) r ≡ given x → (listed c ≡ true) × (inShape c n t ≡ true) × (r ≡ given x)
+  pub table-holds : {x : A} (r : Answer A) → first (table c n t) r ≡ given x
+      → (listed c ≡ true) × (inShape c n t ≡ true) × (r ≡ given x)
   table-holds r e =
       let p = passed 5 (not (listed c)) _ r e in
       let q = passed 6 (not (inShape c n t)) _ r (p .1) in
@@ -32,7 +33,8 @@ shape-short c n t =
     many : dataCount n ≡ true → n ≤ 255
     many e = leb-true n 255 (both-true (leb 6 n) (leb n 255) e .1)
 
-    row : (k : ℕ) {a b : Bool} → (a ≡ true → n ≤ 255) → (b ≡ true → n ≤ 255) → pick (eqb c k) a b ≡ true → n ≤ 255
+    row : (k : ℕ) {a b : Bool} → (a ≡ true → n ≤ 255) → (b ≡ true → n ≤ 255) → pick (eqb c k) a b ≡ true
+        → n ≤ 255
     row k {a} {b} f g = go (eqb c k)
       where
         go : (x : Bool) → pick x a b ≡ true → n ≤ 255

@@ -1,6 +1,6 @@
 -- Laws of the map.
 use Prim.Native.Nat.{ℕ, zero, suc, _+_, _*_, _/_, _%_, _^_, _<_, _≤_}
-use mathlib.Core.Path.{_≡_, refl, sym, _∙_}
+use mathlib.Core.Path.{_≡_, refl, ap, sym, _∙_}
 use mathlib.Core.List.{List}
 use mathlib.Core.Bool.{Bool, true, false}
 use native.Mathlib.Nat.{zero-div}
@@ -8,14 +8,18 @@ use native.Mathlib.Decide.{ℕ-discrete}
 use native.Mathlib.Omega.{arith}
 use lib.ListN.{length, set, getD, replicate, length-set, List·getD-eq-default}
 use lib.Seq.{getD-set-same, getD-set-other, ext-getD}
-use lib.Bits.{bitOr, or-shr, or-mod, or-lt}
-use lib.Dec.{T, eqb, ltb, eqb→eq}
-use borrow.Author.Tests.{eq-eqb, ne-eqb, ltb-true}
+use lib.Bits.{bitOr, or-lt}
+use lib.Pow.{pow-lt}
+use lib.Dec.{eqb, eqb→eq}
+use borrow.Author.Tests.{eq-eqb, ne-eqb}
 use Rattle.basis.specs.Choice.{pick, either}
 use Rattle.basis.specs.Lists.{Bytes}
+use Rattle.basis.specs.Laws.Bits.{bit-or}
+use Rattle.basis.specs.Laws.Choice.{either-second}
 use Rattle.basis.specs.Laws.Computed.{allBelow, one-of, agree}
+use Rattle.basis.specs.Laws.Lists.{zero-at}
 use Rattle.basis.specs.Bits.{bit}
-use Rattle.runs.specs.Map.{named, nameOf}
+use Rattle.runs.specs.Map.{named, nameOf, nameAllOf}
 
 pub name-length : (m : List ℕ) (a : ℕ) → length (nameOf m a) ≡ length m
 unfolding nameOf
@@ -28,18 +32,16 @@ one-bit i j hi hj =
     (one-of (λ (j : ℕ). eqb (2 ^ i / 2 ^ j % 2) (pick (eqb j i) 1 0)) 8
     (one-of (λ (i : ℕ). allBelow (λ (j : ℕ). eqb (2 ^ i / 2 ^ j % 2) (pick (eqb j i) 1 0)) 8) 8 tt i hi) j hj)
 
--- the OR of two bits
-or-bit : (u : ℕ) (t : Bool) → u < 2 → eqb (bitOr u (pick t 1 0)) 1 ≡ either t (eqb u 1)
-or-bit zero true h = refl
-or-bit zero false h = refl
-or-bit (suc zero) true h = refl
-or-bit (suc zero) false h = refl
-or-bit (suc (suc u)) t h = absurd (omega arith)
-
-or-at : (x i j : ℕ) → i < 8 → j < 8 → bit (bitOr x (2 ^ i)) j ≡ either (eqb j i) (bit x j)
+-- a bit of an OR with a single bit
+or-at : (x i j : ℕ) → i < 8 → j < 8 → bit (bitOr x (2 ^ i)) j ≡ either (bit x j) (eqb j i)
 or-at x i j hi hj =
-    rw (or-shr x (2 ^ i) j, or-mod (x / 2 ^ j) (2 ^ i / 2 ^ j) 1, one-bit i j hi hj)
-    (or-bit (x / 2 ^ j % 2) (eqb j i) (omega arith))
+    bit-or x (2 ^ i) j
+    ∙ ap (λ (u : ℕ). either (bit x j) (eqb u 1)) (one-bit i j hi hj)
+    ∙ ap (either (bit x j)) (one (eqb j i))
+  where
+    one : (t : Bool) → eqb (pick t 1 0) 1 ≡ t
+    one true = refl
+    one false = refl
 
 -- in one byte two addresses are equal where their bits are
 same-place : (a b : ℕ) → b / 8 ≡ a / 8 → eqb (b % 8) (a % 8) ≡ eqb b a
@@ -49,28 +51,29 @@ same-place a b e = go (ℕ-discrete b a)
     go (yes q) = eq-eqb (b % 8) (a % 8) (omega arith) ∙ sym (eq-eqb b a q)
     go (no n) = ne-eqb (b % 8) (a % 8) (λ r. n (omega arith)) ∙ sym (ne-eqb b a n)
 
+either-no : (t : Bool) → either t false ≡ t
+either-no true = refl
+either-no false = refl
+
 -- exactly that address more is named
-pub name-named : (m : List ℕ) (a b : ℕ) → a < 8 * length m → named (nameOf m a) b ≡ either (eqb b a) (named m b)
+name-named : (m : List ℕ) (a b : ℕ) → a < 8 * length m → named (nameOf m a) b ≡ either (named m b) (eqb b a)
 unfolding named nameOf
 name-named m a b h = go (ℕ-discrete (b / 8) (a / 8))
   where
-    go : Dec (b / 8 ≡ a / 8) → bit (getD (set m (a / 8) (bitOr (getD m (a / 8) 0) (2 ^ (a % 8)))) (b / 8) 0) (b % 8) ≡ either (eqb b a) (bit (getD m (b / 8) 0) (b % 8))
+    go : Dec (b / 8 ≡ a / 8)
+        → bit (getD (set m (a / 8) (bitOr (getD m (a / 8) 0) (2 ^ (a % 8)))) (b / 8) 0) (b % 8)
+        ≡ either (bit (getD m (b / 8) 0) (b % 8)) (eqb b a)
     go (yes e) =
         rw (e, getD-set-same m (a / 8) (bitOr (getD m (a / 8) 0) (2 ^ (a % 8))) 0 (omega arith), or-at (getD m (a / 8) 0) (a % 8) (b % 8) (omega arith) (omega arith), same-place a b e)
-    go (no ne) = rw (getD-set-other m (a / 8) (b / 8) (bitOr (getD m (a / 8) 0) (2 ^ (a % 8))) 0 ne, ne-eqb b a (λ q. ne (rw q)))
+    go (no ne) =
+        rw (getD-set-other m (a / 8) (b / 8) (bitOr (getD m (a / 8) 0) (2 ^ (a % 8))) 0 ne, ne-eqb b a (λ q. ne (rw q)))
+        (sym (either-no (bit (getD m (b / 8) 0) (b % 8))))
 
 pub name-same : (m : List ℕ) (a : ℕ) → a < 8 * length m → named (nameOf m a) a ≡ true
-name-same m a h = name-named m a a h ∙ rw (eq-eqb a a refl)
+name-same m a h = name-named m a a h ∙ either-second (named m a) (eqb a a) (eq-eqb a a refl)
 
 pub name-other : (m : List ℕ) (a b : ℕ) → a < 8 * length m → (b ≡ a → ⊥) → named (nameOf m a) b ≡ named m b
-name-other m a b h n = name-named m a b h ∙ rw (ne-eqb b a n)
-
-power-below : (k : ℕ) → k < 8 → 2 ^ k < 256
-power-below k h = ltb-true _ _ (T-true (ltb (2 ^ k) 256) (one-of (λ (k : ℕ). ltb (2 ^ k) 256) 8 tt k h))
-  where
-    T-true : (t : Bool) → T t → t ≡ true
-    T-true true x = refl
-    T-true false x = absurd x
+name-other m a b h n = name-named m a b h ∙ ap (either (named m b)) (ne-eqb b a n) ∙ either-no (named m b)
 
 -- bytes stay bytes
 pub name-bytes : (m : List ℕ) (a : ℕ) → a < 8 * length m → Bytes m → Bytes (nameOf m a)
@@ -80,7 +83,7 @@ name-bytes m a l h k = go (ℕ-discrete k (a / 8))
     go : Dec (k ≡ a / 8) → getD (set m (a / 8) (bitOr (getD m (a / 8) 0) (2 ^ (a % 8)))) k 0 < 256
     go (yes e) =
         rw (e, getD-set-same m (a / 8) (bitOr (getD m (a / 8) 0) (2 ^ (a % 8))) 0 (omega arith))
-        (or-lt 8 (getD m (a / 8) 0) (2 ^ (a % 8)) (h (a / 8)) (power-below (a % 8) (omega arith)))
+        (or-lt 8 (getD m (a / 8) 0) (2 ^ (a % 8)) (h (a / 8)) (pow-lt {j = 8} (omega arith)))
     go (no n) = rw (getD-set-other m (a / 8) k (bitOr (getD m (a / 8) 0) (2 ^ (a % 8))) 0 n) (h k)
 
 -- no address past the map's end is named
@@ -94,11 +97,6 @@ named-past m a h =
 pub named-none : (n a : ℕ) → named (replicate n 0) a ≡ false
 unfolding named
 named-none n a = simp (zero-at n (a / 8), zero-div)
-  where
-    zero-at : (n i : ℕ) → _≡_ {A = ℕ} (getD (replicate n 0) i 0) 0
-    zero-at zero i = refl
-    zero-at (suc n) zero = refl
-    zero-at (suc n) (suc i) = zero-at n i
 
 -- the number that the lowest k bits make
 value : (ℕ → Bool) → ℕ → ℕ
@@ -115,7 +113,9 @@ unfolding value
 byte-value b h = agree (λ (b : ℕ). value (bit b) 8) (λ (b : ℕ). b) 256 tt b h
 
 -- a map is known by what it names
-pub named-only : (m n : List ℕ) → length m ≡ length n → Bytes m → Bytes n → ((a : ℕ) → named m a ≡ named n a) → m ≡ n
+pub named-only : (m n : List ℕ) → length m ≡ length n → Bytes m → Bytes n
+    → ((a : ℕ) → named m a ≡ named n a)
+    → m ≡ n
 unfolding named
 named-only m n e hm hn h =
     ext-getD 0 m n e (λ i l. sym (byte-value (getD m i 0) (hm i)) ∙ value-same _ _ 8 (same i) ∙ byte-value (getD n i 0) (hn i))
@@ -125,3 +125,48 @@ named-only m n e hm hn h =
         let p : (8 * i + j) / 8 ≡ i = omega arith in
         let q : (8 * i + j) % 8 ≡ j = omega arith in
         rw (p, q) at (h (8 * i + j))
+
+-- ---- a row of places named
+
+pub name-all-length : (m : List ℕ) (a n : ℕ) → length (nameAllOf m a n) ≡ length m
+unfolding nameAllOf
+name-all-length m a zero = refl
+name-all-length m a (suc n) = name-all-length (nameOf m a) (a + 1) n ∙ name-length m a
+
+pub name-all-bytes : (m : List ℕ) (a n : ℕ) → a + n ≤ 8 * length m → Bytes m → Bytes (nameAllOf m a n)
+unfolding nameAllOf
+name-all-bytes m a zero l h = h
+name-all-bytes m a (suc n) l h =
+    name-all-bytes (nameOf m a) (a + 1) n (omega (arith, name-length m a)) (name-bytes m a (omega arith) h)
+
+pub name-all-below : (m : List ℕ) (a n j : ℕ) → a + n ≤ 8 * length m → j < a
+    → named (nameAllOf m a n) j ≡ named m j
+unfolding nameAllOf
+name-all-below m a zero j l h = refl
+name-all-below m a (suc n) j l h =
+    name-all-below (nameOf m a) (a + 1) n j (omega (arith, name-length m a)) (omega arith)
+    ∙ name-other m a j (omega arith) (λ e. omega arith)
+
+pub name-all-above : (m : List ℕ) (a n j : ℕ) → a + n ≤ 8 * length m → a + n ≤ j
+    → named (nameAllOf m a n) j ≡ named m j
+unfolding nameAllOf
+name-all-above m a zero j l h = refl
+name-all-above m a (suc n) j l h =
+    name-all-above (nameOf m a) (a + 1) n j (omega (arith, name-length m a)) (omega arith)
+    ∙ name-other m a j (omega arith) (λ e. omega arith)
+
+pub name-all-in : (m : List ℕ) (a n j : ℕ) → a + n ≤ 8 * length m → a ≤ j → j < a + n
+    → named (nameAllOf m a n) j ≡ true
+unfolding nameAllOf
+name-all-in m a zero j l h k = absurd (omega arith)
+name-all-in m a (suc n) j l h k =
+    go (ℕ-discrete j a) (name-all-in (nameOf m a) (a + 1) n j (omega (arith, name-length m a)))
+  where
+    go : Dec (j ≡ a) → (a + 1 ≤ j → j < a + 1 + n → named (nameAllOf (nameOf m a) (a + 1) n) j ≡ true)
+        → named (nameAllOf (nameOf m a) (a + 1) n) j ≡ true
+    go (yes e) f =
+        name-all-below (nameOf m a) (a + 1) n j (omega (arith, name-length m a)) (omega arith) ∙ rw e (name-same m a (omega arith))
+    go (no e) f = f (above e) (omega arith)
+      where
+        above : (j ≡ a → ⊥) → a + 1 ≤ j
+        above e = omega arith

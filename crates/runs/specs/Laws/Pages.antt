@@ -1,7 +1,7 @@
 -- Laws of touched pages.
 use Prim.Native.Nat.{ℕ, _+_, _*_, _≤_, _<_}
 use native.Mathlib.Omega.{arith}
-use mathlib.Core.Path.{_≡_, sym, _∙_}
+use mathlib.Core.Path.{_≡_, ap, sym, _∙_}
 use mathlib.Core.Bool.{true, false}
 use mathlib.Core.List.{List}
 use lib.Dec.{ltb}
@@ -13,23 +13,29 @@ use Rattle.runs.specs.Map.{named}
 use Rattle.runs.specs.Pages.{touched}
 use Rattle.runs.specs.Runs.{count, len, next}
 use Rattle.runs.specs.Laws.Map.{named-past}
-use Rattle.runs.specs.Laws.Runs.{count-skip, count-mono, rank-below, next-ge, next-pass, next-skip}
+use Rattle.runs.specs.Laws.Runs.{count-skip, count-mono, rank-below, any-next, next-ge, next-pass, next-skip}
 use Rattle.runs.specs.Laws.Pieces.{piece-passes}
 use Rattle.basis.specs.Board.{pageSize}
 
 module _ (m : List ℕ) where
-  -- a touched page holds a named byte
-  pub touched-some : (q : ℕ) → touched m q ≡ true → (a : ℕ) × (named m a ≡ true) × (startOf q ≤ a) × (a < startOf (q + 1))
+  -- a page is touched where the lowest named address from its start on lies in it
+  touched-next : (q : ℕ) → touched m q ≡ ltb (next (named m) (startOf q) pageSize) (startOf (q + 1))
   unfolding touched
+  touched-next q =
+      any-next (named m) pageSize (startOf q) ∙ ap (ltb (next (named m) (startOf q) pageSize)) (omega arith)
+
+  -- a touched page holds a named byte
+  pub touched-some : (q : ℕ) → touched m q ≡ true
+      → (a : ℕ) × (named m a ≡ true) × (startOf q ≤ a) × (a < startOf (q + 1))
   touched-some q h =
-      let l = ltb-true (next (named m) (startOf q) pageSize) (startOf (q + 1)) h in
+      let l = ltb-true (next (named m) (startOf q) pageSize) (startOf (q + 1)) (sym (touched-next q) ∙ h) in
       (next (named m) (startOf q) pageSize, next-pass (named m) pageSize (startOf q) (omega arith), next-ge (named m) pageSize (startOf q), l)
 
   -- and a page that holds one is touched
-  some-touched : (q a : ℕ) → named m a ≡ true → startOf q ≤ a → a < startOf (q + 1) → touched m q ≡ true
-  unfolding touched
+  pub some-touched : (q a : ℕ) → named m a ≡ true → startOf q ≤ a → a < startOf (q + 1) → touched m q ≡ true
   some-touched q a t g l =
-      decide (ltb (next (named m) (startOf q) pageSize) (startOf (q + 1)))
+      touched-next q
+      ∙ decide (ltb (next (named m) (startOf q) pageSize) (startOf (q + 1)))
       (λ d. d)
       (λ d. absurd (true-false (sym t ∙ next-skip (named m) pageSize (startOf q) a g (omega (arith, ltb-false (next (named m) (startOf q) pageSize) (startOf (q + 1)) d)))))
 
@@ -48,15 +54,18 @@ module _ (m : List ℕ) where
       (λ t. t)
 
   -- a page is touched where more bytes are named below its end than below its start
-  pub touched-counts : (q : ℕ) → touched m q ≡ ltb (count (named m) (startOf q)) (count (named m) (startOf (q + 1)))
+  pub touched-counts : (q : ℕ)
+      → touched m q ≡ ltb (count (named m) (startOf q)) (count (named m) (startOf (q + 1)))
   touched-counts q = decide (touched m q) more none
     where
-      more : touched m q ≡ true → touched m q ≡ ltb (count (named m) (startOf q)) (count (named m) (startOf (q + 1)))
+      more : touched m q ≡ true
+          → touched m q ≡ ltb (count (named m) (startOf q)) (count (named m) (startOf (q + 1)))
       more t =
           let s = touched-some q t in
           t ∙ sym (lt-ltb (count (named m) (startOf q)) (count (named m) (startOf (q + 1))) (omega (arith, rank-below (named m) (startOf (q + 1)) (s .0) (s .3) (s .1), count-mono (named m) (s .0) (startOf q) (s .2))))
 
-      none : touched m q ≡ false → touched m q ≡ ltb (count (named m) (startOf q)) (count (named m) (startOf (q + 1)))
+      none : touched m q ≡ false
+          → touched m q ≡ ltb (count (named m) (startOf q)) (count (named m) (startOf (q + 1)))
       none t =
           let e : startOf (q + 1) ≡ startOf q + pageSize = omega arith in
           let k = count-skip (named m) (startOf q) pageSize (λ i g l. decide (named m i) (λ n. absurd (true-false (sym (some-touched q i n g (omega arith)) ∙ t))) (λ n. n)) in

@@ -15,15 +15,15 @@ use Rattle.runs.specs.Laws.Runs.{count-zero, count-yes, count-skip, rank
 module _ (p : ℕ → Bool) (cap : ℕ) where
   -- ---- the place in the piece
 
-  pub off-zero : off p cap 0 ≡ 0
+  off-zero : off p cap 0 ≡ 0
   unfolding off
   off-zero = refl
 
-  pub off-false : (a : ℕ) → p a ≡ false → off p cap (suc a) ≡ 0
+  off-false : (a : ℕ) → p a ≡ false → off p cap (suc a) ≡ 0
   unfolding off
   off-false a h = rw h
 
-  pub off-wrap : (a : ℕ) → p a ≡ true → suc (off p cap a) ≡ cap → off p cap (suc a) ≡ 0
+  off-wrap : (a : ℕ) → p a ≡ true → suc (off p cap a) ≡ cap → off p cap (suc a) ≡ 0
   unfolding off
   off-wrap a h e = rw (h, eq-eqb _ _ e)
 
@@ -42,17 +42,18 @@ module _ (p : ℕ → Bool) (cap : ℕ) where
       (λ d. h t (eqb-false _ _ d) (off-more a t (eqb-false _ _ d))))
       (λ t. f t (off-false a t))
 
-  pub off-le : (a : ℕ) → off p cap a ≤ a
+  off-le : (a : ℕ) → off p cap a ≤ a
   off-le zero = omega (arith, off-zero)
   off-le (suc a) = off-next a (λ t e. omega arith) (λ t w e. omega arith) (λ t n e. omega (arith, off-le a))
 
   pub off-below : 0 < cap → (a : ℕ) → off p cap a < cap
   off-below z zero = omega (arith, off-zero)
-  off-below z (suc a) = off-next a (λ t e. omega arith) (λ t w e. omega arith) (λ t n e. omega (arith, off-below z a))
+  off-below z (suc a) =
+      off-next a (λ t e. omega arith) (λ t w e. omega arith) (λ t n e. omega (arith, off-below z a))
 
   -- ---- starts
 
-  pub starts-at : (a : ℕ) → p a ≡ true → off p cap a ≡ 0 → starts p cap a ≡ true
+  starts-at : (a : ℕ) → p a ≡ true → off p cap a ≡ 0 → starts p cap a ≡ true
   unfolding starts
   starts-at a h e = rw (h, eq-eqb _ _ e)
 
@@ -82,7 +83,7 @@ module _ (p : ℕ → Bool) (cap : ℕ) where
       (λ q. subst (λ (k : ℕ). p k ≡ true) (omega (arith, off-le a)) (home-run a i q))
       (eq-or-lt-of-le (le-of-suc-le-suc (rw e at l))))
 
-  pub home-starts : (a : ℕ) → p a ≡ true → starts p cap (home p cap a) ≡ true
+  home-starts : (a : ℕ) → p a ≡ true → starts p cap (home p cap a) ≡ true
   home-starts zero t = subst (λ (k : ℕ). starts p cap k ≡ true) (omega arith) (starts-at 0 t off-zero)
   home-starts (suc a) t =
       off-next a
@@ -103,7 +104,9 @@ module _ (p : ℕ → Bool) (cap : ℕ) where
       (eq-or-lt-of-le (le-of-suc-le-suc l)))
 
   -- every number that passes lies in a piece
-  pub in-piece : 0 < cap → (a : ℕ) → p a ≡ true → (starts p cap (home p cap a) ≡ true) × (home p cap a ≤ a) × (a < home p cap a + len p (home p cap a) cap)
+  pub in-piece : 0 < cap → (a : ℕ) → p a ≡ true
+      → (starts p cap (home p cap a) ≡ true) × (home p cap a ≤ a) × (a < home p cap a + len p
+      (home p cap a) cap)
   in-piece z a t = (home-starts a t, omega arith, omega (arith, home-in z a t, off-le a))
 
   -- ---- what a piece holds
@@ -115,7 +118,7 @@ module _ (p : ℕ → Bool) (cap : ℕ) where
       let t : p (s + j) ≡ true = len-in p cap s j (omega arith) in
       rw add-suc (off-more (s + j) t (λ e. omega (arith, len-le p s cap)) ∙ ap suc o)
 
-  pub piece-place : (s a : ℕ) → starts p cap s ≡ true → s ≤ a → a < s + len p s cap → off p cap a ≡ a - s
+  piece-place : (s a : ℕ) → starts p cap s ≡ true → s ≤ a → a < s + len p s cap → off p cap a ≡ a - s
   piece-place s a h g l =
       let k : s + (a - s) ≡ a = omega arith in
       sym (ap (off p cap) k) ∙ piece-off s h (a - s) (omega arith)
@@ -128,12 +131,10 @@ module _ (p : ℕ → Bool) (cap : ℕ) where
   pub piece-passes : (s a : ℕ) → s ≤ a → a < s + len p s cap → p a ≡ true
   piece-passes s a g l = subst (λ (k : ℕ). p k ≡ true) (omega arith) (len-in p cap s (a - s) (omega arith))
 
-  -- it holds one at least, and cap at most
+  -- it holds one at least
   pub piece-some : 0 < cap → (s : ℕ) → starts p cap s ≡ true → 0 < len p s cap
-  piece-some z s h = len-ge p cap s 1 z (λ i l. subst (λ (k : ℕ). p k ≡ true) (omega arith) (starts-off s h .0))
-
-  pub piece-most : (s : ℕ) → len p s cap ≤ cap
-  piece-most s = len-le p s cap
+  piece-some z s h =
+      len-ge p cap s 1 z (λ i l. subst (λ (k : ℕ). p k ≡ true) (omega arith) (starts-off s h .0))
 
   -- pieces are disjoint, and stand in the order of their starts
   pub pieces-apart : (s u : ℕ) → starts p cap s ≡ true → starts p cap u ≡ true → s < u → s + len p s cap ≤ u
@@ -143,7 +144,8 @@ module _ (p : ℕ → Bool) (cap : ℕ) where
       (λ d. ltb-false _ _ d)
 
   -- up to a number in the piece at s, as many pieces start as up to s
-  pub rank-in : (s a : ℕ) → starts p cap s ≡ true → s ≤ a → a < s + len p s cap → count (starts p cap) (a + 1) ≡ suc (count (starts p cap) s)
+  pub rank-in : (s a : ℕ) → starts p cap s ≡ true → s ≤ a → a < s + len p s cap
+      → count (starts p cap) (a + 1) ≡ suc (count (starts p cap) s)
   rank-in s a h g l =
       let k : suc s + (a - s) ≡ a + 1 = omega arith in
       sym (ap (count (starts p cap)) k)
@@ -154,7 +156,9 @@ module _ (p : ℕ → Bool) (cap : ℕ) where
   pub rank-some : 0 < cap → (a : ℕ) → p a ≡ true → 0 < count (starts p cap) (a + 1)
   rank-some z a t = let i = in-piece z a t in omega (arith, rank-in (home p cap a) a (i .0) (i .1) (i .2))
 
-  pub rank-home : 0 < cap → (s a : ℕ) → starts p cap s ≡ true → p a ≡ true → count (starts p cap) (a + 1) ≡ suc (count (starts p cap) s) → (s ≤ a) × (a < s + len p s cap)
+  pub rank-home : 0 < cap → (s a : ℕ) → starts p cap s ≡ true → p a ≡ true
+      → count (starts p cap) (a + 1) ≡ suc (count (starts p cap) s)
+      → (s ≤ a) × (a < s + len p s cap)
   rank-home z s a h t e =
       let i = in-piece z a t in
       let q : home p cap a ≡ s = rank-only (starts p cap) (home p cap a) s (i .0) h (omega (arith, rank-in (home p cap a) a (i .0) (i .1) (i .2))) in
@@ -173,7 +177,8 @@ module _ (p : ℕ → Bool) (cap : ℕ) where
       (home-starts b t, omega (arith, home-in z b t, len-le p (home p cap b) cap), omega (arith, off-le b))
 
   -- the number after a piece starts the next one, if it passes
-  piece-end : 0 < cap → (s : ℕ) → starts p cap s ≡ true → p (s + len p s cap) ≡ true → starts p cap (s + len p s cap) ≡ true
+  piece-end : 0 < cap → (s : ℕ) → starts p cap s ≡ true → p (s + len p s cap) ≡ true
+      → starts p cap (s + len p s cap) ≡ true
   piece-end z s h t = ⊎-elim full short (eq-or-lt-of-le (len-le p s cap))
     where
       short : len p s cap < cap → starts p cap (s + len p s cap) ≡ true
@@ -192,7 +197,8 @@ module _ (p : ℕ → Bool) (cap : ℕ) where
 
 module _ (p : ℕ → Bool) (cap n : ℕ) (z : 0 < cap) (past : (a : ℕ) → n ≤ a → p a ≡ false) where
   pub passes-below : (a : ℕ) → p a ≡ true → a < n
-  passes-below a t = decide (ltb a n) (λ d. ltb-true a n d) (λ d. absurd (true-false (sym t ∙ past a (ltb-false a n d))))
+  passes-below a t =
+      decide (ltb a n) (λ d. ltb-true a n d) (λ d. absurd (true-false (sym t ∙ past a (ltb-false a n d))))
 
   pub starts-below : (s : ℕ) → starts p cap s ≡ true → s < n
   starts-below s h = passes-below s (starts-off p cap s h .0)
@@ -204,7 +210,8 @@ module _ (p : ℕ → Bool) (cap n : ℕ) (z : 0 < cap) (past : (a : ℕ) → n 
       omega (arith, passes-below (s + (len p s cap - 1)) (len-in p cap s (len p s cap - 1) (omega arith)))
 
   -- what is found from e on starts a piece, if e does where it passes
-  next-starts : (e : ℕ) → e ≤ n → (p e ≡ true → starts p cap e ≡ true) → next p e (n - e) < n → starts p cap (next p e (n - e)) ≡ true
+  next-starts : (e : ℕ) → e ≤ n → (p e ≡ true → starts p cap e ≡ true) → next p e (n - e) < n
+      → starts p cap (next p e (n - e)) ≡ true
   next-starts e g h l =
       let t : p (next p e (n - e)) ≡ true = next-pass p (n - e) e (omega arith) in
       ⊎-elim
@@ -214,7 +221,8 @@ module _ (p : ℕ → Bool) (cap n : ℕ) (z : 0 < cap) (past : (a : ℕ) → n 
     where
       go : (b : ℕ) → next p e (n - e) ≡ b → e < b → p b ≡ true → starts p cap b ≡ true
       go zero d q t = absurd (omega arith)
-      go (suc b) d q t = starts-at p cap (suc b) t (off-false p cap b (next-skip p (n - e) e b (omega arith) (omega arith)))
+      go (suc b) d q t =
+          starts-at p cap (suc b) t (off-false p cap b (next-skip p (n - e) e b (omega arith) (omega arith)))
 
   next-counts : (e : ℕ) → count (starts p cap) (next p e (n - e)) ≡ count (starts p cap) e
   next-counts e =
@@ -231,16 +239,18 @@ module _ (p : ℕ → Bool) (cap n : ℕ) (z : 0 < cap) (past : (a : ℕ) → n 
   first-rank = next-counts 0 ∙ count-zero (starts p cap)
 
   -- the piece after the one at s has the next rank
-  pub follow-starts : (s : ℕ) → starts p cap s ≡ true → follow p cap n s < n → starts p cap (follow p cap n s) ≡ true
+  pub follow-starts : (s : ℕ) → starts p cap s ≡ true → follow p cap n s < n
+      → starts p cap (follow p cap n s) ≡ true
   follow-starts s h l = next-starts (s + len p s cap) (piece-fits s h) (piece-end p cap z s h) l
 
-  pub follow-rank : (s : ℕ) → starts p cap s ≡ true → count (starts p cap) (follow p cap n s) ≡ suc (count (starts p cap) s)
+  pub follow-rank : (s : ℕ) → starts p cap s ≡ true
+      → count (starts p cap) (follow p cap n s) ≡ suc (count (starts p cap) s)
   follow-rank s h =
       let l = piece-some p cap z s h in
-      let k : suc s + (len p s cap - 1) ≡ s + len p s cap = omega arith in
-      next-counts (s + len p s cap) ∙ sym (ap (count (starts p cap)) k)
-      ∙ count-skip (starts p cap) (suc s) (len p s cap - 1) (λ i u v. starts-inside p cap i (λ e. omega (arith, piece-place p cap s i h (omega arith) (omega arith))))
-      ∙ count-yes (starts p cap) s h
+      let k : s + len p s cap - 1 + 1 ≡ s + len p s cap = omega arith in
+      next-counts (s + len p s cap)
+      ∙ sym (ap (count (starts p cap)) k)
+      ∙ rank-in p cap s (s + len p s cap - 1) h (omega arith) (omega arith)
 
 -- ---- with no cap reached the pieces are the maximal runs: what stands before and after fails
 

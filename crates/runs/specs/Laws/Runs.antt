@@ -8,7 +8,7 @@ use mathlib.Core.Logic.{⊎-elim}
 use mathlib.Core.Bool.{Bool, true, false}
 use lib.Dec.{eqb, ltb}
 use borrow.Author.Tests.{eq-eqb, ne-eqb, eqb-true, eqb-false, lt-ltb, le-ltb, ltb-true, ltb-false}
-use Rattle.basis.specs.Choice.{pick, both}
+use Rattle.basis.specs.Choice.{pick, both, any}
 use Rattle.basis.specs.Laws.Choice.{decide}
 use Rattle.runs.specs.Runs.{count, len, next, select}
 
@@ -92,18 +92,21 @@ module _ (p : ℕ → Bool) where
       up : (a : ℕ) → Kth k n a → Kth k (suc n) a
       up a r = record { below = omega arith; passes = r .passes; rank = r .rank }
 
-      yes-n : (k < count p n → Kth k n (select p k n)) → p n ≡ true → Kth k (suc n) (pick (both (p n) (eqb (count p n) k)) n (select p k n))
+      yes-n : (k < count p n → Kth k n (select p k n)) → p n ≡ true
+          → Kth k (suc n) (pick (both (p n) (eqb (count p n) k)) n (select p k n))
       yes-n ih t =
           decide (eqb (count p n) k)
           (λ d. rw (t, d) (record { below = omega arith; passes = t; rank = eqb-true _ _ d }))
           (λ d. rw (t, d) (up _ (ih (omega (arith, count-yes n t, eqb-false (count p n) k d)))))
 
-      no-n : (k < count p n → Kth k n (select p k n)) → p n ≡ false → Kth k (suc n) (pick (both (p n) (eqb (count p n) k)) n (select p k n))
+      no-n : (k < count p n → Kth k n (select p k n)) → p n ≡ false
+          → Kth k (suc n) (pick (both (p n) (eqb (count p n) k)) n (select p k n))
       no-n ih t = rw t (up _ (ih (omega (arith, count-no n t))))
 
   -- two that pass with the same rank are one
   pub rank-only : (a b : ℕ) → p a ≡ true → p b ≡ true → count p a ≡ count p b → a ≡ b
-  rank-only a b s t e = sym (select-at (suc (a + b)) a (omega arith) s) ∙ rw e (select-at (suc (a + b)) b (omega arith) t)
+  rank-only a b s t e =
+      sym (select-at (suc (a + b)) a (omega arith) s) ∙ rw e (select-at (suc (a + b)) b (omega arith) t)
 
   -- ranks ascend
   pub select-ascends : (n j k : ℕ) → j < k → k < count p n → select p j n < select p k n
@@ -117,6 +120,15 @@ module _ (p : ℕ → Bool) where
 -- ---- searches
 
 module _ (p : ℕ → Bool) where
+  -- one of f from a on passes where the lowest that does stands before their end
+  pub any-next : (f a : ℕ) → any p a f ≡ ltb (next p a f) (a + f)
+  unfolding any next
+  any-next zero a = sym (le-ltb a (a + 0) (omega arith))
+  any-next (suc f) a =
+      decide (p a)
+      (λ t. rw t (sym (lt-ltb a (a + suc f) (omega arith))))
+      (λ t. rw (t, add-one a) (any-next f (suc a) ∙ ap (ltb (next p (suc a) f)) (omega arith)))
+
   pub next-ge : (f a : ℕ) → a ≤ next p a f
   unfolding next
   next-ge zero a = omega arith
@@ -126,7 +138,8 @@ module _ (p : ℕ → Bool) where
   pub next-pass : (f a : ℕ) → next p a f < a + f → p (next p a f) ≡ true
   unfolding next
   next-pass zero a l = absurd (omega arith)
-  next-pass (suc f) a l = decide (p a) (λ t. rw t t) (λ t. rw t (next-pass f (suc a) (omega (arith, rw t at l))))
+  next-pass (suc f) a l =
+      decide (p a) (λ t. rw t t) (λ t. rw t (next-pass f (suc a) (omega (arith, rw t at l))))
 
   -- and nothing before it does
   pub next-skip : (f a j : ℕ) → a ≤ j → j < next p a f → p j ≡ false

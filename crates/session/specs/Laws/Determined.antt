@@ -6,7 +6,7 @@ use mathlib.Core.Path.{_≡_, refl, ap, sym, _∙_}
 use lib.Dec.{eqb}
 use Rattle.basis.specs.Choice.{pick}
 use Rattle.basis.specs.Laws.Choice.{true-false}
-use Rattle.basis.specs.Laws.Refusals.{apart, given-one, refused-one, determined}
+use Rattle.basis.specs.Laws.Refusals.{apart, given-one, refused-one, back-one, determined}
 use Rattle.basis.specs.Lists.{overlay}
 use Rattle.basis.specs.Refusals.{Answer}
 use Rattle.session.specs.Paper.{paperRefusal, paperStepped, paperMark}
@@ -31,7 +31,7 @@ refusal-back Refusal.Ended = refl
 refusal-back Refusal.Foreign = refl
 
 pub refusal-one : (x y : Refusal) → paperRefusal x ≡ paperRefusal y → x ≡ y
-refusal-one x y e = sym (refusal-back x) ∙ ap refusalBy e ∙ refusal-back y
+refusal-one = back-one paperRefusal refusalBy refusal-back
 
 -- starting and stepping
 stepped-one : (r s : Stepped) → paperStepped r ≡ paperStepped s → r ≡ s

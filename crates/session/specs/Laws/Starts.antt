@@ -13,8 +13,8 @@ use Rattle.basis.specs.Laws.Choice.{decide, true-false}
 use Rattle.basis.specs.Units.{pageOf}
 use Rattle.runs.specs.Laws.Files.{bytes-past, pages-past, file-piece}
 use Rattle.runs.specs.Laws.Pages.{named-touched}
-use Rattle.runs.specs.Laws.Pieces.{starts-below, piece-some, piece-most}
-use Rattle.runs.specs.Laws.Runs.{count-zero, count-le, count-skip, next-pass, next-skip}
+use Rattle.runs.specs.Laws.Pieces.{starts-below, piece-some}
+use Rattle.runs.specs.Laws.Runs.{len-le, count-zero, count-le, count-skip, next-pass, next-skip}
 use Rattle.runs.specs.Map.{named}
 use Rattle.runs.specs.Pages.{touched}
 use Rattle.runs.specs.Pieces.{pieceMost, pieceStarts, pieceLen, runStarts, runCount, namedCount}
@@ -56,4 +56,4 @@ module _ (m : List ℕ) (long : length m ≡ mapSize) where
   piece-carried image a e h =
       let l = file-piece m long a h in
       let k : pieceLen m a ≤ length (drop a image) = simp length-drop (omega arith) in
-      (length-take-le (pieceLen m a) (drop a image) k, piece-some (named m) pieceMost (omega arith) a h, piece-most (named m) pieceMost a)
+      (length-take-le (pieceLen m a) (drop a image) k, piece-some (named m) pieceMost (omega arith) a h, len-le (named m) a pieceMost)

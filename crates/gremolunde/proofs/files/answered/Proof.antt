@@ -1,7 +1,7 @@
 -- `answered` meets its contract: the next reader is shown, or the refusal's number with the reader as it came.
 use mathlib.Core.Path.{ap, sym, _∙_}
 use borrow.Author.Needs.{needs}
-use Rattle.image.specs.Hex.{paperRead}
+use Rattle.image.specs.Paper.{paperRead}
 use Rattle.image.specs.declared.hex.Read.{Read}
 use Rattle.gremolunde.specs.Answers.{hexAnswer}
 use Rattle.gremolunde.proofs.files.answered.Statement.{statement}

@@ -1,7 +1,9 @@
 -- `told` meets its contract: each arm is one case of the writer's answer.
+use Prim.Native.Nat.{ℕ}
 use mathlib.Core.Path.{ap, sym, _∙_}
 use borrow.Author.Needs.{needs}
-use Rattle.image.specs.Writer.{paperWritten}
+use Rattle.basis.specs.Refusals.{refused}
+use Rattle.image.specs.Paper.{paperWritten}
 use Rattle.image.specs.declared.writer.Written.{Written}
 use Rattle.gremolunde.specs.Answers.{writtenAnswer}
 use Rattle.gremolunde.proofs.files.told.Statement.{statement}
@@ -10,36 +12,34 @@ use Rattle.gremolunde.proofs.files.told.Tie as tie
 enum-known-answer : tie.Need-enum-known-answer
 enum-known-answer c = search needs
 
-enum-told : tie.Need-enum-told
-enum-told c = search needs
+enum-known-answer-2 : tie.Need-enum-known-answer-2
+enum-known-answer-2 c = search needs
+
+number-requires : tie.Need-number-requires
+number-requires c κs = search needs
 
 unwritten-requires : tie.Need-unwritten-requires
 unwritten-requires c κs = search needs
 
-enum-told-2 : tie.Need-enum-told-2
-enum-told-2 c = search needs
-
-unwritten-requires-2 : tie.Need-unwritten-requires-2
-unwritten-requires-2 c κs = search needs
-
 returns : tie.Need-returns
-returns c = ap (λ (x : Written). writtenAnswer (c .before .before .before .args .from) (paperWritten x)) (sym (c .before .answer .given .1))
+returns c =
+    let from = c .before .before .before .args .from in
+    ap (λ (x : Written). writtenAnswer from (paperWritten x)) (sym (c .before .answer .given .1))
 
 returns-2 : tie.Need-returns-2
-returns-2 c = c .unwritten .ensures ∙ ap (λ (x : Written). writtenAnswer (c .before .before .before .args .from) (paperWritten x)) (sym (c .before .enum-told .given .1))
-
-returns-3 : tie.Need-returns-3
-returns-3 c = c .unwritten2 .ensures ∙ ap (λ (x : Written). writtenAnswer (c .before .before .before .args .from) (paperWritten x)) (sym (c .before .enum-told2 .given .1))
+returns-2 c =
+    let from = c .before .before .before .before .before .args .from in
+    c .unwritten .ensures
+    ∙ ap (λ (n : ℕ). writtenAnswer from (refused n)) (c .before .number .ensures)
+    ∙ ap (λ (x : Written). writtenAnswer from (paperWritten x)) (sym (c .before .before .before .answer2 .given .1))
 
 pub told-spec : {M : Type 1} → statement M
 told-spec =
     tie.close
     (tie.spec
     enum-known-answer
-    enum-told
+    enum-known-answer-2
+    number-requires
     unwritten-requires
-    enum-told-2
-    unwritten-requires-2
     returns
-    returns-2
-    returns-3)
+    returns-2)

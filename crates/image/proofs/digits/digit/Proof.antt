@@ -1,10 +1,27 @@
 -- `digit` meets its contract: each arm knows in which row of characters the one at hand stands.
+use Prim.Native.Nat.{ℕ, _≤_, _<_}
+use mathlib.Core.Path.{_≡_, ap, _∙_}
+use mathlib.Core.Bool.{true, false}
 use native.Mathlib.Omega.{arith}
+use lib.Dec.{leb}
+use borrow.Author.Tests.{le-leb, lt-leb}
+use Rattle.basis.specs.Choice.{both}
+use Rattle.basis.specs.Laws.Choice.{both-none}
 use Rattle.image.specs.Digits.{digitOf}
-use Rattle.image.proofs.Characters.{within, below, above}
 use borrow.Author.Needs.{needs}
 use Rattle.image.proofs.digits.digit.Statement.{statement}
 use Rattle.image.proofs.digits.digit.Tie as tie
+
+-- a character inside or outside a row of characters
+module _ (low high c : ℕ) where
+  within : low ≤ c → c ≤ high → both (leb low c) (leb c high) ≡ true
+  within h k = simp (le-leb _ _ h, le-leb _ _ k)
+
+  below : c < low → both (leb low c) (leb c high) ≡ false
+  below h = simp (lt-leb _ _ h)
+
+  above : high < c → both (leb low c) (leb c high) ≡ false
+  above h = ap (both (leb low c)) (lt-leb _ _ h) ∙ both-none (leb low c)
 
 sub-result : tie.Need-sub-result
 sub-result c = search needs
@@ -18,27 +35,56 @@ returns c = simp (within 0x30 0x39 (c .before .before .args .c) (omega arith) (o
 
 returns-2 : tie.Need-returns-2
 unfolding digitOf
-returns-2 c = simp (above 0x30 0x39 (c .before .before .before .before .args .c) (omega arith), within 0x41 0x46 (c .before .before .before .before .args .c) (omega arith) (omega arith))
+returns-2 c =
+    simp (
+      above 0x30 0x39 (c .before .before .before .before .args .c) (omega arith),
+      within 0x41 0x46 (c .before .before .before .before .args .c) (omega arith) (omega arith),
+    )
 
 returns-3 : tie.Need-returns-3
 unfolding digitOf
-returns-3 c = simp (above 0x30 0x39 (c .before .before .before .before .before .before .args .c) (omega arith), above 0x41 0x46 (c .before .before .before .before .before .before .args .c) (omega arith), within 0x61 0x66 (c .before .before .before .before .before .before .args .c) (omega arith) (omega arith))
+returns-3 c =
+    simp (
+      above 0x30 0x39 (c .before .before .before .before .before .before .args .c) (omega arith),
+      above 0x41 0x46 (c .before .before .before .before .before .before .args .c) (omega arith),
+      within 0x61 0x66 (c .before .before .before .before .before .before .args .c) (omega arith) (omega arith),
+    )
 
 returns-4 : tie.Need-returns-4
 unfolding digitOf
-returns-4 c = simp (below 0x30 0x39 (c .before .args .c) (omega arith), below 0x41 0x46 (c .before .args .c) (omega arith), below 0x61 0x66 (c .before .args .c) (omega arith))
+returns-4 c =
+    simp (
+      below 0x30 0x39 (c .before .args .c) (omega arith),
+      below 0x41 0x46 (c .before .args .c) (omega arith),
+      below 0x61 0x66 (c .before .args .c) (omega arith),
+    )
 
 returns-5 : tie.Need-returns-5
 unfolding digitOf
-returns-5 c = simp (above 0x30 0x39 (c .before .before .before .args .c) (omega arith), below 0x41 0x46 (c .before .before .before .args .c) (omega arith), below 0x61 0x66 (c .before .before .before .args .c) (omega arith))
+returns-5 c =
+    simp (
+      above 0x30 0x39 (c .before .before .before .args .c) (omega arith),
+      below 0x41 0x46 (c .before .before .before .args .c) (omega arith),
+      below 0x61 0x66 (c .before .before .before .args .c) (omega arith),
+    )
 
 returns-6 : tie.Need-returns-6
 unfolding digitOf
-returns-6 c = simp (above 0x30 0x39 (c .before .before .before .before .before .args .c) (omega arith), above 0x41 0x46 (c .before .before .before .before .before .args .c) (omega arith), below 0x61 0x66 (c .before .before .before .before .before .args .c) (omega arith))
+returns-6 c =
+    simp (
+      above 0x30 0x39 (c .before .before .before .before .before .args .c) (omega arith),
+      above 0x41 0x46 (c .before .before .before .before .before .args .c) (omega arith),
+      below 0x61 0x66 (c .before .before .before .before .before .args .c) (omega arith),
+    )
 
 returns-7 : tie.Need-returns-7
 unfolding digitOf
-returns-7 c = simp (above 0x30 0x39 (c .before .before .before .before .before .before .args .c) (omega arith), above 0x41 0x46 (c .before .before .before .before .before .before .args .c) (omega arith), above 0x61 0x66 (c .before .before .before .before .before .before .args .c) (omega arith))
+returns-7 c =
+    simp (
+      above 0x30 0x39 (c .before .before .before .before .before .before .args .c) (omega arith),
+      above 0x41 0x46 (c .before .before .before .before .before .before .args .c) (omega arith),
+      above 0x61 0x66 (c .before .before .before .before .before .before .args .c) (omega arith),
+    )
 
 pub digit-spec : {M : Type 1} → statement M
 digit-spec =

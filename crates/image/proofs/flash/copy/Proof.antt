@@ -36,7 +36,11 @@ loop-less : tie.Need-loop-less Inv-loop μ-loop
 loop-less c = search needs
 
 loop-again : tie.Need-loop-again Inv-loop μ-loop
-loop-again c = (omega arith, simp length-set (omega arith), turn new _ _ _ _ (omega arith) ∙ c .before .before .loop .inv .2)
+loop-again c = (
+  omega arith,
+  simp length-set (omega arith),
+  turn new _ _ _ _ (omega arith) ∙ c .before .before .loop .inv .2,
+)
 
 same-length : tie.Need-same-length Inv-loop μ-loop
 same-length c = search needs

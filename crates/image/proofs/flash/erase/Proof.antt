@@ -11,11 +11,14 @@ use Rattle.image.proofs.flash.erase.Statement.{statement}
 use Rattle.image.proofs.flash.erase.Tie as tie
 
 abbrev Inv-loop : tie.InvT-loop
-Inv-loop flash₀ at count i₀ flash i =
+Inv-loop flash₀ count at i₀ flash i =
     (i ≤ count) × (length flash ≡ length flash₀) × (eraseOf flash (at + i) (count - i) ≡ eraseOf flash₀ at count)
 
 abbrev μ-loop : tie.MeasureT-loop
-μ-loop flash₀ at count i₀ flash i = count - i
+μ-loop flash₀ count at i₀ flash i = count - i
+
+cast-at : tie.Need-cast-at Inv-loop μ-loop
+cast-at c = search needs
 
 loop-holds : tie.Need-loop-holds Inv-loop μ-loop
 loop-holds c = (search needs, refl, rw (add-zero, sub-zero))
@@ -33,7 +36,8 @@ loop-less : tie.Need-loop-less Inv-loop μ-loop
 loop-less c = search needs
 
 loop-again : tie.Need-loop-again Inv-loop μ-loop
-loop-again c = (omega arith, simp length-set (omega arith), erase-turn _ _ _ _ (omega arith) ∙ c .before .loop .inv .2)
+loop-again c =
+    (omega arith, simp length-set (omega arith), erase-turn _ _ _ _ (omega arith) ∙ c .before .loop .inv .2)
 
 same-length : tie.Need-same-length Inv-loop μ-loop
 same-length c = search needs
@@ -47,6 +51,7 @@ erase-spec =
     (tie.spec
     Inv-loop
     μ-loop
+    cast-at
     loop-holds
     add-flash
     slice-write-flash

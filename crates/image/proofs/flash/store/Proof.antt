@@ -11,11 +11,14 @@ use Rattle.image.proofs.flash.store.Statement.{statement}
 use Rattle.image.proofs.flash.store.Tie as tie
 
 abbrev Inv-loop : tie.InvT-loop
-Inv-loop flash₀ at bytes i₀ flash i =
+Inv-loop flash₀ bytes at i₀ flash i =
     (i ≤ length bytes) × (length flash ≡ length flash₀) × (storeOf flash (at + i) (drop i bytes) ≡ storeOf flash₀ at bytes)
 
 abbrev μ-loop : tie.MeasureT-loop
-μ-loop flash₀ at bytes i₀ flash i = length bytes - i
+μ-loop flash₀ bytes at i₀ flash i = length bytes - i
+
+cast-at : tie.Need-cast-at Inv-loop μ-loop
+cast-at c = search needs
 
 loop-holds : tie.Need-loop-holds Inv-loop μ-loop
 loop-holds c = (search needs, refl, rw add-zero)
@@ -57,6 +60,7 @@ store-spec =
     (tie.spec
     Inv-loop
     μ-loop
+    cast-at
     loop-holds
     add-flash
     slice-read-flash

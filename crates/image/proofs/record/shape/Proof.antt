@@ -32,23 +32,60 @@ returns-2 c = simp (le-ltb _ _ (c .before .if1 .left), eq-eqb _ _ (c .if2 .taken
 
 returns-3 : tie.Need-returns-3
 unfolding first shapeOf
-returns-3 c = simp (le-ltb _ _ (c .before .before .if1 .left), ne-eqb _ _ (c .before .if2 .left), ne-eqb _ _ (λ e. c .if3 .taken (c .before .before .before .before .word .ensures ∙ e)))
+returns-3 c =
+    simp (
+      le-ltb _ _ (c .before .before .if1 .left),
+      ne-eqb _ _ (c .before .if2 .left),
+      ne-eqb _ _ (λ e. c .if3 .taken (c .before .before .before .before .word .ensures ∙ e)),
+    )
 
 returns-4 : tie.Need-returns-4
 unfolding first shapeOf
-returns-4 c = simp (le-ltb _ _ (c .before .before .before .before .if1 .left), ne-eqb _ _ (c .before .before .before .if2 .left), eq-eqb _ _ (sym (c .before .before .before .before .before .before .word .ensures) ∙ c .before .before .if3 .left), eq-eqb _ _ (c .before .if4 .taken), ne-eqb _ _ (c .if5 .taken))
+returns-4 c =
+    let word = c .before .before .before .before .before .before .word in
+    simp (
+      le-ltb _ _ (c .before .before .before .before .if1 .left),
+      ne-eqb _ _ (c .before .before .before .if2 .left),
+      eq-eqb _ _ (sym (word .ensures) ∙ c .before .before .if3 .left),
+      eq-eqb _ _ (c .before .if4 .taken),
+      ne-eqb _ _ (c .if5 .taken),
+    )
 
 returns-5 : tie.Need-returns-5
 unfolding first shapeOf
-returns-5 c = simp (le-ltb _ _ (c .before .before .before .before .if1 .left), ne-eqb _ _ (c .before .before .before .if2 .left), eq-eqb _ _ (sym (c .before .before .before .before .before .before .word .ensures) ∙ c .before .before .if3 .left), eq-eqb _ _ (c .before .if4 .taken), eq-eqb _ _ (c .if5 .left))
+returns-5 c =
+    let word = c .before .before .before .before .before .before .word in
+    simp (
+      le-ltb _ _ (c .before .before .before .before .if1 .left),
+      ne-eqb _ _ (c .before .before .before .if2 .left),
+      eq-eqb _ _ (sym (word .ensures) ∙ c .before .before .if3 .left),
+      eq-eqb _ _ (c .before .if4 .taken),
+      eq-eqb _ _ (c .if5 .left),
+    )
 
 returns-6 : tie.Need-returns-6
 unfolding first shapeOf
-returns-6 c = simp (le-ltb _ _ (c .before .before .before .before .if1 .left), ne-eqb _ _ (c .before .before .before .if2 .left), eq-eqb _ _ (sym (c .before .before .before .before .before .before .word .ensures) ∙ c .before .before .if3 .left), ne-eqb _ _ (c .before .if4 .left), ne-eqb _ _ (c .if6 .taken))
+returns-6 c =
+    let word = c .before .before .before .before .before .before .word in
+    simp (
+      le-ltb _ _ (c .before .before .before .before .if1 .left),
+      ne-eqb _ _ (c .before .before .before .if2 .left),
+      eq-eqb _ _ (sym (word .ensures) ∙ c .before .before .if3 .left),
+      ne-eqb _ _ (c .before .if4 .left),
+      ne-eqb _ _ (c .if6 .taken),
+    )
 
 returns-7 : tie.Need-returns-7
 unfolding first shapeOf
-returns-7 c = simp (le-ltb _ _ (c .before .before .before .before .if1 .left), ne-eqb _ _ (c .before .before .before .if2 .left), eq-eqb _ _ (sym (c .before .before .before .before .before .before .word .ensures) ∙ c .before .before .if3 .left), ne-eqb _ _ (c .before .if4 .left), eq-eqb _ _ (c .if6 .left))
+returns-7 c =
+    let word = c .before .before .before .before .before .before .word in
+    simp (
+      le-ltb _ _ (c .before .before .before .before .if1 .left),
+      ne-eqb _ _ (c .before .before .before .if2 .left),
+      eq-eqb _ _ (sym (word .ensures) ∙ c .before .before .if3 .left),
+      ne-eqb _ _ (c .before .if4 .left),
+      eq-eqb _ _ (c .if6 .left),
+    )
 
 pub shape-spec : {M : Type 1} → statement M
 shape-spec =

@@ -1,14 +1,60 @@
 -- `print` meets its contract: colon, head, bytes, checksum and 0A are written one behind the other.
-use Rattle.image.proofs.Printing.{checksum-parts}
-use Prim.Native.Nat.{_/_, _%_}
-use mathlib.Core.Path.{sym, _∙_}
-use mathlib.Core.List.{[], _∷_}
+use Prim.Native.Nat.{ℕ, _+_, _*_, _-_, _/_, _%_, _≤_}
+use mathlib.Core.Path.{_≡_, refl, sym, ap, _∙_}
+use mathlib.Core.List.{List, [], _∷_, _++_}
 use native.Mathlib.Omega.{arith}
-use lib.ListN.{length, length-set}
-use Rattle.image.proofs.Printing.{text-length, print-done}
+use lib.ListN.{length, set, length-append, length-set}
+use Rattle.basis.specs.Lists.{overlay}
+use Rattle.basis.specs.Sums.{sumOf, checksumOf}
+use Rattle.basis.specs.Laws.Lists.{overlay-next}
+use Rattle.basis.specs.Laws.Sums.{sum-append}
+use Rattle.image.specs.Flash.{copyOf}
+use Rattle.image.specs.Writer.{spelt, content, text}
+use Rattle.image.specs.Laws.Flash.{copy-overlay}
+use Rattle.image.specs.Laws.Writer.{length-spelt, spelt-append}
 use borrow.Author.Needs.{needs}
 use Rattle.image.proofs.writer.print.Statement.{statement}
 use Rattle.image.proofs.writer.print.Tie as tie
+
+-- the sum of two parts makes the checksum of the whole
+checksum-parts : (s t : List ℕ) (x : ℕ) → x ≡ (sumOf s + sumOf t) % 256
+    → (256 - x) % 256 ≡ checksumOf (s ++ t)
+checksum-parts s t x e = rw (e, sum-append s t)
+
+module _ (address kind : ℕ) (s old : List ℕ) (few : length s ≤ 16) (room : 44 ≤ length old) where
+  abbrev head : List ℕ
+  head = length s ∷ address / 256 ∷ address % 256 ∷ kind ∷ []
+
+  text-length : length (text address kind s) ≡ 9 + 2 * length s + 3
+  unfolding text
+  text-length = simp (length-append, length-spelt) (omega arith)
+
+  -- colon, head, bytes, checksum and 0A, one behind the other
+  print-done : (x : ℕ) (b c d : List ℕ) → x ≡ checksumOf (content address kind s)
+      → b ≡ copyOf (set old 0 0x3A) 1 (spelt head) → c ≡ copyOf b 9 (spelt s)
+      → d ≡ copyOf c (9 + 2 * length s) (spelt (x ∷ []))
+      → set d (9 + 2 * length s + 2) 0x0A ≡ overlay (text address kind s) old
+  unfolding text
+  print-done x b c d ex eb ec ed =
+      let w : List ℕ = 0x3A ∷ spelt head in
+      let v : List ℕ = w ++ spelt s in
+      let u : List ℕ = v ++ spelt (x ∷ []) in
+      let lh = length-spelt head in
+      let ls = length-spelt s in
+      let lx = length-spelt (x ∷ []) in
+      let lw : length w ≡ 9 = omega (arith, lh) in
+      let lv : length v ≡ 9 + 2 * length s = omega (arith, length-append w (spelt s)) in
+      let lu : length u ≡ 9 + 2 * length s + 2 = omega (arith, length-append v (spelt (x ∷ []))) in
+      let rb : b ≡ overlay w old =
+      eb ∙ ap (λ (l : List ℕ). copyOf l 1 (spelt head)) (overlay-next [] old 0 0x3A refl (omega arith)) ∙ copy-overlay (0x3A ∷ []) old (spelt head) 1 refl (omega arith) in
+      let rc : c ≡ overlay v old = ec ∙ ap (λ (l : List ℕ). copyOf l 9 (spelt s)) rb ∙ copy-overlay w old (spelt s) 9 lw (omega arith) in
+      let rd : d ≡ overlay u old =
+      ed ∙ ap (λ (l : List ℕ). copyOf l (9 + 2 * length s) (spelt (x ∷ []))) rc ∙ copy-overlay v old (spelt (x ∷ [])) (9 + 2 * length s) lv (omega arith) in
+      let t : u ≡ 0x3A ∷ spelt (content address kind s ++ (x ∷ [])) =
+      sym (ap (λ (l : List ℕ). 0x3A ∷ l) (spelt-append (content address kind s) (x ∷ []) ∙ ap (λ (l : List ℕ). l ++ spelt (x ∷ [])) (spelt-append head s))) in
+      ap (λ (l : List ℕ). set l (9 + 2 * length s + 2) 0x0A) rd
+      ∙ overlay-next u old (9 + 2 * length s + 2) 0x0A lu (omega arith)
+      ∙ ap (λ (l : List ℕ). overlay (l ++ (0x0A ∷ [])) old) (t ∙ ap (λ (y : ℕ). 0x3A ∷ spelt (content address kind s ++ (y ∷ []))) ex)
 
 cast-wrapping-add-u8 : tie.Need-cast-wrapping-add-u8
 cast-wrapping-add-u8 c = search needs
@@ -31,8 +77,8 @@ sum-requires-2 c κs = search needs
 wrapping-add-u8-requires : tie.Need-wrapping-add-u8-requires
 wrapping-add-u8-requires c κs = search needs
 
-wrapping-sub-u8-requires : tie.Need-wrapping-sub-u8-requires
-wrapping-sub-u8-requires c κs = search needs
+complement-requires : tie.Need-complement-requires
+complement-requires c κs = search needs
 
 mul-end : tie.Need-mul-end
 mul-end c = search needs
@@ -50,33 +96,59 @@ spell-requires : tie.Need-spell-requires
 spell-requires c κs = simp length-set (omega arith)
 
 spell-requires-2 : tie.Need-spell-requires-2
-spell-requires-2 c κs = omega (arith, c .before .before .before .spell .kept .0, simp length-set at (c .before .before .before .spell .kept .0))
+spell-requires-2 c κs =
+    let spell = c .before .before .before .spell in
+    omega (arith, spell .kept .0, simp length-set at (spell .kept .0))
 
 slice-aggregate-spell-2 : tie.Need-slice-aggregate-spell-2
 slice-aggregate-spell-2 c = search needs
 
 spell-requires-3 : tie.Need-spell-requires-3
-spell-requires-3 c κs = omega (arith, c .before .before .before .before .spell2 .kept .0, simp length-set at (c .before .before .before .before .before .before .before .before .spell .kept .0))
+spell-requires-3 c κs =
+    let spell = c .before .before .before .before .before .before .before .before .spell in
+    omega (arith, c .before .before .before .before .spell2 .kept .0, simp length-set at (spell .kept .0))
 
 add-buffer : tie.Need-add-buffer
 add-buffer c = search needs
 
 slice-write-buffer-2 : tie.Need-slice-write-buffer-2
-slice-write-buffer-2 c = omega (arith, c .before .before .spell3 .kept .0, c .before .before .before .before .before .before .before .spell2 .kept .0, simp length-set at (c .before .before .before .before .before .before .before .before .before .before .before .spell .kept .0))
+slice-write-buffer-2 c =
+    let spell2 = c .before .before .before .before .before .before .before .spell2 in
+    let p = c .before .before .before .before .before .before .before .before .before .before .before in
+    let spell = p .spell in
+    omega (arith, c .before .before .spell3 .kept .0, spell2 .kept .0, simp length-set at (spell .kept .0))
 
 add-result : tie.Need-add-result
 add-result c = search needs
 
 same-length : tie.Need-same-length
-same-length c = simp length-set (c .before .before .spell3 .kept .0 ∙ c .before .before .before .before .before .before .before .spell2 .kept .0 ∙ simp length-set at (c .before .before .before .before .before .before .before .before .before .before .before .spell .kept .0))
+same-length c =
+    let spell2 = c .before .before .before .before .before .before .before .spell2 in
+    let p = c .before .before .before .before .before .before .before .before .before .before .before in
+    let spell = p .spell in
+    simp length-set
+    (c .before .before .spell3 .kept .0 ∙ spell2 .kept .0 ∙ simp length-set at (spell .kept .0))
 
 returns : tie.Need-returns
-returns c = let a = c .before .before .before .before .before .before .before .before .before .before .before .before .before .before .before .before .before .before .before .before .before .args in
+returns c =
+    let spell2 = c .before .before .before .before .before .before .before .spell2 in
+    let p = c .before .before .before .before .before .before .before .before .before .before .before in
+    let spell = p .spell in
+    let complement = p .before .before .before .complement in
+    let wrapping-add-u8 = p .before .before .before .before .wrapping-add-u8 in
+    let sum2 = p .before .before .before .before .before .sum2 in
+    let sum = p .before .before .before .before .before .before .sum in
+    let q = p .before .before .before .before .before .before .before .before .before .before in
+    let pre = q .pre in
+    let a = q .args in
     let s = a .bytes .now in
     let head = length s ∷ a .address / 256 ∷ a .address % 256 ∷ a .kind ∷ [] in
-    let total = checksum-parts head s (c .before .before .before .before .before .before .before .before .before .before .before .before .before .before .before .wrapping-add-u8 .result) (omega (arith, c .before .before .before .before .before .before .before .before .before .before .before .before .before .before .before .wrapping-add-u8 .ensures, c .before .before .before .before .before .before .before .before .before .before .before .before .before .before .before .before .before .sum .ensures, c .before .before .before .before .before .before .before .before .before .before .before .before .before .before .before .before .sum2 .ensures)) in (
-      sym (text-length (a .address) (a .kind) s (a .buffer .now) (c .before .before .before .before .before .before .before .before .before .before .before .before .before .before .before .before .before .before .before .before .before .pre .0) (c .before .before .before .before .before .before .before .before .before .before .before .before .before .before .before .before .before .before .before .before .before .pre .1)),
-      print-done (a .address) (a .kind) s (a .buffer .now) (c .before .before .before .before .before .before .before .before .before .before .before .before .before .before .before .before .before .before .before .before .before .pre .0) (c .before .before .before .before .before .before .before .before .before .before .before .before .before .before .before .before .before .before .before .before .before .pre .1) _ _ _ _ (omega (arith, c .before .before .before .before .before .before .before .before .before .before .before .before .before .before .wrapping-sub-u8 .ensures) ∙ total) (c .before .before .before .before .before .before .before .before .before .before .before .spell .ensures) (c .before .before .before .before .before .before .before .spell2 .ensures) (c .before .before .spell3 .ensures),
+    let total = checksum-parts head s (wrapping-add-u8 .result)
+    (omega (arith, wrapping-add-u8 .ensures, sum .ensures, sum2 .ensures)) in (
+      sym (text-length (a .address) (a .kind) s (a .buffer .now) (pre .0) (pre .1)),
+      print-done (a .address) (a .kind) s (a .buffer .now) (pre .0) (pre .1) _ _ _ _
+          (omega (arith, complement .ensures) ∙ total) (spell .ensures) (spell2 .ensures)
+          (c .before .before .spell3 .ensures),
     )
 
 pub print-spec : {M : Type 1} → statement M
@@ -90,7 +162,7 @@ print-spec =
     sum-requires
     sum-requires-2
     wrapping-add-u8-requires
-    wrapping-sub-u8-requires
+    complement-requires
     mul-end
     add-end
     slice-write-buffer

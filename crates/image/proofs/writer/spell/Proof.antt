@@ -1,15 +1,31 @@
 -- `spell` meets its contract: spelling what is left, from here, gives what was to be given.
-use Prim.Native.Nat.{_≤_, _-_, _+_, _*_}
+use Prim.Native.Nat.{ℕ, _+_, _*_, _-_, _/_, _%_, _<_, _≤_}
 use mathlib.Core.Path.{_≡_, refl, sym, _∙_}
-use native.Mathlib.Nat.{add-zero}
+use mathlib.Core.List.{List}
+use native.Mathlib.Numerals.{add-one}
 use native.Mathlib.Omega.{arith}
+use lib.ListN.{length, drop, set, getD, drop-of-length-le, length-set}
+use Rattle.basis.specs.Refusals.{given}
+use lib.Seq.{drop-cons}
+use Rattle.image.specs.Flash.{stored, copyOf}
+use Rattle.image.specs.Writer.{letterOf, spelt}
+use native.Mathlib.Nat.{add-zero}
 use borrow.Author.Needs.{needs}
-use lib.ListN.{length, drop, length-set}
-use Rattle.image.specs.Flash.{copyOf}
-use Rattle.image.specs.Writer.{spelt}
-use Rattle.image.proofs.Printing.{spell-turn, spell-ended}
 use Rattle.image.proofs.writer.spell.Statement.{statement}
 use Rattle.image.proofs.writer.spell.Tie as tie
+
+-- one turn, and the end
+module _ (buffer : List ℕ) (a i : ℕ) (s : List ℕ) where
+  spell-turn : (h l : ℕ) → i < length s → h ≡ letterOf (getD s i 0 / 16) → l ≡ letterOf (getD s i 0 % 16)
+      → copyOf (set (set buffer (a + 2 * i) h) (a + 2 * i + 1) l) (a + 2 * (i + 1)) (spelt (drop (i + 1) s))
+      ≡ copyOf buffer (a + 2 * i) (spelt (drop i s))
+  unfolding stored spelt
+  spell-turn h l k eh el =
+      let e : a + 2 * (i + 1) ≡ a + 2 * i + 1 + 1 = omega arith in rw (e, add-one i, drop-cons s i 0 k, eh, el)
+
+  spell-ended : length s ≤ i → copyOf buffer (a + 2 * i) (spelt (drop i s)) ≡ buffer
+  unfolding stored spelt
+  spell-ended h = rw (drop-of-length-le s h)
 
 abbrev Inv-loop : tie.InvT-loop
 Inv-loop buffer₀ at bytes i₀ buffer i =
@@ -55,7 +71,11 @@ loop-less : tie.Need-loop-less Inv-loop μ-loop
 loop-less c = search needs
 
 loop-again : tie.Need-loop-again Inv-loop μ-loop
-loop-again c = (omega arith, simp length-set (omega arith), spell-turn _ _ _ _ _ _ (omega arith) (c .before .before .letter .ensures) (c .letter2 .ensures) ∙ c .before .before .before .before .before .loop .inv .2)
+loop-again c = (
+  omega arith,
+  simp length-set (omega arith),
+  spell-turn _ _ _ _ _ _ (omega arith) (c .before .before .letter .ensures) (c .letter2 .ensures) ∙ c .before .before .before .before .before .loop .inv .2,
+)
 
 same-length : tie.Need-same-length Inv-loop μ-loop
 same-length c = search needs

@@ -63,16 +63,13 @@ start-requires c κs = search needs
 cast-erase : tie.Need-cast-erase
 cast-erase c = search needs
 
-cast-erase-2 : tie.Need-cast-erase-2
-cast-erase-2 c = search needs
-
 mul-erase : tie.Need-mul-erase
 mul-erase c = search needs
 
 erase-requires : tie.Need-erase-requires
-erase-requires c κs = let a = c .before .before .before .before .before .before .before .before .before .before .before .args in
-    let e = erase-let pages (a .loader) (a .address .0) (a .count) (given tt) (sym (c .before .before .before .before .before .before .judge .ensures) ∙ ap paperVerdict (c .before .before .before .before .enum-told .given .1)) in
-    omega (arith, e .1, e .2, c .before .before .before .before .before .before .before .before .before .before .before .pre, c .before .start .ensures, c .before .before .page .ensures)
+erase-requires c κs = let a = c .before .before .before .before .before .before .before .before .before .before .args in
+    let e = erase-let pages (a .loader) (a .address .0) (a .count) (given tt) (sym (c .before .before .before .before .before .judge .ensures) ∙ ap paperVerdict (c .before .before .before .enum-told .given .1)) in
+    omega (arith, e .1, e .2, c .before .before .before .before .before .before .before .before .before .before .pre, c .start .ensures, c .before .page .ensures)
 
 returns-3 : tie.Need-returns-3
 returns-3 c = let e = c .before .before .before .before in
@@ -85,12 +82,12 @@ same-length-2 : tie.Need-same-length-2
 same-length-2 c = search needs
 
 returns-4 : tie.Need-returns-4
-returns-4 c = let e = c .before .before .before .before .before .before .before .before .before .before in
+returns-4 c = let e = c .before .before .before .before .before .before .before .before .before in
     let a = entry e .args in
-    let place = c .before .before .before .before .start .ensures ∙ ap startOf (c .before .before .before .before .before .page .ensures) in
+    let place = c .before .before .before .start .ensures ∙ ap startOf (c .before .before .before .before .page .ensures) in
     does _ _
     (erasing-pages pages (a .loader) (a .address .0) (a .count) (a .flash .now) (closed e) (no-mass e)
-    ∙ through _ _ _ (sym (c .before .before .before .before .before .before .before .before .before .judge .ensures) ∙ ap paperVerdict (c .before .before .before .before .before .before .before .enum-told .given .1)))
+    ∙ through _ _ _ (sym (c .before .before .before .before .before .before .before .before .judge .ensures) ∙ ap paperVerdict (c .before .before .before .before .before .before .enum-told .given .1)))
     refl refl
     (c .before .before .erase .ensures ∙ ap (λ (s : ℕ). eraseOf (a .flash .now) s (a .count * pageSize)) place)
 
@@ -109,7 +106,6 @@ erase-spec =
     page-requires
     start-requires
     cast-erase
-    cast-erase-2
     mul-erase
     erase-requires
     returns-3

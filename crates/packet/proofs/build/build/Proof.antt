@@ -7,8 +7,8 @@ use borrow.Author.Needs.{needs}
 use lib.ListN.{length, getD}
 use Rattle.basis.specs.Laws.Refusals.{leaves, writes, alike}
 use Rattle.basis.specs.Refusals.{refused, given, first}
-use Rattle.packet.specs.Laws.Packet.{packet-length, build-small, build-table}
-use Rattle.packet.specs.Laws.Table.{table-passes, table-holds, shape-short}
+use Rattle.packet.specs.Laws.Packet.{packet-length, build-small, build-table, build-packet}
+use Rattle.packet.specs.Laws.Table.{table-holds, shape-short}
 use Rattle.packet.specs.Packet.{packet, buildOf, dataMost, packetMost}
 use Rattle.packet.specs.Paper.{paperRow}
 use Rattle.packet.specs.Table.{table}
@@ -24,7 +24,7 @@ module _ (room c a : ℕ) (d : List ℕ) (t k : ℕ) (h : packetMost ≤ room) (
   build-given f =
       let g = table-holds c (length d + 5) (getD d 0 0) (given c) (rw e at f) in (
         omega (arith, shape-short c (length d + 5) (getD d 0 0) (g .1)),
-        build-table room c a d h ∙ table-passes c (length d + 5) (getD d 0 0) (given (packet c a d)) (g .0) (g .1),
+        build-packet room c a d h (g .0) (g .1),
       )
 
 returns : tie.Need-returns
@@ -46,19 +46,35 @@ enum-told : tie.Need-enum-told
 enum-told c = search needs
 
 write-requires : tie.Need-write-requires
-write-requires c κs = let a = c .before .before .before .before .before .before .before .before .args in
-    (c .before .before .before .before .before .if1 .left, build-given _ (a .command) (a .address .0) (a .plain .now) _ _ (c .before .before .before .before .before .if1 .left) (c .before .before .before .before .first-byte .ensures) (sym (c .before .before .before .look-up .ensures) ∙ ap paperRow (c .before .enum-told .given .1)) .0)
+write-requires c κs =
+    let if1 = c .before .before .before .before .before .if1 in
+    let a = c .before .before .before .before .before .before .before .before .args in (
+      if1 .left,
+      build-given _ (a .command) (a .address .0) (a .plain .now) _ _ (if1 .left)
+          (c .before .before .before .before .first-byte .ensures)
+          (sym (c .before .before .before .look-up .ensures) ∙ ap paperRow (c .before .enum-told .given .1)) .0,
+    )
 
 returns-2 : tie.Need-returns-2
-returns-2 c = leaves _ (build-refused _ _ _ _ _ _ (c .before .before .before .before .before .if1 .left) (c .before .before .before .before .first-byte .ensures) (sym (c .before .before .before .look-up .ensures) ∙ ap paperRow (c .before .why .given .1)))
+returns-2 c =
+    leaves _ (build-refused _ _ _ _ _ _ (c .before .before .before .before .before .if1 .left)
+    (c .before .before .before .before .first-byte .ensures)
+    (sym (c .before .before .before .look-up .ensures) ∙ ap paperRow (c .before .why .given .1)))
 
 same-length : tie.Need-same-length
 same-length c = search needs
 
 returns-3 : tie.Need-returns-3
-returns-3 c = let a = c .before .before .before .before .before .before .before .before .before .before .before .args in
-    let b = build-given _ _ (a .address .0) _ _ _ (c .before .before .before .before .before .before .before .before .if1 .left) (c .before .before .before .before .before .before .before .first-byte .ensures) (sym (c .before .before .before .before .before .before .look-up .ensures) ∙ ap paperRow (c .before .before .before .before .enum-told .given .1)) in
-    writes _ _ (b .1) (c .before .before .write .ensures .0 ∙ sym (packet-length (a .command) (a .address .0) (a .plain .now))) (c .before .before .write .ensures .1)
+returns-3 c =
+    let write = c .before .before .write in
+    let look-up = c .before .before .before .before .before .before .look-up in
+    let first-byte = c .before .before .before .before .before .before .before .first-byte in
+    let if1 = c .before .before .before .before .before .before .before .before .if1 in
+    let a = c .before .before .before .before .before .before .before .before .before .before .before .args in
+    let b = build-given _ _ (a .address .0) _ _ _ (if1 .left) (first-byte .ensures)
+    (sym (look-up .ensures) ∙ ap paperRow (c .before .before .before .before .enum-told .given .1)) in
+    writes _ _ (b .1) (write .ensures .0 ∙ sym (packet-length (a .command) (a .address .0) (a .plain .now)))
+    (write .ensures .1)
 
 pub build-spec : {M : Type 1} → statement M
 build-spec =

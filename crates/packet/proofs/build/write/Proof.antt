@@ -72,10 +72,15 @@ same-length : tie.Need-same-length
 same-length c = simp length-set (omega arith)
 
 returns : tie.Need-returns
-returns c = let a = c .before .before .before .before .before .before .before .before .before .before .before .before .before .args in (
-  omega arith,
-  closed (a .command) (a .address .0) (a .plain .now) (a .buffer .now) (c .before .before .before .before .before .before .before .before .before .front .last .0) (c .before .before .before .before .before .fill .last .0) (c .before .before .before .before .before .before .before .before .before .front .ensures) (c .before .before .before .before .before .fill .ensures) (c .checksum .result) (c .checksum .ensures) (omega arith),
-)
+returns c =
+    let fill = c .before .before .before .before .before .fill in
+    let p = c .before .before .before .before .before .before .before .before .before in
+    let front = p .front in
+    let a = p .before .before .before .before .args in (
+      omega arith,
+      closed (a .command) (a .address .0) (a .plain .now) (a .buffer .now) (front .last .0) (fill .last .0)
+          (front .ensures) (fill .ensures) (c .checksum .result) (c .checksum .ensures) (omega arith),
+    )
 
 pub write-spec : {M : Type 1} → statement M
 write-spec =

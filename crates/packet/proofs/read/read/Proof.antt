@@ -17,8 +17,8 @@ use Rattle.packet.proofs.read.read.Statement.{statement}
 use Rattle.packet.proofs.read.read.Tie as tie
 
 -- what `sum` was handed is the input from the count on
-summed : (c : tie.After-sum) → c .sum .result ≡ sumOf (drop 2 (now (c .before .before .before .before .before .before .before .before .before .args .input)))
-summed c =
+sum-handed : (c : tie.After-sum) → c .sum .result ≡ sumOf (drop 2 (now (c .before .before .before .before .before .before .before .before .before .args .input)))
+sum-handed c =
     let s = now (c .before .before .before .before .before .before .before .before .before .args .input) in
     let h : length (drop 2 s) ≤ length s - 2 = simp length-drop (omega arith) in
     c .sum .ensures ∙ ap sumOf (take-all (length s - 2) (drop 2 s) h)
@@ -85,7 +85,7 @@ sum-requires c κs = search needs
 
 returns-5 : tie.Need-returns-5
 unfolding rows
-returns-5 c = sym (left4 (c .before .before .before) ∙ stop _ _ _ _ (ap not (ne-eqb _ _ (λ z. c .if5 .taken (summed (c .before) ∙ z)))))
+returns-5 c = sym (left4 (c .before .before .before) ∙ stop _ _ _ _ (ap not (ne-eqb _ _ (λ z. c .if5 .taken (sum-handed (c .before) ∙ z)))))
 
 tabled-requires : tie.Need-tabled-requires
 tabled-requires c κs = search needs
@@ -93,7 +93,7 @@ tabled-requires c κs = search needs
 returns-6 : tie.Need-returns-6
 unfolding rows
 returns-6 c = let f = c .before in
-    c .tabled .ensures ∙ sym (left4 (f .before .before .before) ∙ skip _ _ _ _ (ap not (eq-eqb _ _ (sym (summed (f .before)) ∙ f .if5 .left))) ∙ done _)
+    c .tabled .ensures ∙ sym (left4 (f .before .before .before) ∙ skip _ _ _ _ (ap not (eq-eqb _ _ (sym (sum-handed (f .before)) ∙ f .if5 .left))) ∙ done _)
 
 pub read-spec : {M : Type 1} → statement M
 read-spec =

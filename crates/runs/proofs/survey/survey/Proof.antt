@@ -1,7 +1,7 @@
--- `survey` meets its contract: the pass halts at the place's page, and the counts grow where a run or a piece starts.
+-- `survey` meets its contract: the walk halts at the place's page, and the counts grow where a run or a piece starts.
 use native.Mathlib.Omega.{arith}
 use borrow.Author.Needs.{needs}
-use Rattle.runs.proofs.Surveys.{pass-none, pass-bytes, surveyed}
+use Rattle.runs.proofs.Surveys.{tallies-none, tallies-bytes, surveyed}
 use Rattle.runs.proofs.survey.survey.Statement.{statement}
 use Rattle.runs.proofs.survey.survey.Tie as tie
 
@@ -12,7 +12,7 @@ add-t12 : tie.Need-add-t12
 add-t12 c = search needs
 
 over-pages-requires : tie.Need-over-pages-requires
-over-pages-requires c κs = (omega arith, omega arith, omega arith, pass-none _)
+over-pages-requires c κs = (omega arith, omega arith, omega arith, tallies-none _)
 
 over-pages-requires-2 : tie.Need-over-pages-requires-2
 over-pages-requires-2 c κs = search needs
@@ -21,7 +21,7 @@ over-pages-requires-3 : tie.Need-over-pages-requires-3
 over-pages-requires-3 c κs = search needs
 
 up-to-requires : tie.Need-up-to-requires
-up-to-requires c κs = (omega arith, omega arith, omega arith, pass-bytes _ _ (c .before .before .over-pages .ensures))
+up-to-requires c κs = (omega arith, omega arith, omega arith, tallies-bytes _ _ (c .before .before .over-pages .ensures))
 
 add-t12-2 : tie.Need-add-t12-2
 add-t12-2 c = search needs

@@ -1,26 +1,16 @@
 -- `put` meets its contract: the builder refuses nothing that stands in the table.
-use Prim.Native.Nat.{ℕ, _+_, _≤_}
+use Prim.Native.Nat.{ℕ}
 use mathlib.Core.List.{List}
-use mathlib.Core.Path.{sym, ap, _∙_, _≡_}
-use mathlib.Core.Bool.{true}
+use mathlib.Core.Path.{sym, ap, _∙_}
 use borrow.Author.Needs.{needs}
-use lib.ListN.{length, getD}
+use lib.ListN.{length}
 use Rattle.basis.specs.Laws.Refusals.{apart, given-one}
 use Rattle.basis.specs.Lists.{overlay}
 use Rattle.basis.specs.Refusals.{Answer, counted, written, given}
-use Rattle.packet.specs.Laws.Packet.{build-table}
-use Rattle.packet.specs.Laws.Table.{table-passes}
-use Rattle.packet.specs.Packet.{packet, buildOf, packetMost}
+use Rattle.packet.specs.Laws.Packet.{build-packet}
 use Rattle.packet.specs.Paper.{paperBuilt}
-use Rattle.packet.specs.Table.{listed, inShape}
 use Rattle.session.proofs.sending.put.Statement.{statement}
 use Rattle.session.proofs.sending.put.Tie as tie
-
--- the builder refuses nothing that stands in the table, in a buffer that has room
-allowed : (room c a : ℕ) (d : List ℕ) → packetMost ≤ room → listed c ≡ true
-    → inShape c (length d + 5) (getD d 0 0) ≡ true
-    → buildOf room c a d ≡ given (packet c a d)
-allowed room c a d h l s = build-table room c a d h ∙ table-passes c (length d + 5) (getD d 0 0) (given (packet c a d)) l s
 
 build-requires : tie.Need-build-requires
 build-requires c κs = search needs
@@ -39,7 +29,7 @@ same-length c = search needs
 
 returns : tie.Need-returns
 returns c = let s = c .before .before .before .before .before .before .before .before .before in
-    let b = allowed (length (s .args .buffer .now)) (s .args .command) (s .args .address .0) (s .args .plain .now) (s .pre .0) (s .pre .1) (s .pre .2) in
+    let b = build-packet (length (s .args .buffer .now)) (s .args .command) (s .args .address .0) (s .args .plain .now) (s .pre .0) (s .pre .1) (s .pre .2) in
     (given-one (sym (ap paperBuilt (c .before .len .given .1)) ∙ c .before .before .before .before .before .build .ensures .0 ∙ ap counted b), c .before .before .before .before .before .build .ensures .1 ∙ ap (λ (x : Answer (List ℕ)). overlay (written x) (s .args .buffer .now)) b)
 
 same-length-2 : tie.Need-same-length-2
@@ -47,7 +37,7 @@ same-length-2 c = search needs
 
 returns-2 : tie.Need-returns-2
 returns-2 c = let s = c .before .before .before .before .before .before .before .before in
-    let b = allowed (length (s .args .buffer .now)) (s .args .command) (s .args .address .0) (s .args .plain .now) (s .pre .0) (s .pre .1) (s .pre .2) in
+    let b = build-packet (length (s .args .buffer .now)) (s .args .command) (s .args .address .0) (s .args .plain .now) (s .pre .0) (s .pre .1) (s .pre .2) in
     absurd (apart (sym (ap paperBuilt (c .enum-told .given .1)) ∙ c .before .before .before .before .build .ensures .0 ∙ ap counted b))
 
 same-length-3 : tie.Need-same-length-3
@@ -55,7 +45,7 @@ same-length-3 c = search needs
 
 returns-3 : tie.Need-returns-3
 returns-3 c = let s = c .before .before .before .before .before .before .before .before in
-    let b = allowed (length (s .args .buffer .now)) (s .args .command) (s .args .address .0) (s .args .plain .now) (s .pre .0) (s .pre .1) (s .pre .2) in
+    let b = build-packet (length (s .args .buffer .now)) (s .args .command) (s .args .address .0) (s .args .plain .now) (s .pre .0) (s .pre .1) (s .pre .2) in
     absurd (apart (sym (ap paperBuilt (c .enum-told2 .given .1)) ∙ c .before .before .before .before .build .ensures .0 ∙ ap counted b))
 
 pub put-spec : {M : Type 1} → statement M

@@ -11,11 +11,19 @@ returns c = simp (not-true (c .before .before .args .self .ended) (c .if1 .taken
 
 returns-2 : tie.Need-returns-2
 unfolding first closeOf
-returns-2 c = simp (not-false (c .before .before .before .before .args .self .ended) (c .before .before .if1 .left), not-true (c .before .before .before .before .args .self .taken) (c .if2 .taken))
+returns-2 c =
+    simp (
+      not-false (c .before .before .before .before .args .self .ended) (c .before .before .if1 .left),
+      not-true (c .before .before .before .before .args .self .taken) (c .if2 .taken),
+    )
 
 returns-3 : tie.Need-returns-3
 unfolding first closeOf
-returns-3 c = simp (not-false (c .before .before .before .before .args .self .ended) (c .before .before .if1 .left), not-false (c .before .before .before .before .args .self .taken) (c .if2 .left))
+returns-3 c =
+    simp (
+      not-false (c .before .before .before .before .args .self .ended) (c .before .before .if1 .left),
+      not-false (c .before .before .before .before .args .self .taken) (c .if2 .left),
+    )
 
 pub close-spec : {M : Type 1} → statement M
 close-spec = tie.close (tie.spec returns returns-2 returns-3)

@@ -1,14 +1,46 @@
 -- `data` meets its contract: one lemma for each way out.
-use mathlib.Core.Path.{_≡_}
-use Prim.Native.Nat.{_+_, _-_}
-use mathlib.Core.Path.{sym, _∙_}
+use Prim.Native.Nat.{ℕ, _+_, _<_, _≤_, _-_}
+use mathlib.Core.Path.{_≡_, sym, _∙_}
+use mathlib.Core.Bool.{true, false}
+use mathlib.Core.List.{List}
+use borrow.Author.Tests.{lt-ltb, le-ltb}
+use Rattle.basis.specs.Refusals.{refused, given, first}
+use Rattle.image.specs.Record.{count, payload}
+use Rattle.image.specs.Flash.{stored, copyOf}
+use Rattle.runs.specs.Map.{nameAllOf}
+use Rattle.basis.specs.Choice.{any}
+use Rattle.image.specs.Hex.{hex, settledAs, settled, place, namedBefore, dataIn}
+use Rattle.image.specs.declared.hex.Hex.{Hex}
 use native.Mathlib.Omega.{arith}
-use Rattle.image.specs.Record.{count}
-use Rattle.image.proofs.Records.{data-none, data-high, data-twice, data-given}
 use borrow.Author.Needs.{needs}
+use Rattle.basis.specs.Board.{flashSize}
 use Rattle.image.proofs.hex.Hex.data.Statement.{statement}
 use Rattle.image.proofs.hex.Hex.data.Tie as tie
-use Rattle.basis.specs.Board.{flashSize}
+
+-- the ways out, each by the table
+module _ (size : ℕ) (h : Hex) (b image map : List ℕ) where
+  data-none : count b ≡ 0 → settledAs (given h) image map ≡ settled (dataIn size h b image map) image map
+  unfolding first dataIn any nameAllOf stored
+  data-none e = rw e
+
+  module _ (some : 0 < count b) where
+    data-high : size < place h b + count b
+        → settledAs (refused 29) image map ≡ settled (dataIn size h b image map) image map
+    unfolding first dataIn
+    data-high e = simp (lt-ltb _ _ some, lt-ltb _ _ e)
+
+    module _ (fits : place h b + count b ≤ size) where
+      data-twice : namedBefore h b map ≡ true
+          → settledAs (refused 30) image map ≡ settled (dataIn size h b image map) image map
+      unfolding first dataIn
+      data-twice e = simp (lt-ltb _ _ some, le-ltb _ _ fits, e)
+
+      data-given : (i m : List ℕ) → namedBefore h b map ≡ false → i ≡ copyOf image (place h b) (payload b)
+          → m ≡ nameAllOf map (place h b) (count b)
+          → settledAs (given (hex (h .linear) (h .segment) (h .ended) true)) i m
+          ≡ settled (dataIn size h b image map) image map
+      unfolding first dataIn
+      data-given i m e ei em = simp (lt-ltb _ _ some, le-ltb _ _ fits, e, ei, em)
 
 shared-slice-read-wide : tie.Need-shared-slice-read-wide
 shared-slice-read-wide c = search needs
@@ -50,8 +82,14 @@ add-if2 : tie.Need-add-if2
 add-if2 c = search needs
 
 returns-2 : tie.Need-returns-2
-returns-2 c = let b = c .before .before .before .before .before .before .before .before .before .before .before .before .args .bytes .now in
-    data-high flashSize _ b _ _ (omega (arith, c .before .before .before .before .before .before .before .wide .ensures .0, c .before .before .before .before .before .before .if1 .left)) (omega (arith, c .before .before .before .before .before .before .before .wide .ensures .0, c .before .word .ensures, c .if2 .taken))
+returns-2 c =
+    let if1 = c .before .before .before .before .before .before .if1 in
+    let wide = c .before .before .before .before .before .before .before .wide in
+    let p = c .before .before .before .before .before .before .before .before .before .before .before .before in
+    let args = p .args in
+    let b = args .bytes .now in
+    data-high flashSize _ b _ _ (omega (arith, wide .ensures .0, if1 .left))
+    (omega (arith, wide .ensures .0, c .before .word .ensures, c .if2 .taken))
 
 cast-any-named : tie.Need-cast-any-named
 cast-any-named c = search needs
@@ -66,8 +104,16 @@ same-length : tie.Need-same-length
 same-length c = search needs
 
 returns-3 : tie.Need-returns-3
-returns-3 c = let b = c .before .before .before .before .before .before .before .before .before .before .before .before .before .before .before .args .bytes .now in
-    data-twice flashSize _ b _ _ (omega (arith, c .before .before .before .before .before .before .before .before .before .before .wide .ensures .0, c .before .before .before .before .before .before .before .before .before .if1 .left)) (omega (arith, c .before .before .before .before .before .before .before .before .before .before .wide .ensures .0, c .before .before .before .before .word .ensures, c .before .before .before .if2 .left)) (rw (← c .before .before .before .before .before .before .before .before .before .before .wide .ensures .0, ← c .before .before .before .before .word .ensures) (sym (c .before .any-named .ensures) ∙ c .if3 .taken))
+returns-3 c =
+    let word = c .before .before .before .before .word in
+    let p = c .before .before .before .before .before .before .before .before .before in
+    let if1 = p .if1 in
+    let wide = p .before .wide in
+    let args = p .before .before .before .before .before .before .args in
+    let b = args .bytes .now in
+    data-twice flashSize _ b _ _ (omega (arith, wide .ensures .0, if1 .left))
+    (omega (arith, wide .ensures .0, word .ensures, c .before .before .before .if2 .left))
+    (rw (← wide .ensures .0, ← word .ensures) (sym (c .before .any-named .ensures) ∙ c .if3 .taken))
 
 add-end : tie.Need-add-end
 add-end c = search needs
@@ -97,9 +143,24 @@ same-length-3 : tie.Need-same-length-3
 same-length-3 c = search needs
 
 returns-4 : tie.Need-returns-4
-returns-4 c = let b = c .before .before .before .before .before .before .before .before .before .before .before .before .before .before .before .before .before .before .before .before .before .before .before .before .args .bytes .now in
-    let size : 4 + c .before .before .before .before .before .before .before .before .before .before .before .before .before .before .before .before .before .before .before .wide .result - 4 ≡ count b = omega (arith, c .before .before .before .before .before .before .before .before .before .before .before .before .before .before .before .before .before .before .before .wide .ensures .0) in
-    data-given flashSize _ b _ _ (omega (arith, c .before .before .before .before .before .before .before .before .before .before .before .before .before .before .before .before .before .before .before .wide .ensures .0, c .before .before .before .before .before .before .before .before .before .before .before .before .before .before .before .before .before .before .if1 .left)) (omega (arith, c .before .before .before .before .before .before .before .before .before .before .before .before .before .before .before .before .before .before .before .wide .ensures .0, c .before .before .before .before .before .before .before .before .before .before .before .before .before .word .ensures, c .before .before .before .before .before .before .before .before .before .before .before .before .if2 .left)) _ _ (rw (← c .before .before .before .before .before .before .before .before .before .before .before .before .before .before .before .before .before .before .before .wide .ensures .0, ← c .before .before .before .before .before .before .before .before .before .before .before .before .before .word .ensures) (sym (c .before .before .before .before .before .before .before .before .before .before .any-named .ensures) ∙ c .before .before .before .before .before .before .before .before .before .if3 .left)) (c .before .before .before .before .before .before .copy .ensures ∙ rw (size, c .before .before .before .before .before .before .before .before .before .before .before .before .before .word .ensures)) (c .before .before .name-all .ensures ∙ rw (c .before .before .before .before .before .before .before .before .before .before .before .before .before .before .before .before .before .before .before .wide .ensures .0, c .before .before .before .before .before .before .before .before .before .before .before .before .before .word .ensures))
+returns-4 c =
+    let copy = c .before .before .before .before .before .before .copy in
+    let p = c .before .before .before .before .before .before .before .before .before in
+    let if3 = p .if3 in
+    let any-named = p .before .any-named in
+    let if2 = p .before .before .before .if2 in
+    let word = p .before .before .before .before .word in
+    let q = p .before .before .before .before .before .before .before .before .before in
+    let if1 = q .if1 in
+    let wide = q .before .wide in
+    let args = q .before .before .before .before .before .before .args in
+    let b = args .bytes .now in
+    let size : 4 + wide .result - 4 ≡ count b = omega (arith, wide .ensures .0) in
+    data-given flashSize _ b _ _ (omega (arith, wide .ensures .0, if1 .left))
+    (omega (arith, wide .ensures .0, word .ensures, if2 .left)) _ _
+    (rw (← wide .ensures .0, ← word .ensures) (sym (any-named .ensures) ∙ if3 .left))
+    (copy .ensures ∙ rw (size, word .ensures))
+    (c .before .before .name-all .ensures ∙ rw (wide .ensures .0, word .ensures))
 
 pub data-spec : {M : Type 1} → statement M
 data-spec =

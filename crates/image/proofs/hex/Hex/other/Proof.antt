@@ -16,7 +16,12 @@ shared-slice-read-word : tie.Need-shared-slice-read-word
 shared-slice-read-word c = search needs
 
 shared-slice-read-word-2 : tie.Need-shared-slice-read-word-2
-shared-slice-read-word-2 c = omega (arith, shape-count (c .before .before .before .before .before .args .bytes .now) (c .before .before .before .before .before .pre .1) (c .before .before .before .before .before .pre .2) (c .before .before .if1 .left), c .before .before .before .before .before .pre .0)
+shared-slice-read-word-2 c =
+    omega (
+      arith,
+      shape-count (c .before .before .before .before .before .args .bytes .now) (c .before .before .before .before .before .pre .1) (c .before .before .before .before .before .pre .2) (c .before .before .if1 .left),
+      c .before .before .before .before .before .pre .0,
+    )
 
 word-requires : tie.Need-word-requires
 word-requires c κs = search needs
@@ -28,16 +33,32 @@ mul-self : tie.Need-mul-self
 mul-self c = search needs
 
 returns-2 : tie.Need-returns-2
-returns-2 c = simp (ne-eqb _ _ (c .before .before .before .before .if1 .left), eq-eqb _ _ (c .if2 .taken), c .before .word .ensures)
+returns-2 c =
+    simp (
+      ne-eqb _ _ (c .before .before .before .before .if1 .left),
+      eq-eqb _ _ (c .if2 .taken),
+      c .before .word .ensures,
+    )
 
 mul-self-2 : tie.Need-mul-self-2
 mul-self-2 c = search needs
 
 returns-3 : tie.Need-returns-3
-returns-3 c = simp (ne-eqb _ _ (c .before .before .before .before .before .if1 .left), ne-eqb _ _ (c .before .if2 .left), eq-eqb _ _ (c .if3 .taken), c .before .before .word .ensures)
+returns-3 c =
+    simp (
+      ne-eqb _ _ (c .before .before .before .before .before .if1 .left),
+      ne-eqb _ _ (c .before .if2 .left),
+      eq-eqb _ _ (c .if3 .taken),
+      c .before .before .word .ensures,
+    )
 
 returns-4 : tie.Need-returns-4
-returns-4 c = simp (ne-eqb _ _ (c .before .before .before .before .before .if1 .left), ne-eqb _ _ (c .before .if2 .left), ne-eqb _ _ (c .if3 .left))
+returns-4 c =
+    simp (
+      ne-eqb _ _ (c .before .before .before .before .before .if1 .left),
+      ne-eqb _ _ (c .before .if2 .left),
+      ne-eqb _ _ (c .if3 .left),
+    )
 
 pub other-spec : {M : Type 1} → statement M
 other-spec =

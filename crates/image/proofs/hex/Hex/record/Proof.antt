@@ -16,7 +16,8 @@ returns-2 c = simp (eq-eqb _ _ (c .before .if1 .left), ne-eqb _ _ (c .if2 .taken
 
 returns-3 : tie.Need-returns-3
 unfolding first recordIn
-returns-3 c = simp (eq-eqb _ _ (c .before .before .if1 .left), eq-eqb _ _ (c .before .if2 .left), c .if3 .taken)
+returns-3 c =
+    simp (eq-eqb _ _ (c .before .before .if1 .left), eq-eqb _ _ (c .before .if2 .left), c .if3 .taken)
 
 slice-aggregate-take : tie.Need-slice-aggregate-take
 slice-aggregate-take c = search needs

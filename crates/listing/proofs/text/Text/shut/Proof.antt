@@ -1,7 +1,7 @@
 -- `shut` meets its contract: what closing the reader says.
 use mathlib.Core.Path.{sym, ap, _∙_}
 use borrow.Author.Needs.{needs}
-use Rattle.image.specs.Hex.{paperRead}
+use Rattle.image.specs.Paper.{paperRead}
 use Rattle.listing.proofs.Texts.{shut-by}
 use Rattle.listing.proofs.text.Text.shut.Statement.{statement}
 use Rattle.listing.proofs.text.Text.shut.Tie as tie

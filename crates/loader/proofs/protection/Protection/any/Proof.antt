@@ -4,8 +4,8 @@ use mathlib.Core.Path.{_≡_, refl, sym, _∙_}
 use native.Mathlib.Omega.{arith}
 use borrow.Author.Needs.{needs}
 use borrow.Author.Tests.{eq-eqb, ne-eqb}
+use Rattle.basis.specs.Laws.Choice.{any-here, any-on, any-end}
 use Rattle.loader.specs.Protection.{anyOf}
-use Rattle.loader.proofs.Turns.{any-here, any-on, any-end}
 use Rattle.loader.proofs.protection.Protection.any.Statement.{statement}
 use Rattle.loader.proofs.protection.Protection.any.Tie as tie
 

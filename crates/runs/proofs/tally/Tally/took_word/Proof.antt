@@ -1,5 +1,5 @@
 -- `took_word` meets its contract: each run of a word starts a piece, but for one that goes on from before.
-use Prim.Native.Nat.{ℕ, _-_}
+use Prim.Native.Nat.{ℕ, _-_, _^_}
 use mathlib.Core.Path.{_≡_, ap, _∙_}
 use native.Mathlib.Omega.{arith}
 use borrow.Author.Needs.{needs}
@@ -20,11 +20,11 @@ took-whole-requires c κs = search needs
 returns-2 : tie.Need-returns-2
 returns-2 c =
     let g = c .before .before .before .args in
-    let e : 18446744073709551615 ≡ g .word = omega arith in
+    let e : 2 ^ 64 - 1 ≡ g .word = omega arith in
     c .took-whole .ensures ∙ ap (λ (w : ℕ). tookBits (g .cap) (g .self) w 64) e
 
 joins-requires : tie.Need-joins-requires
-joins-requires c κs = omega (arith, trailing-le 64 (18446744073709551615 - c .before .before .args .word))
+joins-requires c κs = omega (arith, trailing-le 64 (2 ^ 64 - 1 - c .before .before .args .word))
 
 add-t11 : tie.Need-add-t11
 add-t11 c = omega (arith, ones-le 64 (c .before .before .before .before .args .word) (omega arith))

@@ -7,8 +7,8 @@ use Rattle.runs.specs.Map.{named}
 use Rattle.runs.specs.Pieces.{pieceMost}
 use Rattle.runs.specs.Tally.{tallyAt}
 use Rattle.runs.proofs.Tallies.{tally-again, tally-le}
-use Rattle.runs.proofs.passes.over_places.Statement.{statement}
-use Rattle.runs.proofs.passes.over_places.Tie as tie
+use Rattle.runs.proofs.walks.over_places.Statement.{statement}
+use Rattle.runs.proofs.walks.over_places.Tie as tie
 
 abbrev Inv-loop : tie.InvT-loop
 Inv-loop map end t₀ at₀ t at = (at ≤ end) × (t ≡ tallyAt (named map) pieceMost at)

@@ -9,8 +9,8 @@ use Rattle.runs.specs.Pieces.{pieceMost}
 use Rattle.runs.specs.Tally.{tallyAt}
 use Rattle.runs.proofs.Tallies.{tally-le}
 use Rattle.runs.proofs.WordBits.{word-again}
-use Rattle.runs.proofs.passes.over_words.Statement.{statement}
-use Rattle.runs.proofs.passes.over_words.Tie as tie
+use Rattle.runs.proofs.walks.over_words.Statement.{statement}
+use Rattle.runs.proofs.walks.over_words.Tie as tie
 
 abbrev Inv-loop : tie.InvT-loop
 Inv-loop map from to t₀ i₀ t i = (i ≤ to) × (t ≡ tallyAt (named map) pieceMost (64 * i))

@@ -1,4 +1,4 @@
-// Passes over the map: word by word, place by place, and page by page. The bounds keep the counts in 32 bits.
+// Walks over the map: word by word, place by place, and page by page. The bounds keep the counts in 32 bits.
 ghost use mathlib.Core.Path.{_≡_};
 ghost use Prim.Native.Nat.{_+_, _*_, _^_, _<_, _≤_};
 ghost use lib.ListN.{length};
@@ -6,7 +6,7 @@ ghost use Rattle.basis.specs.Units.{startOf};
 ghost use Rattle.runs.specs.Map.{named};
 ghost use Rattle.runs.specs.Pieces.{pieceMost};
 ghost use Rattle.runs.specs.Tally.{tallyAt};
-ghost use Rattle.runs.specs.Survey.{passAt};
+ghost use Rattle.runs.specs.Survey.{talliesAt};
 use crate::map::named;
 use crate::places::PIECE;
 use crate::tally::Tally;
@@ -15,15 +15,18 @@ use basis::board::PAGES;
 use basis::units::Address;
 use basis::units::Page;
 
-// What a pass has met of the named bytes and of the touched pages.
-pub struct Pass {
+// What a walk has met of the named bytes and of the touched pages.
+pub struct Tallies {
     pub bytes: Tally,
     pub pages: Tally,
 }
 
 // From the tally of the words below `from` to that of the words below `to`.
 pub fn over_words(map: &[u8], tally: Tally, from: usize, to: usize) -> Tally
-    requires { ⌜ (from ≤ to) × (8 * to ≤ length (now map)) × (to < 2 ^ 24) × (tally ≡ tallyAt (named (now map)) pieceMost (64 * from)) ⌝ }
+    requires { ⌜
+        (from ≤ to) × (8 * to ≤ length (now map)) × (to < 2 ^ 24)
+        × (tally ≡ tallyAt (named (now map)) pieceMost (64 * from))
+        ⌝ }
     ensures { λ r. ⌜ r ≡ tallyAt (named (now (map .entry))) pieceMost (64 * to) ⌝ }
 {
     let mut t = tally;
@@ -37,7 +40,10 @@ pub fn over_words(map: &[u8], tally: Tally, from: usize, to: usize) -> Tally
 
 // From the tally of the addresses below `from` to that of the addresses below `to`.
 pub fn over_places(map: &[u8], tally: Tally, from: Address, to: Address) -> Tally
-    requires { ⌜ (from .0 ≤ to .0) × (to .0 ≤ 8 * length (now map)) × (to .0 < 2 ^ 30) × (tally ≡ tallyAt (named (now map)) pieceMost (from .0)) ⌝ }
+    requires { ⌜
+        (from .0 ≤ to .0) × (to .0 ≤ 8 * length (now map)) × (to .0 < 2 ^ 30)
+        × (tally ≡ tallyAt (named (now map)) pieceMost (from .0))
+        ⌝ }
     ensures { λ r. ⌜ r ≡ tallyAt (named (now (map .entry))) pieceMost (to .0) ⌝ }
 {
     let end = to.0;
@@ -50,21 +56,25 @@ pub fn over_places(map: &[u8], tally: Tally, from: Address, to: Address) -> Tall
     t
 }
 
-// From what a pass has met below the page `from` to what it has met below the page `to`.
-pub fn over_pages(map: &[u8], pass: Pass, from: Page, to: Page) -> Pass
-    requires { ⌜ (from .0 ≤ to .0) × (startOf (to .0) ≤ 8 * length (now map)) × (to .0 < 2 ^ 16) × (pass ≡ passAt (now map) (from .0)) ⌝ }
-    ensures { λ r. ⌜ r ≡ passAt (now (map .entry)) (to .0) ⌝ }
+// From what a walk has met below the page `from` to what it has met below the page `to`.
+pub fn over_pages(map: &[u8], met: Tallies, from: Page, to: Page) -> Tallies
+    requires { ⌜
+        (from .0 ≤ to .0) × (startOf (to .0) ≤ 8 * length (now map)) × (to .0 < 2 ^ 16)
+        × (met ≡ talliesAt (now map) (from .0))
+        ⌝ }
+    ensures { λ r. ⌜ r ≡ talliesAt (now (map .entry)) (to .0) ⌝ }
 {
-    let mut bytes = pass.bytes;
-    let mut pages = pass.pages;
+    let mut bytes = met.bytes;
+    let mut pages = met.pages;
     let end = to.0;
     let mut page = from.0;
     while page < end {
+        // Eight words to a page.
         let first = 8 * (page as usize);
         let next = over_words(map, bytes, first, first + 8);
         pages = pages.took(bytes.passed < next.passed, PAGES);
         bytes = next;
         page += 1;
     }
-    Pass { bytes, pages }
+    Tallies { bytes, pages }
 }

@@ -8,12 +8,12 @@ use Rattle.basis.specs.Units.{startOf}
 use Rattle.runs.specs.Map.{named}
 use Rattle.runs.specs.Pages.{touched}
 use Rattle.runs.specs.Pieces.{pieceMost}
-use Rattle.runs.specs.Survey.{passAt}
+use Rattle.runs.specs.Survey.{talliesAt}
 use Rattle.runs.specs.Tally.{tallyAt}
-use Rattle.runs.proofs.Surveys.{pass-bytes, pass-pages, pass-of}
+use Rattle.runs.proofs.Surveys.{tallies-bytes, tallies-pages, tallies-of}
 use Rattle.runs.proofs.Tallies.{tally-again, tally-le, tallies-touched}
-use Rattle.runs.proofs.passes.over_pages.Statement.{statement}
-use Rattle.runs.proofs.passes.over_pages.Tie as tie
+use Rattle.runs.proofs.walks.over_pages.Statement.{statement}
+use Rattle.runs.proofs.walks.over_pages.Tie as tie
 
 abbrev Inv-loop : tie.InvT-loop
 Inv-loop map bytes₀ pages₀ end page₀ bytes pages page = (page ≤ end) × (bytes ≡ tallyAt (named map) pieceMost (startOf page)) × (pages ≡ tallyAt (touched map) Board.pages page)
@@ -24,7 +24,7 @@ abbrev μ-loop : tie.MeasureT-loop
 loop-holds : tie.Need-loop-holds Inv-loop μ-loop
 loop-holds c =
     let pre = c .before .before .before .pre in
-    (search needs, pass-bytes _ _ (pre .3), pass-pages _ _ (pre .3))
+    (search needs, tallies-bytes _ _ (pre .3), tallies-pages _ _ (pre .3))
 
 cast-first : tie.Need-cast-first Inv-loop μ-loop
 cast-first c = search needs
@@ -67,7 +67,7 @@ returns c =
     let g = c .before .before .before .before .before .args in
     let l = c .before .loop in
     let e : l .page ≡ g .to .0 = omega arith in
-    pass-of _ _ (l .inv .1) (l .inv .2) ∙ ap (passAt (g .map .now)) e
+    tallies-of _ _ (l .inv .1) (l .inv .2) ∙ ap (talliesAt (g .map .now)) e
 
 pub over-pages-spec : {M : Type 1} → statement M
 over-pages-spec =
