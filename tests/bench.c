@@ -119,7 +119,7 @@ static gremolunde_session session_at(uint32_t piece, uint32_t pieces, uint32_t a
     return session;
 }
 
-/* Step k of so many; an odd factor brings every piece in turn. */
+/* Step k of so many; a factor that shares no divisor with the pieces brings every piece in turn, two steps of W, two of V. */
 static uint64_t step_spread(uint64_t k, uint32_t pieces, uint32_t apart) {
     static const uint8_t ack[] = {ACK};
     gremolunde_session session = session_at((uint32_t)(k * 12289 % pieces), pieces, apart, (k & 2) != 0);

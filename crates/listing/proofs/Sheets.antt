@@ -1,4 +1,4 @@
--- A page as it is written: what is left, from here, gives what was to be given.
+-- A sheet as it is written: what is left, from here, gives what was to be given.
 use Prim.Native.Nat.{ℕ, _+_, _-_, _*_, _≤_, _<_}
 use mathlib.Core.List.{List, [], _++_}
 use mathlib.Core.Path.{_≡_, refl, sym, ap, _∙_}
@@ -22,7 +22,7 @@ use Rattle.packet.specs.Packet.{packetMost}
 abbrev pub left : List ℕ → List ℕ → ℕ → Listing → Sheet
 left image m room l = sheetOf room (l .listed) (drop (l .listed) (plan image m RunKind.Reset))
 
--- page g was to be written into old; the buffer holds it up to `at`, and h is left
+-- sheet g was to be written into old; the buffer holds it up to `at`, and h is left
 pub record Writing (g : Sheet) (old buffer : List ℕ) (at : ℕ) (h : Sheet) : Type 0 where
   pub same : length buffer ≡ length old
   pub inside : at ≤ length buffer

@@ -90,7 +90,7 @@ abbrev pub Keeps : ℕ → Progress → List ℕ → List ℕ → Progress → L
 Keeps size p line bytes q kept n =
     (n ≤ length bytes - 1) × ((image map : List ℕ) → fed q kept image map ≡ feedOf size (fed p line image map) (take n bytes))
 
--- the line behind the last 0A, as it stands
+-- the line after the last 0A, as it stands
 unfoldable pub lastOf : ℕ → Text → List ℕ → List ℕ → List ℕ → Fed
 lastOf size t line image map =
     pick (eqb (t .len) 0) (fed (going t) line image map) (tookLine size t (take (t .len) line) line image map)

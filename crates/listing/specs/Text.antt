@@ -12,7 +12,7 @@ use Rattle.image.specs.declared.hex.Hex.{Hex}
 unfoldable pub trimmedOf : List ℕ → List ℕ
 trimmedOf l = pick (eqb (getD l (length l - 1) 0) 0x0D) (take (length l - 1) l) l
 
--- the lines of a text, behind an open line: a line ends at 0A, and nothing after the last 0A is no line
+-- the lines of a text that follows an open line: a line ends at 0A, and nothing after the last 0A is no line
 unfoldable pub linesFrom : List ℕ → List ℕ → List (List ℕ)
 linesFrom l [] = pick (eqb (length l) 0) [] (l ∷ [])
 linesFrom l (b ∷ t) = pick (eqb b 0x0A) (trimmedOf l ∷ linesFrom [] t) (linesFrom (l ++ (b ∷ [])) t)
@@ -49,6 +49,6 @@ readFrom size n [] f = result (shutBy (closeOf (f .reader))) (f .image) (f .map)
 readFrom size n (l ∷ ls) f =
     onward (n + 1) (f .image) (f .map) (recordIn size (f .reader) l (f .image) (f .map)) (readFrom size (n + 1) ls)
 
--- a whole text, into an image and a map of the right size
+-- a whole text: 20 where image or map has another size, else line by line
 unfoldable pub readIn : ℕ → List ℕ → List ℕ → List ℕ → Result
 readIn size t image map = onward 0 image map (startIn size image map) (readFrom size 0 (textLines t))

@@ -37,6 +37,6 @@ fn record_line(x: Record, buffer: &mut [u8]) -> usize
     let acknowledged = field(buffer, outcome, b" ACKED ", x.acknowledged as u64);
     let total = field(buffer, acknowledged, b" TOTAL ", x.total as u64);
     let end = field(buffer, total, b" BYTES ", x.bytes as u64);
-    buffer[end] = 0x0A;
+    buffer[end] = b'\n';
     end + 1
 }

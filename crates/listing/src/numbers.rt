@@ -14,11 +14,11 @@ pub fn decimal(buffer: &mut [u8], at: usize, n: u64) -> usize
     ensures buffer { λ _. ⌜ now (buffer .exit) ≡ copyOf (now (buffer .entry)) at (decimalOf n) ⌝ }
 {
     if n < 10 {
-        buffer[at] = 48 + n as u8;
+        buffer[at] = b'0' + n as u8;
         return at + 1;
     }
     let end = decimal(buffer, at, n / 10);
-    buffer[end] = 48 + (n % 10) as u8;
+    buffer[end] = b'0' + (n % 10) as u8;
     end + 1
 }
 

@@ -40,7 +40,7 @@ pub enum Begun {
     Refused(Refusal),
 }
 
-// The listing behind what was written, and how much that is.
+// The listing after what was written, and how much that is.
 pub struct Sheet {
     pub listing: Listing,
     pub len: usize,
@@ -55,17 +55,18 @@ impl Listing {
         Listing::start_with(image, map, &mut packet)
     }
 
+    // The packet's buffer is lent from a function of its own: its 259 bytes would stand in every fact of this one.
     fn start_with(image: &[u8], map: &[u8], packet: &mut [u8]) -> Begun
         ensures { λ r. ⌜ paperBegun r ≡ listingBy (now (map .entry)) (started (now (image .entry)) (now (map .entry)) (length (now (packet .entry))) RunKind.Reset) ⌝ }
     {
         match Session::start(RunKind::Reset, image, map, packet) {
-            Stepped::Next(next) => Begun::Listing(Listing::first(map, next.session)),
+            Stepped::Next(next) => Begun::Listing(Listing::opening(map, next.session)),
             Stepped::Refused(x) => Begun::Refused(x),
         }
     }
 
     // Nothing is listed; the first packet is the one that follows the greeting.
-    fn first(map: &[u8], session: Session) -> Listing
+    fn opening(map: &[u8], session: Session) -> Listing
         requires { ⌜ (length (now map) ≡ mapSize) × (0 < namedCount (now map)) × (session .total ≡ total (now map)) ⌝ }
         ensures { λ r. ⌜ r ≡ listingAt (now (map .entry)) 0 ⌝ }
     {
@@ -109,6 +110,7 @@ impl Listing {
         self.line_with(image, map, &mut packet, buffer, at)
     }
 
+    // As `start_with`: the packet's buffer is lent.
     fn line_with(
         self,
         image: &[u8],
@@ -151,7 +153,7 @@ pub fn total_line(buffer: &mut [u8], total: u32) -> usize
     ensures { λ r. ⌜ (r ≡ length (totalLine total)) × (now (buffer .exit) ≡ overlay (totalLine total) (now (buffer .entry))) ⌝ }
 {
     let end = field(buffer, 0, b"TOTAL ", total as u64);
-    buffer[end] = 0x0A;
+    buffer[end] = b'\n';
     end + 1
 }
 
@@ -165,16 +167,16 @@ fn step_line(buffer: &mut [u8], at: usize, step: u64, packet: &[u8]) -> usize
 {
     let end = decimal(buffer, at, step);
     buffer[end] = b' ';
-    buffer[end + 1] = letter(packet);
+    buffer[end + 1] = command_letter(packet);
     buffer[end + 2] = b' ';
     spell(buffer, end + 3, packet);
     let last = end + 3 + 2 * packet.len();
-    buffer[last] = 0x0A;
+    buffer[last] = b'\n';
     last + 1
 }
 
 // The command is the packet's fourth byte.
-fn letter(packet: &[u8]) -> u8
+fn command_letter(packet: &[u8]) -> u8
     ensures { λ r. ⌜ r ≡ getD (now (packet .entry)) 3 0 ⌝ }
 {
     if packet.len() <= 3 {

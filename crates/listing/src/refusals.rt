@@ -18,7 +18,7 @@ pub fn refusal_at(buffer: &mut [u8], line: u64, refusal: Refusal) -> usize
 {
     let first = field(buffer, 0, b"REFUSED ", line);
     let end = field(buffer, first, b" ", refusal.number() as u64);
-    buffer[end] = 0x0A;
+    buffer[end] = b'\n';
     end + 1
 }
 
@@ -31,6 +31,6 @@ pub fn refusal_line(buffer: &mut [u8], number: u64) -> usize
         ⌝ }
 {
     let end = field(buffer, 0, b"REFUSED ", number);
-    buffer[end] = 0x0A;
+    buffer[end] = b'\n';
     end + 1
 }

@@ -93,7 +93,7 @@ impl Reading {
         }
     }
 
-    // The text has ended: what stands behind the last 0A is a line as it stands, and the reader is closed.
+    // The text has ended: what stands after the last 0A is a line as it stands, and the reader is closed.
     pub fn close(self, line: &[u8], image: &mut [u8], map: &mut [u8]) -> Reading
         ensures { λ r. ⌜ fed (paperReading r) (now (line .entry)) (now (image .exit)) (now (map .exit)) ≡ closeOf flashSize (fed (paperReading self) (now (line .entry)) (now (image .entry)) (now (map .entry))) ⌝ }
     {
@@ -169,7 +169,7 @@ impl Text {
         })
     }
 
-    // What stands behind the last 0A; nothing is no line.
+    // What stands after the last 0A; nothing is no line.
     fn last(self, line: &[u8], image: &mut [u8], map: &mut [u8]) -> Reading
         ensures { λ r. ⌜ fed (paperReading r) (now (line .entry)) (now (image .exit)) (now (map .exit)) ≡ lastOf flashSize self (now (line .entry)) (now (image .entry)) (now (map .entry)) ⌝ }
     {
@@ -188,6 +188,7 @@ impl Text {
             ⌝ }
     {
         let hex = self.hex;
+        // no text has 2^64 lines
         let at = std::num::wrapping_add_u64(self.lines, 1);
         match hex.record(line, image, map) {
             Read::Taken(next) => Reading::Open(Text {

@@ -25,10 +25,12 @@ fn run(input: &mut [u8], line: &mut [u8])
         io::write_all(STDERR_FILENO, b"readlog: standard input cannot be read\n");
         return;
     };
+    // never: what is read lies in the buffer
     if input.len() < n {
         return;
     }
     let len = log_line(&input[..n], line);
+    // never: the line lies in its buffer
     if line.len() < len {
         return;
     }

@@ -1,4 +1,5 @@
--- The log record: length 0x0008, version 01, outcome, packets acknowledged, packet total, named bytes (two bytes each), big-endian.
+-- The log record, big-endian: length 0x0008, version 01, outcome, packets acknowledged, packet total, named bytes
+-- (two bytes each).
 use Prim.Native.Nat.{ℕ, _+_, _*_, _/_, _%_}
 use mathlib.Core.Bool.{Bool, not}
 use mathlib.Core.List.{List, [], _∷_}
@@ -17,8 +18,9 @@ use Rattle.service_log.specs.declared.read.Record.{Record}
 abbrev pub known : ℕ → Bool
 known o = either (eqb o 0) (both (leb 40 o) (leb o 43))
 
--- a false record: outcome unknown, total under 4, bytes 0 or above 63,488, acknowledged above total,
--- outcome 0 unless acknowledged equals total and the reverse, outcome 42 with any acknowledged
+-- a false record, of outcome o, with k of t packets acknowledged and n bytes: outcome unknown, total under 4, bytes 0 or
+-- above 63,488, acknowledged above total, outcome 0 unless acknowledged equals total and the reverse (the `pick`),
+-- outcome 42 with any acknowledged
 unfoldable pub isFalseOf : ℕ → ℕ → ℕ → ℕ → Bool
 isFalseOf o k t n =
     either (not (known o))
@@ -45,12 +47,13 @@ twoBytes x = ltb x 65536
 abbrev pub fitTwo : ℕ → ℕ → ℕ → Bool
 fitTwo k t n = both (twoBytes k) (both (twoBytes t) (twoBytes n))
 
--- the ten bytes
+-- the ten bytes of outcome o, with k of t packets acknowledged and n bytes
 abbrev pub recordBytes : ℕ → ℕ → ℕ → ℕ → List ℕ
 recordBytes o k t n =
     0x00 ∷ 0x08 ∷ 0x01 ∷ o ∷ k / 256 % 256 ∷ k % 256 ∷ t / 256 % 256 ∷ t % 256 ∷ n / 256 % 256 ∷ n % 256 ∷ []
 
--- writing a session into a buffer of so many bytes: 45 for one that is unfinished, or whose counts do not fit, or would read as 53; then 20
+-- writing a session into a buffer of so many bytes: 45 for one that is unfinished, or whose counts do not fit, or
+-- would read as 53; then 20
 unfoldable pub writeOf : ℕ → Session → Answer (List ℕ)
 writeOf room s =
     first
@@ -66,9 +69,17 @@ pairAt s i = getD s i 0 * 256 + getD s (i + 1) 0
 
 -- what an input says
 abbrev pub recordAt : List ℕ → Record
-recordAt s = record { version = getD s 2 0; outcome = getD s 3 0; acknowledged = pairAt s 4; total = pairAt s 6; bytes = pairAt s 8 }
+recordAt s =
+    record {
+      version = getD s 2 0;
+      outcome = getD s 3 0;
+      acknowledged = pairAt s 4;
+      total = pairAt s 6;
+      bytes = pairAt s 8;
+    }
 
--- reading: 50 under 10 bytes, 51 length field other than 8 or input longer than 10 bytes, 52 version, 53 a false record
+-- reading: 50 under 10 bytes, 51 length field other than 8 or input longer than 10 bytes, 52 version,
+-- 53 a false record
 unfoldable pub readOf : List ℕ → Answer Record
 readOf s =
     first

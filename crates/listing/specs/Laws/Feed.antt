@@ -22,7 +22,7 @@ module _ (size : ℕ) where
   feed-append s [] b = refl
   feed-append s (x ∷ a) b = feed-append (byteOf size s x) a b
 
-  -- a stretch of a text and the byte behind it
+  -- a stretch of a text and the byte after it
   pub feed-next : (s q r : Fed) (t u : List ℕ) (i n : ℕ) → i < length t → u ≡ drop i t → n ≤ length u - 1 → q ≡ feedOf size s (take n u) → r ≡ byteOf size q (getD t (i + n) 0) → feedOf size r (drop (i + n + 1) t) ≡ feedOf size s (drop i t)
   unfolding feedOf
   feed-next s q r t u i n h d k e f =

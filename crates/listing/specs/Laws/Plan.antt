@@ -1,4 +1,4 @@
--- Laws of a plan's listing: it goes along the plan, and its pages are the plan's lines.
+-- Laws of a plan's listing: it goes along the plan, and its sheets are the plan's lines.
 use Prim.Native.Nat.{ℕ, zero, suc, _+_, _-_, _≤_, _<_}
 use mathlib.Core.Bool.{true, not}
 use mathlib.Core.List.{List, [], _∷_, _++_, append-assoc}
@@ -29,7 +29,7 @@ use Rattle.session.specs.declared.phase.RunKind.{RunKind}
 use Rattle.session.specs.declared.session.Next.{Next}
 use Rattle.session.specs.declared.session.Session.{Session}
 use Rattle.listing.specs.Lines.{headLine, stepLine, totalLine}
-use Rattle.listing.specs.Plan.{stepLines, planText, packetAt, phaseBehind, listingAt, Listed, listingBy, longestLine, Sheet, sheet, behind, sheetOf, sheets}
+use Rattle.listing.specs.Plan.{stepLines, planText, packetAt, phaseAfter, listingAt, Listed, listingBy, longestLine, Sheet, sheet, followedBy, sheetOf, sheets}
 use Rattle.listing.specs.declared.plan.Listing.{Listing}
 
 -- ---- along the plan
@@ -39,7 +39,7 @@ module _ (m : List ℕ) (long : length m ≡ mapRoom) (some : 0 < namedCount m) 
   unfolding tookOf
   took-phase n = rw (phase-later m n Event.Ack)
 
-  phase-after : (n : ℕ) → n < total m → afterOf m (phaseAt m n) ≡ phaseBehind m (n + 1)
+  phase-after : (n : ℕ) → n < total m → afterOf m (phaseAt m n) ≡ phaseAfter m (n + 1)
   phase-after n h =
       sym (took-phase n)
       ∙ decide (ltb (n + 1) (total m))
@@ -74,7 +74,7 @@ module _ (image m : List ℕ) (l : Listing) (h : Listed image m l) where
 
     pub listed-next : (ph : Phase) → ph ≡ afterOf m (l .phase) → record { phase = ph; listed = l .listed + 1; total = l .total } ≡ listingAt m (l .listed + 1)
     listed-next ph e =
-        let f : ph ≡ phaseBehind m (l .listed + 1) = e ∙ ap (afterOf m) listed-phase ∙ phase-after m (h .mapSize) (h .some) (l .listed) listed-below in
+        let f : ph ≡ phaseAfter m (l .listed + 1) = e ∙ ap (afterOf m) listed-phase ∙ phase-after m (h .mapSize) (h .some) (l .listed) listed-below in
         λ i. record { phase = f i; listed = l .listed + 1; total = listed-total i }
 
     pub next-listed : (x : Listing) → x ≡ listingAt m (l .listed + 1) → Listed image m x
@@ -122,7 +122,7 @@ start-refused image m room k e = go (started image m room RunKind.Reset) e
     go (refused n) e = ap refused (refused-one e)
     go (given x) e = absurd (apart (e))
 
--- ---- pages
+-- ---- sheets
 
 module _ (room n : ℕ) where
   pub sheet-end : sheetOf room n [] ≡ sheet [] n
@@ -134,33 +134,33 @@ module _ (room n : ℕ) where
   sheet-full [] h = refl
   sheet-full (p ∷ ps) h = rw (lt-ltb room longestLine h)
 
-  pub sheet-line : (p : List ℕ) (ps : List (List ℕ)) → longestLine ≤ room → sheetOf room n (p ∷ ps) ≡ behind (stepLine (n + 1) p) (sheetOf (room - length (stepLine (n + 1) p)) (n + 1) ps)
+  pub sheet-line : (p : List ℕ) (ps : List (List ℕ)) → longestLine ≤ room → sheetOf room n (p ∷ ps) ≡ followedBy (stepLine (n + 1) p) (sheetOf (room - length (stepLine (n + 1) p)) (n + 1) ps)
   unfolding sheetOf
   sheet-line p ps h = rw (le-ltb room longestLine h)
 
--- a page lists packets, at least one where there is room, and no more than are left
-pub page-from : (room n : ℕ) (ps : List (List ℕ)) → n ≤ sheetOf room n ps .listed
+-- a sheet lists packets, at least one where there is room, and no more than are left
+pub sheet-from : (room n : ℕ) (ps : List (List ℕ)) → n ≤ sheetOf room n ps .listed
 unfolding sheetOf
-page-from room n [] = omega arith
-page-from room n (p ∷ ps) =
+sheet-from room n [] = omega arith
+sheet-from room n (p ∷ ps) =
     decide (ltb room longestLine)
     (λ t. rw t (omega arith))
-    (λ t. rw t (omega (arith, page-from (room - length (stepLine (n + 1) p)) (n + 1) ps)))
+    (λ t. rw t (omega (arith, sheet-from (room - length (stepLine (n + 1) p)) (n + 1) ps)))
 
-pub page-moves : (room n : ℕ) (ps : List (List ℕ)) → longestLine ≤ room → 0 < length ps → n < sheetOf room n ps .listed
-page-moves room n [] h l = absurd (omega arith)
-page-moves room n (p ∷ ps) h l =
-    rw (sheet-line room n p ps h) (omega (arith, page-from (room - length (stepLine (n + 1) p)) (n + 1) ps))
+pub sheet-moves : (room n : ℕ) (ps : List (List ℕ)) → longestLine ≤ room → 0 < length ps → n < sheetOf room n ps .listed
+sheet-moves room n [] h l = absurd (omega arith)
+sheet-moves room n (p ∷ ps) h l =
+    rw (sheet-line room n p ps h) (omega (arith, sheet-from (room - length (stepLine (n + 1) p)) (n + 1) ps))
 
-pub page-within : (room n : ℕ) (ps : List (List ℕ)) → sheetOf room n ps .listed ≤ n + length ps
+pub sheet-within : (room n : ℕ) (ps : List (List ℕ)) → sheetOf room n ps .listed ≤ n + length ps
 unfolding sheetOf
-page-within room n [] = omega arith
-page-within room n (p ∷ ps) =
+sheet-within room n [] = omega arith
+sheet-within room n (p ∷ ps) =
     decide (ltb room longestLine)
     (λ t. rw t (omega arith))
-    (λ t. rw t (omega (arith, page-within (room - length (stepLine (n + 1) p)) (n + 1) ps)))
+    (λ t. rw t (omega (arith, sheet-within (room - length (stepLine (n + 1) p)) (n + 1) ps)))
 
--- pages one after another are the plan's lines: each is followed by the lines of the packets behind it
+-- sheets one after another are the plan's lines: each is followed by the lines of the packets after it
 pub sheet-text : (room n : ℕ) (ps : List (List ℕ)) → stepLines n ps ≡ sheetOf room n ps .text ++ stepLines (sheetOf room n ps .listed) (drop (sheetOf room n ps .listed - n) ps)
 unfolding sheetOf stepLines
 sheet-text room n [] = sym (ap (stepLines n) (drop-nil (n - n)))
@@ -169,29 +169,29 @@ sheet-text room n (p ∷ ps) =
     decide (ltb room longestLine)
     (λ t. rw (t, z))
     (λ t. let g : Sheet = sheetOf (room - length (stepLine (n + 1) p)) (n + 1) ps in
-    let k : g .listed - n ≡ suc (g .listed - (n + 1)) = omega (arith, page-from (room - length (stepLine (n + 1) p)) (n + 1) ps) in
+    let k : g .listed - n ≡ suc (g .listed - (n + 1)) = omega (arith, sheet-from (room - length (stepLine (n + 1) p)) (n + 1) ps) in
     rw (t, k, append-assoc) (ap (λ (s : List ℕ). stepLine (n + 1) p ++ s) (sheet-text (room - length (stepLine (n + 1) p)) (n + 1) ps)))
 
-pages-text : (k room n : ℕ) (ps : List (List ℕ)) → longestLine ≤ room → length ps ≤ k → sheets k room n ps ≡ stepLines n ps
+sheets-text : (k room n : ℕ) (ps : List (List ℕ)) → longestLine ≤ room → length ps ≤ k → sheets k room n ps ≡ stepLines n ps
 unfolding sheets stepLines
-pages-text zero room n [] h l = refl
-pages-text zero room n (p ∷ ps) h l = absurd (omega arith)
-pages-text (suc k) room n ps h l =
+sheets-text zero room n [] h l = refl
+sheets-text zero room n (p ∷ ps) h l = absurd (omega arith)
+sheets-text (suc k) room n ps h l =
     let g : Sheet = sheetOf room n ps in
     let f : length (drop (g .listed - n) ps) ≤ k = fewer ps l in
-    ap (λ (s : List ℕ). g .text ++ s) (pages-text k room (g .listed) (drop (g .listed - n) ps) h f) ∙ sym (sheet-text room n ps)
+    ap (λ (s : List ℕ). g .text ++ s) (sheets-text k room (g .listed) (drop (g .listed - n) ps) h f) ∙ sym (sheet-text room n ps)
   where
     fewer : (ps : List (List ℕ)) → length ps ≤ suc k → length (drop (sheetOf room n ps .listed - n) ps) ≤ k
     fewer [] l = rw drop-nil (omega arith)
     fewer (p ∷ ps) l =
-        let m = page-moves room n (p ∷ ps) h (omega arith) in
+        let m = sheet-moves room n (p ∷ ps) h (omega arith) in
         omega (arith, length-drop (sheetOf room n (p ∷ ps) .listed - n) (p ∷ ps))
 
--- head line, pages and total line are the plan's text
+-- head line, sheets and total line are the plan's text
 pub plan-sheets : (image m : List ℕ) (room : ℕ) → longestLine ≤ room → headLine ++ (sheets (total m) room 0 (plan image m RunKind.Reset) ++ totalLine (total m)) ≡ planText image m
 unfolding planText
 plan-sheets image m room h =
-    ap (λ (s : List ℕ). headLine ++ (s ++ totalLine (total m))) (pages-text (total m) room 0 (plan image m RunKind.Reset) h (omega (arith, plan-length image m RunKind.Reset)))
+    ap (λ (s : List ℕ). headLine ++ (s ++ totalLine (total m))) (sheets-text (total m) room 0 (plan image m RunKind.Reset) h (omega (arith, plan-length image m RunKind.Reset)))
 
 -- ---- a listing goes on
 
@@ -205,12 +205,12 @@ module _ (image m : List ℕ) (l : Listing) (h : Listed image m l) (room : ℕ) 
   pub sheet-listed : Listed image m x
   sheet-listed =
       let n : x .listed ≡ sheetOf room (l .listed) rest .listed = ap (λ (y : Listing). y .listed) e in
-      record { imageSize = h .imageSize; mapSize = h .mapSize; some = h .some; stands = e ∙ ap (listingAt m) (sym n); within = omega (arith, page-within room (l .listed) rest, rest-length) }
+      record { imageSize = h .imageSize; mapSize = h .mapSize; some = h .some; stands = e ∙ ap (listingAt m) (sym n); within = omega (arith, sheet-within room (l .listed) rest, rest-length) }
 
-  pub page-falls : longestLine ≤ room → l .listed < l .total → x .total - x .listed < l .total - l .listed
-  page-falls r s =
+  pub sheet-falls : longestLine ≤ room → l .listed < l .total → x .total - x .listed < l .total - l .listed
+  sheet-falls r s =
       let n : x .listed ≡ sheetOf room (l .listed) rest .listed = ap (λ (y : Listing). y .listed) e in
-      omega (arith, n, ap (λ (y : Listing). y .total) e, listed-total image m l h, page-moves room (l .listed) rest r (omega (arith, rest-length, listed-total image m l h)), page-within room (l .listed) rest, rest-length)
+      omega (arith, n, ap (λ (y : Listing). y .total) e, listed-total image m l h, sheet-moves room (l .listed) rest r (omega (arith, rest-length, listed-total image m l h)), sheet-within room (l .listed) rest, rest-length)
 
 -- what a start that is not refused gives
 pub begun-listed : (image m : List ℕ) (room : ℕ) (l : Listing) → given l ≡ listingBy m (started image m room RunKind.Reset) → Listed image m l

@@ -13,8 +13,8 @@ decimal-requires c κs = omega (arith, decimal-most (c .before .before .before .
 slice-write-buffer : tie.Need-slice-write-buffer
 slice-write-buffer c = omega (arith, decimal-most (c .before .before .before .before .before .before .args .step) (c .before .before .before .before .before .before .fits .step .fits), c .before .before .decimal .ensures .0, c .before .before .decimal .kept .0, c .before .before .before .before .before .before .pre)
 
-letter-requires : tie.Need-letter-requires
-letter-requires c κs = search needs
+command-letter-requires : tie.Need-command-letter-requires
+command-letter-requires c κs = search needs
 
 add-buffer : tie.Need-add-buffer
 add-buffer c = omega (arith, decimal-most (c .before .before .before .before .before .before .before .args .step) (c .before .before .before .before .before .before .before .fits .step .fits), c .before .before .before .decimal .ensures .0, c .before .before .before .decimal .kept .0, c .before .before .before .before .before .before .before .pre)
@@ -53,7 +53,7 @@ same-length : tie.Need-same-length
 same-length c = simp length-set (omega (arith, decimal-most (c .before .before .before .before .before .before .before .before .before .before .before .args .step) (c .before .before .before .before .before .before .before .before .before .before .before .fits .step .fits), c .before .before .before .before .before .before .before .decimal .ensures .0, c .before .before .before .before .before .before .before .decimal .kept .0, simp length-set at (c .before .before .spell .kept .0), c .before .before .before .before .before .before .before .before .before .before .before .pre))
 
 returns : tie.Need-returns
-returns c = step-put _ _ _ _ (decimal-most (c .before .before .before .before .before .before .before .before .before .before .before .args .step) (c .before .before .before .before .before .before .before .before .before .before .before .fits .step .fits)) _ _ _ _ (c .before .before .before .before .before .before .before .decimal .ensures) (c .before .before .before .before .letter .ensures) (c .before .before .spell .ensures)
+returns c = step-put _ _ _ _ (decimal-most (c .before .before .before .before .before .before .before .before .before .before .before .args .step) (c .before .before .before .before .before .before .before .before .before .before .before .fits .step .fits)) _ _ _ _ (c .before .before .before .before .before .before .before .decimal .ensures) (c .before .before .before .before .command-letter .ensures) (c .before .before .spell .ensures)
 
 pub step-line-spec : {M : Type 1} → statement M
 step-line-spec =
@@ -61,7 +61,7 @@ step-line-spec =
     (tie.spec
     decimal-requires
     slice-write-buffer
-    letter-requires
+    command-letter-requires
     add-buffer
     slice-write-buffer-2
     add-buffer-2

@@ -1,4 +1,4 @@
--- `page` meets its contract: what is left to write, from here, gives what was to be given.
+-- `sheet` meets its contract: what is left to write, from here, gives what was to be given.
 use Prim.Native.Nat.{_-_}
 use native.Mathlib.Omega.{arith}
 use lib.ListN.{length}

@@ -13,8 +13,8 @@ start-requires c κs = search needs
 enum-known-next : tie.Need-enum-known-next
 enum-known-next c = search needs
 
-first-requires : tie.Need-first-requires
-first-requires c κs = let a = c .before .before .before .before .before .before .before .before .before .before .args in
+opening-requires : tie.Need-opening-requires
+opening-requires c κs = let a = c .before .before .before .before .before .before .before .before .before .before .args in
     let s = starts (a .image .now) (a .map .now) _ (c .before .next .given .0 .0) (sym (ap paperStepped (c .before .next .given .1)) ∙ c .before .before .before .before .before .start .ensures .0) in (s .mapSize, s .some, s .counted)
 
 enum-known-x : tie.Need-enum-known-x
@@ -25,7 +25,7 @@ same-length c = search needs
 
 returns : tie.Need-returns
 returns c = let a = c .before .before .before .before .before .before .before .before .before .before .before .args in
-    let s = starts (a .image .now) (a .map .now) _ (c .before .before .next .given .0 .0) (sym (ap paperStepped (c .before .before .next .given .1)) ∙ c .before .before .before .before .before .before .start .ensures .0) in ap given (c .first .ensures) ∙ sym (s .begun)
+    let s = starts (a .image .now) (a .map .now) _ (c .before .before .next .given .0 .0) (sym (ap paperStepped (c .before .before .next .given .1)) ∙ c .before .before .before .before .before .before .start .ensures .0) in ap given (c .opening .ensures) ∙ sym (s .begun)
 
 same-length-2 : tie.Need-same-length-2
 same-length-2 c = search needs
@@ -39,7 +39,7 @@ start-with-spec =
     (tie.spec
     start-requires
     enum-known-next
-    first-requires
+    opening-requires
     enum-known-x
     same-length
     returns

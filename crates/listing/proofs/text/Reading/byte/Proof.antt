@@ -1,6 +1,5 @@
 -- `byte` meets its contract: an open text takes the byte, a refusal stays.
 use borrow.Author.Needs.{needs}
-use Rattle.listing.specs.declared.text.Reading.{Reading}
 use Rattle.listing.proofs.Texts.{byte-open, byte-refused}
 use Rattle.listing.proofs.text.Reading.byte.Statement.{statement}
 use Rattle.listing.proofs.text.Reading.byte.Tie as tie

@@ -1,6 +1,5 @@
 -- `close` meets its contract: the last line is taken, then the reader is closed; a refusal stays.
 use borrow.Author.Needs.{needs}
-use Rattle.listing.specs.declared.text.Reading.{Reading}
 use Rattle.listing.proofs.Texts.{close-open, close-refused}
 use Rattle.listing.proofs.text.Reading.close.Statement.{statement}
 use Rattle.listing.proofs.text.Reading.close.Tie as tie
