@@ -2,8 +2,9 @@
 ghost use mathlib.Core.Path.{_≡_};
 ghost use lib.ListN.{length};
 ghost use Rattle.basis.specs.Lists.{overlay};
-ghost use Rattle.gremolunde.specs.Answers.{noSession, steppedAnswer, markAnswer, outcomeAnswer};
+ghost use Rattle.gremolunde.specs.Answers.{noSession, steppedAnswer, markAnswer};
 ghost use Rattle.gremolunde.specs.States.{isSet, runMeant, sessionMeant};
+ghost use Rattle.service_log.specs.Log.{outcomeIn};
 ghost use Rattle.session.specs.Events.{classifyOf};
 ghost use Rattle.session.specs.Paper.{paperStepped, paperMark};
 ghost use Rattle.session.specs.Session.{measured, sentBytes, started, stepOf, provedOf};
@@ -12,7 +13,7 @@ use crate::states::run_meant;
 use crate::states::session_meant;
 use crate::states::session_shown;
 use basis::units::Address;
-use session::phase::Phase;
+use service_log::write::outcome_in;
 use session::session::Mark;
 use session::session::Session;
 use session::session::Stepped;
@@ -135,22 +136,9 @@ fn marked(answer: Mark) -> SessionMark
 // 0 valid, 40 to 43, or 45 where the session is unfinished.
 #[no_mangle]
 pub extern "C" fn gremolunde_session_outcome(session: SessionState) -> u32
-    ensures { λ r. ⌜ r ≡ outcomeAnswer (sessionMeant session .phase) ⌝ }
+    ensures { λ r. ⌜ r ≡ outcomeIn (sessionMeant session .phase) ⌝ }
 {
     let meant = session_meant(session);
     let phase = meant.phase;
-    outcome(phase)
-}
-
-fn outcome(phase: Phase) -> u32
-    ensures { λ r. ⌜ r ≡ outcomeAnswer phase ⌝ }
-{
-    match phase {
-        Phase::Greeting => 45,
-        Phase::Erase(_) => 45,
-        Phase::Write(_) => 45,
-        Phase::Verify(_) => 45,
-        Phase::Run => 45,
-        Phase::Ended(reached) => reached.number() as u32,
-    }
+    outcome_in(phase) as u32
 }

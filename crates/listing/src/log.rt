@@ -21,10 +21,7 @@ pub fn log_line(input: &[u8], buffer: &mut [u8]) -> usize
 {
     match read(input) {
         Reading::Record(x) => record_line(x, buffer),
-        Reading::Short => refusal_line(buffer, 50),
-        Reading::Length => refusal_line(buffer, 51),
-        Reading::Version => refusal_line(buffer, 52),
-        Reading::False => refusal_line(buffer, 53),
+        Reading::Refused(why) => refusal_line(buffer, why.number() as u64),
     }
 }
 

@@ -32,13 +32,13 @@ isFalseOf o k t n =
     (either (eqb k t)
     (both (eqb o 42) (ltb 0 k))))))))
 
--- the outcome of a session that has ended; no record holds what stands for the others
+-- how a session ended: 0 valid, 40 to 43; 45, which no record holds, for one that is unfinished
 abbrev pub outcomeIn : Phase → ℕ
-outcomeIn Phase.Greeting = 0
-outcomeIn (Phase.Erase p) = 0
-outcomeIn (Phase.Write a) = 0
-outcomeIn (Phase.Verify a) = 0
-outcomeIn Phase.Run = 0
+outcomeIn Phase.Greeting = 45
+outcomeIn (Phase.Erase p) = 45
+outcomeIn (Phase.Write a) = 45
+outcomeIn (Phase.Verify a) = 45
+outcomeIn Phase.Run = 45
 outcomeIn (Phase.Ended o) = paperOutcome o
 
 abbrev pub twoBytes : ℕ → Bool
