@@ -11,7 +11,7 @@ use Rattle.image.specs.Flash.{stored, new, copyOf}
 use Rattle.image.specs.Laws.Flash.{stored-append, copy-overlay}
 use Rattle.image.specs.Laws.Writer.{length-spelt}
 use Rattle.image.specs.Writer.{spelt}
-use Rattle.listing.specs.Lines.{closed, field, refusedWord, refusalAt, stepLine, logLine}
+use Rattle.listing.specs.Lines.{lineEnd, field, refusedWord, refusalAt, stepLine, logLine}
 use Rattle.service_log.specs.declared.read.Record.{Record}
 use Rattle.listing.specs.Numbers.{digit, decimalOf}
 use Rattle.listing.specs.Laws.Numbers.{decimal-one, decimal-more}
@@ -71,10 +71,10 @@ module _ (old : List ℕ) where
       (omega (arith, length-append s t, p .0, f .0), f .1 .0 ∙ copy-then old 0 s t c e (omega (arith, p .0)) (p .1))
 
   -- closed by 0A
-  pub put-closed : (s c : List ℕ) (e : ℕ) → Put old s c e → e < length old → (e + 1 ≡ length (s ++ closed)) × (set c e 0x0A ≡ overlay (s ++ closed) old)
+  pub put-closed : (s c : List ℕ) (e : ℕ) → Put old s c e → e < length old → (e + 1 ≡ length (s ++ lineEnd)) × (set c e 0x0A ≡ overlay (s ++ lineEnd) old)
   put-closed s c e p h =
-      let l = length-append s closed in
-      (omega (arith, p .0), copy-last old 0 s c e 0x0A (omega (arith, p .0)) (p .1) ∙ copy-overlay [] old (s ++ closed) 0 refl (omega (arith, p .0)))
+      let l = length-append s lineEnd in
+      (omega (arith, p .0), copy-last old 0 s c e 0x0A (omega (arith, p .0)) (p .1) ∙ copy-overlay [] old (s ++ lineEnd) 0 refl (omega (arith, p .0)))
 
 -- ---- a step's line
 
@@ -95,7 +95,7 @@ module _ (b p : List ℕ) (at n : ℕ) (few : length (decimalOf n) ≤ 20) where
   unfolding stepLine
   step-put c d e k f ek ed =
       let l = step-length in
-      let t : List ℕ = spelt p ++ closed in
+      let t : List ℕ = spelt p ++ lineEnd in
       let x : List ℕ = set (set (set c e 0x20) (e + 1) k) (e + 2) 0x20 in
       let q : e + 3 + 2 * length p ≡ e + 3 + length (spelt p) = omega (arith, length-spelt p) in
       (omega (arith, f .0), copy-last x (e + 3) (spelt p) d (e + 3 + 2 * length p) 0x0A q ed ∙ sym (copy-three c e 0x20 k 0x20 t) ∙ ap (λ (y : ℕ). copyOf c e (0x20 ∷ y ∷ 0x20 ∷ t)) ek ∙ copy-then b at (decimalOf n) (0x20 ∷ getD p 3 0 ∷ 0x20 ∷ t) c e (f .0) (f .1), omega arith)
@@ -107,19 +107,19 @@ abbrev pub Field : List ℕ → ℕ → List ℕ → List ℕ → ℕ → ℕ �
 Field c e s d k r = (k ≡ e + length s) × ((d ≡ copyOf c e s) × (k ≤ r))
 
 module _ (old u v b1 b2 : List ℕ) (e1 e2 r1 r2 : ℕ) (f1 : Field old 0 u b1 e1 r1) (f2 : Field b1 e1 v b2 e2 r2) where
-  refused-is : (n k : ℕ) → u ≡ field refusedWord n → v ≡ field (0x20 ∷ []) k → u ++ (v ++ closed) ≡ refusalAt n k
+  refused-is : (n k : ℕ) → u ≡ field refusedWord n → v ≡ field (0x20 ∷ []) k → u ++ (v ++ lineEnd) ≡ refusalAt n k
   unfolding refusalAt
-  refused-is n k eu ev = ap (λ (s : List ℕ). s ++ (v ++ closed)) eu ∙ ap (λ (s : List ℕ). field refusedWord n ++ (s ++ closed)) ev
+  refused-is n k eu ev = ap (λ (s : List ℕ). s ++ (v ++ lineEnd)) eu ∙ ap (λ (s : List ℕ). field refusedWord n ++ (s ++ lineEnd)) ev
 
   two : Put old (u ++ v) b2 e2
   two = put-next old u v b1 b2 e1 e2 r2 (put-first old u b1 e1 r1 f1) f2
 
-  two-fields : e2 < length old → (e2 + 1 ≡ length (u ++ (v ++ closed))) × (set b2 e2 0x0A ≡ overlay (u ++ (v ++ closed)) old)
-  two-fields h = rw (append-assoc u v closed) at (put-closed old (u ++ v) b2 e2 two h)
+  two-fields : e2 < length old → (e2 + 1 ≡ length (u ++ (v ++ lineEnd))) × (set b2 e2 0x0A ≡ overlay (u ++ (v ++ lineEnd)) old)
+  two-fields h = rw (append-assoc u v lineEnd) at (put-closed old (u ++ v) b2 e2 two h)
 
   pub refused-put : (n k q : ℕ) → u ≡ field refusedWord n → v ≡ field (0x20 ∷ []) q → q ≡ k → e2 < length old → (e2 + 1 ≡ length (refusalAt n k)) × (set b2 e2 0x0A ≡ overlay (refusalAt n k) old)
   refused-put n k q eu ev eq h =
-      let e : u ++ (v ++ closed) ≡ refusalAt n k = refused-is n k eu (ev ∙ ap (field (0x20 ∷ [])) eq) in
+      let e : u ++ (v ++ lineEnd) ≡ refusalAt n k = refused-is n k eu (ev ∙ ap (field (0x20 ∷ [])) eq) in
       (two-fields h .0 ∙ ap length e, two-fields h .1 ∙ ap (λ (s : List ℕ). overlay s old) e)
 
   module _ (w x y b3 b4 b5 : List ℕ) (e3 e4 e5 r3 r4 r5 : ℕ) (f3 : Field b2 e2 w b3 e3 r3) (f4 : Field b3 e3 x b4 e4 r4) (f5 : Field b4 e4 y b5 e5 r5) where
@@ -128,9 +128,9 @@ module _ (old u v b1 b2 : List ℕ) (e1 e2 r1 r2 : ℕ) (f1 : Field old 0 u b1 e
         put-next old (((u ++ v) ++ w) ++ x) y b4 b5 e4 e5 r5
         (put-next old ((u ++ v) ++ w) x b3 b4 e3 e4 r4 (put-next old (u ++ v) w b2 b3 e2 e3 r3 two f3) f4) f5
 
-    pub five-fields : e5 < length old → (e5 + 1 ≡ length (u ++ (v ++ (w ++ (x ++ (y ++ closed)))))) × (set b5 e5 0x0A ≡ overlay (u ++ (v ++ (w ++ (x ++ (y ++ closed))))) old)
+    pub five-fields : e5 < length old → (e5 + 1 ≡ length (u ++ (v ++ (w ++ (x ++ (y ++ lineEnd)))))) × (set b5 e5 0x0A ≡ overlay (u ++ (v ++ (w ++ (x ++ (y ++ lineEnd))))) old)
     five-fields h =
-        let e : ((((u ++ v) ++ w) ++ x) ++ y) ++ closed ≡ u ++ (v ++ (w ++ (x ++ (y ++ closed)))) = simp append-assoc in
+        let e : ((((u ++ v) ++ w) ++ x) ++ y) ++ lineEnd ≡ u ++ (v ++ (w ++ (x ++ (y ++ lineEnd)))) = simp append-assoc in
         rw e at (put-closed old ((((u ++ v) ++ w) ++ x) ++ y) b5 e5 five h)
 
 -- the line of what was read

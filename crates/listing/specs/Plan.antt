@@ -4,8 +4,7 @@ use mathlib.Core.List.{List, [], _∷_, _++_}
 use mathlib.Core.Path.{_≡_}
 use lib.Dec.{ltb}
 use lib.ListN.{length, drop}
-use Rattle.basis.specs.Board.{flashSize}
-use Rattle.basis.specs.Board.{mapSize as mapRoom}
+use Rattle.basis.specs.Board.{flashSize, mapSize}
 use Rattle.basis.specs.Choice.{pick}
 use Rattle.basis.specs.Refusals.{Answer, refused, given}
 use Rattle.runs.specs.Pieces.{namedCount}
@@ -44,8 +43,8 @@ listingAt m n = record { phase = phaseAfter m n; listed = n; total = total m }
 
 -- a listing of this file
 pub record Listed (image m : List ℕ) (l : Listing) : Type 0 where
-  pub imageSize : length image ≡ flashSize
-  pub mapSize : length m ≡ mapRoom
+  pub right : length image ≡ flashSize
+  pub long : length m ≡ mapSize
   pub some : 0 < namedCount m
   pub stands : l ≡ listingAt m (l .listed)
   pub within : l .listed ≤ total m

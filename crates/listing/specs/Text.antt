@@ -35,20 +35,20 @@ abbrev pub result : Verdict → List ℕ → List ℕ → Result
 result v image map = record { verdict = v; image = image; map = map }
 
 -- on with the file that a record gives, or refused at line n
-abbrev pub onward : ℕ → List ℕ → List ℕ → Answer File → (File → Result) → Result
-onward n image map (refused k) g = result (refusedAt n k) image map
-onward n image map (given f) g = g f
+abbrev pub unlessRefused : ℕ → List ℕ → List ℕ → Answer File → (File → Result) → Result
+unlessRefused n image map (refused k) g = result (refusedAt n k) image map
+unlessRefused n image map (given f) g = g f
 
-abbrev pub shutBy : Answer Hex → Verdict
-shutBy (refused k) = refusedAt 0 k
-shutBy (given h) = whole
+abbrev pub verdictBy : Answer Hex → Verdict
+verdictBy (refused k) = refusedAt 0 k
+verdictBy (given h) = whole
 
 -- records one after another, n before them; then closing
 unfoldable pub readFrom : ℕ → ℕ → List (List ℕ) → File → Result
-readFrom size n [] f = result (shutBy (closeOf (f .reader))) (f .image) (f .map)
+readFrom size n [] f = result (verdictBy (closeOf (f .reader))) (f .image) (f .map)
 readFrom size n (l ∷ ls) f =
-    onward (n + 1) (f .image) (f .map) (recordIn size (f .reader) l (f .image) (f .map)) (readFrom size (n + 1) ls)
+    unlessRefused (n + 1) (f .image) (f .map) (recordIn size (f .reader) l (f .image) (f .map)) (readFrom size (n + 1) ls)
 
 -- a whole text: 20 where image or map has another size, else line by line
 unfoldable pub readIn : ℕ → List ℕ → List ℕ → List ℕ → Result
-readIn size t image map = onward 0 image map (startIn size image map) (readFrom size 0 (textLines t))
+readIn size t image map = unlessRefused 0 image map (startIn size image map) (readFrom size 0 (textLines t))

@@ -5,7 +5,7 @@ ghost use lib.ListN.{length, set, take};
 ghost use Rattle.basis.specs.Board.{flashSize};
 ghost use Rattle.image.specs.Hex.{settled, startIn, recordIn};
 ghost use Rattle.listing.specs.Text.{result, trimmedOf, readIn};
-ghost use Rattle.listing.specs.Feed.{going, paperReading, paperEnded, endedOf, fed, begunBy, tookBy, keepOneOf, withKept, textByte, byteOf, feedOf, Keeps, lastOf, shutOf, closeOf};
+ghost use Rattle.listing.specs.Feed.{going, paperReading, paperEnded, endedOf, state, begunBy, tookBy, keepOneOf, withKept, textByte, byteOf, feedOf, Keeps, lastOf, shutOf, closeOf};
 use image::hex::Hex;
 use image::hex::Read;
 use image::record::Refusal;
@@ -58,7 +58,7 @@ impl Reading {
 
     // The next bytes of the text, as many as came. After a refusal they count for nothing.
     pub fn feed(self, bytes: &[u8], line: &mut [u8], image: &mut [u8], map: &mut [u8]) -> Reading
-        ensures { λ r. ⌜ fed (paperReading r) (now (line .exit)) (now (image .exit)) (now (map .exit)) ≡ feedOf flashSize (fed (paperReading self) (now (line .entry)) (now (image .entry)) (now (map .entry))) (now (bytes .entry)) ⌝ }
+        ensures { λ r. ⌜ state (paperReading r) (now (line .exit)) (now (image .exit)) (now (map .exit)) ≡ feedOf flashSize (state (paperReading self) (now (line .entry)) (now (image .entry)) (now (map .entry))) (now (bytes .entry)) ⌝ }
     {
         let mut reading = self;
         let mut i = 0;
@@ -85,7 +85,7 @@ impl Reading {
     }
 
     fn byte(self, b: u8, line: &mut [u8], image: &mut [u8], map: &mut [u8]) -> Reading
-        ensures { λ r. ⌜ fed (paperReading r) (now (line .exit)) (now (image .exit)) (now (map .exit)) ≡ byteOf flashSize (fed (paperReading self) (now (line .entry)) (now (image .entry)) (now (map .entry))) b ⌝ }
+        ensures { λ r. ⌜ state (paperReading r) (now (line .exit)) (now (image .exit)) (now (map .exit)) ≡ byteOf flashSize (state (paperReading self) (now (line .entry)) (now (image .entry)) (now (map .entry))) b ⌝ }
     {
         match self {
             Reading::Open(text) => text.byte(b, line, image, map),
@@ -95,7 +95,7 @@ impl Reading {
 
     // The text has ended: what stands after the last 0A is a line as it stands, and the reader is closed.
     pub fn close(self, line: &[u8], image: &mut [u8], map: &mut [u8]) -> Reading
-        ensures { λ r. ⌜ fed (paperReading r) (now (line .entry)) (now (image .exit)) (now (map .exit)) ≡ closeOf flashSize (fed (paperReading self) (now (line .entry)) (now (image .entry)) (now (map .entry))) ⌝ }
+        ensures { λ r. ⌜ state (paperReading r) (now (line .entry)) (now (image .exit)) (now (map .exit)) ≡ closeOf flashSize (state (paperReading self) (now (line .entry)) (now (image .entry)) (now (map .entry))) ⌝ }
     {
         match self {
             Reading::Open(text) => text.last(line, image, map).shut(),
@@ -155,7 +155,7 @@ impl Text {
     }
 
     fn byte(self, b: u8, line: &mut [u8], image: &mut [u8], map: &mut [u8]) -> Reading
-        ensures { λ r. ⌜ fed (paperReading r) (now (line .exit)) (now (image .exit)) (now (map .exit)) ≡ textByte flashSize self b (now (line .entry)) (now (image .entry)) (now (map .entry)) ⌝ }
+        ensures { λ r. ⌜ state (paperReading r) (now (line .exit)) (now (image .exit)) (now (map .exit)) ≡ textByte flashSize self b (now (line .entry)) (now (image .entry)) (now (map .entry)) ⌝ }
     {
         let n = self.len;
         if b == 0x0A {
@@ -171,7 +171,7 @@ impl Text {
 
     // What stands after the last 0A; nothing is no line.
     fn last(self, line: &[u8], image: &mut [u8], map: &mut [u8]) -> Reading
-        ensures { λ r. ⌜ fed (paperReading r) (now (line .entry)) (now (image .exit)) (now (map .exit)) ≡ lastOf flashSize self (now (line .entry)) (now (image .entry)) (now (map .entry)) ⌝ }
+        ensures { λ r. ⌜ state (paperReading r) (now (line .entry)) (now (image .exit)) (now (map .exit)) ≡ lastOf flashSize self (now (line .entry)) (now (image .entry)) (now (map .entry)) ⌝ }
     {
         let n = self.len;
         if n == 0 {

@@ -54,7 +54,7 @@ refusal-back NoData = refl
 apart-numbers : _≡_ {A = ℕ} 20 33 → ⊥
 apart-numbers e = omega arith
 
-refusal-one : (x y : Refusal) → paperRefusal x ≡ paperRefusal y → x ≡ y
+pub refusal-one : (x y : Refusal) → paperRefusal x ≡ paperRefusal y → x ≡ y
 refusal-one x y e = sym (refusal-back x) ∙ ap refusalBy e ∙ refusal-back y
 
 -- reading

@@ -8,7 +8,7 @@ use lib.ListN.{length, getD, set, take, drop, take-append-drop, length-drop, dro
 use lib.Seq.{drop-cons, drop-drop, take-suc, take-all}
 use borrow.Author.Tests.{eq-eqb, ne-eqb, lt-ltb, le-ltb}
 use Rattle.listing.specs.Text.{trimmedOf}
-use Rattle.listing.specs.Feed.{Fed, fed, going, withKept, keepOneOf, tookLine, textByte, byteOf, feedOf}
+use Rattle.listing.specs.Feed.{Fed, state, going, withKept, keepOneOf, tookLine, textByte, byteOf, feedOf}
 use Rattle.listing.specs.declared.text.Text.{Text}
 
 -- what is lent of a text from a place on
@@ -61,7 +61,7 @@ module _ (size : ℕ) where
     unfolding textByte
     byte-ends e = rw (eq-eqb b 0x0A e)
 
-    pub byte-kept : (b ≡ 0x0A → ⊥) → textByte size t b line image map ≡ fed (going (withKept t (keepOneOf (t .len) line))) (set line (t .len) b) image map
+    pub byte-kept : (b ≡ 0x0A → ⊥) → textByte size t b line image map ≡ state (going (withKept t (keepOneOf (t .len) line))) (set line (t .len) b) image map
     unfolding textByte
     byte-kept n = rw (ne-eqb b 0x0A n)
 

@@ -9,8 +9,7 @@ use borrow.Author.Tests.{lt-ltb, le-ltb, ltb-true, ltb-false, eqb-true, eqb-fals
 use lib.Dec.{eqb, ltb}
 use lib.ListN.{length, drop, length-drop, drop-of-length-le}
 use lib.Seq.{drop-cons, drop-nil}
-use Rattle.basis.specs.Board.{flashSize}
-use Rattle.basis.specs.Board.{mapSize as mapRoom}
+use Rattle.basis.specs.Board.{flashSize, mapSize}
 use Rattle.basis.specs.Laws.Choice.{decide}
 use Rattle.basis.specs.Laws.Refusals.{apart, given-one, refused-one}
 use Rattle.basis.specs.Refusals.{Answer, refused, given}
@@ -34,7 +33,7 @@ use Rattle.listing.specs.declared.plan.Listing.{Listing}
 
 -- ---- along the plan
 
-module _ (m : List ℕ) (long : length m ≡ mapRoom) (some : 0 < namedCount m) where
+module _ (m : List ℕ) (long : length m ≡ mapSize) (some : 0 < namedCount m) where
   took-phase : (n : ℕ) → tookOf m (stateAt m RunKind.Reset n) Event.Ack .phase ≡ afterOf m (phaseAt m n)
   unfolding tookOf
   took-phase n = rw (phase-later m n Event.Ack)
@@ -70,17 +69,17 @@ module _ (image m : List ℕ) (l : Listing) (h : Listed image m l) where
 
     pub listed-start : atStart m (l .phase) ≡ true
     listed-start =
-        ap (atStart m) listed-phase ∙ stands-start m (h .mapSize) (phaseAt m (l .listed)) (l .listed) (at-stands m (l .listed) listed-below)
+        ap (atStart m) listed-phase ∙ stands-start m (h .long) (phaseAt m (l .listed)) (l .listed) (at-stands m (l .listed) listed-below)
 
     pub listed-next : (ph : Phase) → ph ≡ afterOf m (l .phase) → record { phase = ph; listed = l .listed + 1; total = l .total } ≡ listingAt m (l .listed + 1)
     listed-next ph e =
-        let f : ph ≡ phaseAfter m (l .listed + 1) = e ∙ ap (afterOf m) listed-phase ∙ phase-after m (h .mapSize) (h .some) (l .listed) listed-below in
+        let f : ph ≡ phaseAfter m (l .listed + 1) = e ∙ ap (afterOf m) listed-phase ∙ phase-after m (h .long) (h .some) (l .listed) listed-below in
         λ i. record { phase = f i; listed = l .listed + 1; total = listed-total i }
 
     pub next-listed : (x : Listing) → x ≡ listingAt m (l .listed + 1) → Listed image m x
     next-listed x e =
         let n : x .listed ≡ l .listed + 1 = ap (λ (y : Listing). y .listed) e in
-        record { imageSize = h .imageSize; mapSize = h .mapSize; some = h .some; stands = e ∙ ap (listingAt m) (sym n); within = omega (arith, listed-below) }
+        record { right = h .right; long = h .long; some = h .some; stands = e ∙ ap (listingAt m) (sym n); within = omega (arith, listed-below) }
 
     -- and what is left of the plan begins with its packet
     pub listed-left : drop (l .listed) (plan image m RunKind.Reset) ≡ packetAt image m (l .listed) ∷ drop (l .listed + 1) (plan image m RunKind.Reset)
@@ -97,8 +96,8 @@ module _ (image m : List ℕ) (l : Listing) (h : Listed image m l) where
 
 -- what a session's start that is not refused shows
 pub record Starts (image m : List ℕ) (room : ℕ) (x : Next) : Type 0 where
-  pub imageSize : length image ≡ flashSize
-  pub mapSize : length m ≡ mapRoom
+  pub right : length image ≡ flashSize
+  pub long : length m ≡ mapSize
   pub some : 0 < namedCount m
   pub counted : x .session .total ≡ total m
   pub begun : listingBy m (started image m room RunKind.Reset) ≡ given (listingAt m 0)
@@ -112,7 +111,7 @@ starts image m room x e =
     (λ q. let n = eqb-false (namedCount m) 0 q in
     let g = start-given image m room RunKind.Reset t n in
     let y : x .session ≡ atGreeting m RunKind.Reset = ap (λ (v : Next). v .session) (given-one (e ∙ ap measured g)) in
-    record { imageSize = z .0; mapSize = z .1; some = omega arith; counted = ap (λ (v : Session). v .total) y; begun = ap (listingBy m) g }))
+    record { right = z .0; long = z .1; some = omega arith; counted = ap (λ (v : Session). v .total) y; begun = ap (listingBy m) g }))
     (λ t. absurd (apart (sym (e ∙ ap measured (start-size image m room RunKind.Reset t)))))
 
 pub start-refused : (image m : List ℕ) (room k : ℕ) → refused k ≡ measured (started image m room RunKind.Reset) → refused k ≡ listingBy m (started image m room RunKind.Reset)
@@ -205,7 +204,7 @@ module _ (image m : List ℕ) (l : Listing) (h : Listed image m l) (room : ℕ) 
   pub sheet-listed : Listed image m x
   sheet-listed =
       let n : x .listed ≡ sheetOf room (l .listed) rest .listed = ap (λ (y : Listing). y .listed) e in
-      record { imageSize = h .imageSize; mapSize = h .mapSize; some = h .some; stands = e ∙ ap (listingAt m) (sym n); within = omega (arith, sheet-within room (l .listed) rest, rest-length) }
+      record { right = h .right; long = h .long; some = h .some; stands = e ∙ ap (listingAt m) (sym n); within = omega (arith, sheet-within room (l .listed) rest, rest-length) }
 
   pub sheet-falls : longestLine ≤ room → l .listed < l .total → x .total - x .listed < l .total - l .listed
   sheet-falls r s =
@@ -222,4 +221,4 @@ begun-listed image m room l e = go (started image m room RunKind.Reset) refl e
         let s = starts image m room (record { session = y .session; len = length (y .packet) }) (sym (ap measured q)) in
         let n : l ≡ listingAt m 0 = given-one f in
         let z : l .listed ≡ 0 = ap (λ (x : Listing). x .listed) n in
-        record { imageSize = s .imageSize; mapSize = s .mapSize; some = s .some; stands = n ∙ ap (listingAt m) (sym z); within = omega (arith, z) }
+        record { right = s .right; long = s .long; some = s .some; stands = n ∙ ap (listingAt m) (sym z); within = omega (arith, z) }

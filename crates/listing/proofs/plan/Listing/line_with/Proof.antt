@@ -12,7 +12,7 @@ add-listed : tie.Need-add-listed
 add-listed c = search needs
 
 send-requires : tie.Need-send-requires
-send-requires c κs = (c .before .before .before .before .before .before .pre .0 .imageSize, c .before .before .before .before .before .before .pre .0 .mapSize, omega (arith, c .before .before .before .before .before .before .pre .2), listed-start (c .before .before .before .before .before .before .args .image .now) (c .before .before .before .before .before .before .args .map .now) (c .before .before .before .before .before .before .args .self) (c .before .before .before .before .before .before .pre .0) (c .before .before .before .before .before .before .pre .1))
+send-requires c κs = (c .before .before .before .before .before .before .pre .0 .right, c .before .before .before .before .before .before .pre .0 .long, omega (arith, c .before .before .before .before .before .before .pre .2), listed-start (c .before .before .before .before .before .before .args .image .now) (c .before .before .before .before .before .before .args .map .now) (c .before .before .before .before .before .before .args .self) (c .before .before .before .before .before .before .pre .0) (c .before .before .before .before .before .before .pre .1))
 
 cast-step-line : tie.Need-cast-step-line
 cast-step-line c = search needs
@@ -27,7 +27,7 @@ step-line-requires : tie.Need-step-line-requires
 step-line-requires c κs = omega (arith, packet-length (c .before .before .before .before .before .before .before .before .before .before .before .args .image .now) (c .before .before .before .before .before .before .before .before .before .before .before .args .map .now) (c .before .before .before .before .before .before .before .before .before .before .before .args .self) (c .before .before .before .before .before .before .before .before .before .before .before .pre .0) (c .before .before .before .before .before .before .before .before .before .before .before .pre .1) _ _ _ (c .before .before .before .before .before .before .before .before .before .before .before .pre .2) (c .before .before .before .before .send .kept .1 .1 .1 .1 .0) (c .before .before .before .before .send .ensures), c .before .before .before .before .before .before .before .before .before .before .before .pre .3)
 
 after-requires : tie.Need-after-requires
-after-requires c κs = (c .before .before .before .before .before .before .before .before .before .before .before .before .before .before .pre .0 .mapSize, listed-start (c .before .before .before .before .before .before .before .before .before .before .before .before .before .before .args .image .now) (c .before .before .before .before .before .before .before .before .before .before .before .before .before .before .args .map .now) (c .before .before .before .before .before .before .before .before .before .before .before .before .before .before .args .self) (c .before .before .before .before .before .before .before .before .before .before .before .before .before .before .pre .0) (c .before .before .before .before .before .before .before .before .before .before .before .before .before .before .pre .1))
+after-requires c κs = (c .before .before .before .before .before .before .before .before .before .before .before .before .before .before .pre .0 .long, listed-start (c .before .before .before .before .before .before .before .before .before .before .before .before .before .before .args .image .now) (c .before .before .before .before .before .before .before .before .before .before .before .before .before .before .args .map .now) (c .before .before .before .before .before .before .before .before .before .before .before .before .before .before .args .self) (c .before .before .before .before .before .before .before .before .before .before .before .before .before .before .pre .0) (c .before .before .before .before .before .before .before .before .before .before .before .before .before .before .pre .1))
 
 same-length : tie.Need-same-length
 same-length c = search needs

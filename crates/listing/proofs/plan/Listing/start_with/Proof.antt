@@ -15,7 +15,7 @@ enum-known-next c = search needs
 
 opening-requires : tie.Need-opening-requires
 opening-requires c κs = let a = c .before .before .before .before .before .before .before .before .before .before .args in
-    let s = starts (a .image .now) (a .map .now) _ (c .before .next .given .0 .0) (sym (ap paperStepped (c .before .next .given .1)) ∙ c .before .before .before .before .before .start .ensures .0) in (s .mapSize, s .some, s .counted)
+    let s = starts (a .image .now) (a .map .now) _ (c .before .next .given .0 .0) (sym (ap paperStepped (c .before .next .given .1)) ∙ c .before .before .before .before .before .start .ensures .0) in (s .long, s .some, s .counted)
 
 enum-known-x : tie.Need-enum-known-x
 enum-known-x c = search needs
