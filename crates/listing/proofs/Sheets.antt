@@ -3,7 +3,8 @@ use Prim.Native.Nat.{ℕ, _+_, _-_, _*_, _≤_, _<_}
 use mathlib.Core.List.{List, [], _++_}
 use mathlib.Core.Path.{_≡_, refl, sym, ap, _∙_}
 use native.Mathlib.Omega.{arith}
-use lib.ListN.{length, take, drop, length-append, length-take}
+use lib.ListN.{length, take, drop, length-append, length-take, length-drop}
+use lib.Seq.{take-at}
 use Rattle.basis.specs.Lists.{overlay}
 use Rattle.image.specs.Flash.{stored, copyOf}
 use Rattle.image.specs.Laws.Flash.{copy-overlay}
@@ -15,7 +16,7 @@ use Rattle.listing.specs.Lines.{stepLine}
 use Rattle.listing.specs.Plan.{packetAt, listingAt, Listed, longestLine, Sheet, sheet, sheetOf}
 use Rattle.listing.specs.Laws.Plan.{listed-phase, listed-next, listed-left, listed-end, next-listed, sheet-end, sheet-full, sheet-line}
 use Rattle.listing.specs.declared.plan.Listing.{Listing}
-use Rattle.listing.proofs.Buffers.{copy-then, overlay-fits, overlay-taken}
+use Rattle.listing.proofs.Buffers.{copy-then}
 use Rattle.packet.specs.Packet.{packetMost}
 
 -- what is left to write from a listing on
@@ -75,6 +76,13 @@ module _ (image m old : List ℕ) (g : Sheet) (l : Listing) (h : Listed image m 
         copy-from b e rest f = sym (copy-then buffer at line (rest .text) b e (f .0) (f .1))
 
 -- ---- one line
+
+-- what a lent buffer of n bytes holds has at most n bytes
+overlay-fits : (p old x : List ℕ) → x ≡ overlay p old → length x ≡ length old → length p ≤ length old
+overlay-fits p old x e l = omega (arith, sym (ap length e) ∙ l, length-append p (drop (length p) old), length-drop (length p) old)
+
+overlay-taken : (p old x : List ℕ) (n : ℕ) → x ≡ overlay p old → n ≡ length p → take n x ≡ p
+overlay-taken p old x n e l = rw e (take-at p (drop (length p) old) n (sym l))
 
 module _ (image m : List ℕ) (l : Listing) (h : Listed image m l) (more : l .listed < l .total) (old x : List ℕ) (k : ℕ) (lent : length old ≡ packetMost) (same : length x ≡ length old) (sends : (k ≡ length (packetOut image m RunKind.Reset (l .phase))) × (x ≡ overlay (packetOut image m RunKind.Reset (l .phase)) old)) where
   abbrev p : List ℕ

@@ -12,7 +12,7 @@ use Rattle.image.specs.Record.{paperRefusal}
 use Rattle.image.specs.declared.hex.Hex.{Hex}
 use Rattle.image.specs.declared.hex.Read.{Read}
 use Rattle.image.specs.declared.record.Refusal.{Refusal}
-use Rattle.listing.specs.Text.{Verdict, refusedAt, result, trimmedOf, readIn}
+use Rattle.listing.specs.Text.{Verdict, refusedAt, result, lineRoom, trimmedOf, readIn}
 use Rattle.listing.specs.Laws.Feed.{feed-more, byte-ends, byte-kept}
 use Rattle.listing.specs.Laws.Reading.{text-reads}
 use Rattle.listing.specs.Feed.{Progress, stopped, going, Fed, state, opened, paperReading, begunBy, feedOf, closeOf, endedOf, fedResult, nextLine, tookBy, took, withKept, keepOneOf, textByte, progressByte, Keeps, lastOf, shutBy, shutOf, shutFed, progressClosed}
@@ -130,7 +130,7 @@ module _ (size : ℕ) (r : Reading) (line : List ℕ) where
 pub ended-refused : (r : Reading) (n : ℕ) (x : Refusal) → r ≡ Reading.Refused n x → refusedAt n (paperRefusal x) ≡ endedOf (paperReading r)
 ended-refused r n x e = rw e
 
-module _ (size : ℕ) (text line image map : List ℕ) (room : 523 ≤ length line) (few : length text + 1 < 2 ^ 64) where
+module _ (size : ℕ) (text line image map : List ℕ) (room : lineRoom ≤ length line) (few : length text + 1 < 2 ^ 64) where
   pub read-by : (p q r : Progress) (i1 m1 l2 i2 m2 i3 m3 : List ℕ) → Shown begunBy p i1 m1 (settled (startIn size image map) image map) → state q l2 i2 m2 ≡ feedOf size (state p line i1 m1) text → state r l2 i3 m3 ≡ closeOf size (state q l2 i2 m2) → (v : Verdict) → v ≡ endedOf r → result v i3 m3 ≡ readIn size text image map
   read-by p q r i1 m1 l2 i2 m2 i3 m3 s f g v ev =
       let o : Settled = settled (startIn size image map) image map in

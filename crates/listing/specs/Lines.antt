@@ -23,6 +23,10 @@ refusedWord = 0x52 ∷ 0x45 ∷ 0x46 ∷ 0x55 ∷ 0x53 ∷ 0x45 ∷ 0x44 ∷ 0x2
 unfoldable pub refusalAt : ℕ → ℕ → List ℕ
 refusalAt line k = field refusedWord line ++ (field (0x20 ∷ []) k ++ lineEnd)
 
+-- no line of a refusal is longer: 8 characters, 20 digits, a space, 20 digits and 0A
+abbrev pub refusalRoom : ℕ
+refusalRoom = 50
+
 -- REFUSED and the number
 unfoldable pub refusalLine : ℕ → List ℕ
 refusalLine k = field refusedWord k ++ lineEnd
@@ -58,6 +62,10 @@ recordLine x =
     ++ (field (0x20 ∷ 0x54 ∷ 0x4F ∷ 0x54 ∷ 0x41 ∷ 0x4C ∷ 0x20 ∷ []) (x .total)
     ++ (field (0x20 ∷ 0x42 ∷ 0x59 ∷ 0x54 ∷ 0x45 ∷ 0x53 ∷ 0x20 ∷ []) (x .bytes)
     ++ lineEnd))))
+
+-- no line of a record is longer: 38 characters of words, five numbers of 20 digits and 0A
+abbrev pub logRoom : ℕ
+logRoom = 139
 
 -- what a record says, or REFUSED and the number
 abbrev pub logLine : Answer Record → List ℕ

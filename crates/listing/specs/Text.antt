@@ -12,6 +12,10 @@ use Rattle.image.specs.declared.hex.Hex.{Hex}
 unfoldable pub trimmedOf : List ℕ → List ℕ
 trimmedOf l = pick (eqb (getD l (length l - 1) 0) 0x0D) (take (length l - 1) l) l
 
+-- how much of a line is enough: 521 characters, a 0D, and one more to tell a longer line
+abbrev pub lineRoom : ℕ
+lineRoom = 523
+
 -- the lines of a text that follows an open line: a line ends at 0A, and nothing after the last 0A is no line
 unfoldable pub linesFrom : List ℕ → List ℕ → List (List ℕ)
 linesFrom l [] = pick (eqb (length l) 0) [] (l ∷ [])

@@ -13,7 +13,7 @@ ghost use Rattle.session.specs.declared.phase.RunKind.{RunKind};
 ghost use Rattle.listing.specs.Lines.{headLine, stepLine, totalLine};
 ghost use Rattle.listing.specs.Plan.{Listed, listingAt, paperBegun, listingBy, packetAt, longestLine, sheetOf};
 use crate::numbers::decimal;
-use crate::numbers::field;
+use crate::numbers::last_field;
 use basis::buffers::write;
 use image::writer::spell;
 use packet::build::PACKET;
@@ -140,7 +140,7 @@ impl Listing {
 
 // The line above the steps.
 pub fn head_line(buffer: &mut [u8]) -> usize
-    requires { ⌜ 64 ≤ length (now buffer) ⌝ }
+    requires { ⌜ longestLine ≤ length (now buffer) ⌝ }
     ensures { λ r. ⌜ (r ≡ length headLine) × (now (buffer .exit) ≡ overlay headLine (now (buffer .entry))) ⌝ }
 {
     write(buffer, b"STEP KIND PACKET\n");
@@ -149,12 +149,10 @@ pub fn head_line(buffer: &mut [u8]) -> usize
 
 // The line below them.
 pub fn total_line(buffer: &mut [u8], total: u32) -> usize
-    requires { ⌜ 64 ≤ length (now buffer) ⌝ }
+    requires { ⌜ longestLine ≤ length (now buffer) ⌝ }
     ensures { λ r. ⌜ (r ≡ length (totalLine total)) × (now (buffer .exit) ≡ overlay (totalLine total) (now (buffer .entry))) ⌝ }
 {
-    let end = field(buffer, 0, b"TOTAL ", total as u64);
-    buffer[end] = b'\n';
-    end + 1
+    last_field(buffer, 0, b"TOTAL ", total as u64)
 }
 
 // Step number, command letter and whole packet, from `at` on; gives the place behind them.

@@ -14,6 +14,10 @@ use Rattle.session.specs.declared.phase.Phase.{Phase}
 use Rattle.session.specs.declared.session.Session.{Session}
 use Rattle.service_log.specs.declared.read.Record.{Record}
 
+-- how many bytes a record has
+abbrev pub recordSize : ℕ
+recordSize = 10
+
 -- 0 valid, else 40 to 43
 abbrev pub known : ℕ → Bool
 known o = either (eqb o 0) (both (leb 40 o) (leb o 43))
@@ -60,7 +64,7 @@ writeOf room s =
     (45 when not (ended (s .phase))
     ∷ 45 when not (fitTwo (s .acknowledged) (s .total) (s .named))
     ∷ 45 when isFalseOf (outcomeIn (s .phase)) (s .acknowledged) (s .total) (s .named)
-    ∷ 20 when ltb room 10 ∷ [])
+    ∷ 20 when ltb room recordSize ∷ [])
     (given (recordBytes (outcomeIn (s .phase)) (s .acknowledged) (s .total) (s .named)))
 
 -- two bytes of an input as one number
@@ -83,9 +87,9 @@ recordAt s =
 unfoldable pub readOf : List ℕ → Answer Record
 readOf s =
     first
-    (50 when ltb (length s) 10
+    (50 when ltb (length s) recordSize
     ∷ 51 when not (eqb (pairAt s 0) 8)
-    ∷ 51 when ltb 10 (length s)
+    ∷ 51 when ltb recordSize (length s)
     ∷ 52 when not (eqb (getD s 2 0) 1)
     ∷ 53 when isFalseOf (getD s 3 0) (pairAt s 4) (pairAt s 6) (pairAt s 8) ∷ [])
     (given (recordAt s))

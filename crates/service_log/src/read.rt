@@ -5,6 +5,9 @@ ghost use Rattle.service_log.specs.Log.{readOf};
 ghost use Rattle.service_log.specs.Paper.{paperUnread, paperReading};
 use crate::truth::is_false;
 
+// How many bytes a record has.
+pub const RECORD: usize = 10;
+
 // What a session came to: `acknowledged` of `total` packets, over a file of so many bytes.
 pub struct Record {
     pub version: u8,
@@ -44,13 +47,13 @@ impl Unread {
 pub fn read(input: &[u8]) -> Reading
     ensures { λ r. ⌜ paperReading r ≡ readOf (now (input .entry)) ⌝ }
 {
-    if input.len() < 10 {
+    if input.len() < RECORD {
         return Reading::Refused(Unread::Short);
     }
     if joined(input[0], input[1]) != 8 {
         return Reading::Refused(Unread::Length);
     }
-    if 10 < input.len() {
+    if RECORD < input.len() {
         return Reading::Refused(Unread::Length);
     }
     let version = input[2];

@@ -5,6 +5,7 @@ ghost use Rattle.basis.specs.Lists.{overlay};
 ghost use Rattle.basis.specs.Refusals.{counted, written};
 ghost use Rattle.service_log.specs.Log.{outcomeIn, fitTwo, writeOf};
 ghost use Rattle.service_log.specs.Paper.{paperUnwritten, paperWritten};
+use crate::read::RECORD;
 use crate::truth::is_false;
 use basis::buffers::write as put;
 use session::phase::Phase;
@@ -19,7 +20,7 @@ pub enum Written {
 pub enum Unwritten {
     // The session is unfinished, or its counts make no record.
     Unfit,
-    // The buffer is under ten bytes.
+    // The buffer is shorter than a record.
     NoRoom,
 }
 
@@ -54,7 +55,7 @@ pub fn write(session: Session, buffer: &mut [u8]) -> Written
     if is_false(outcome, acknowledged, total, bytes) {
         return Written::Refused(Unwritten::Unfit);
     }
-    if buffer.len() < 10 {
+    if buffer.len() < RECORD {
         return Written::Refused(Unwritten::NoRoom);
     }
     let record = [

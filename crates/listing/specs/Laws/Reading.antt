@@ -16,8 +16,8 @@ use Rattle.basis.specs.Refusals.{Answer, refused, given, first}
 use Rattle.image.specs.Hex.{File, file, settled, sizeWrong, startIn, recordIn}
 use Rattle.image.specs.Hex.{closeOf as closing}
 use Rattle.image.specs.declared.hex.Hex.{Hex}
-use Rattle.listing.specs.Text.{Result, result, trimmedOf, linesFrom, unlessRefused, verdictBy, readFrom, readIn}
-use Rattle.listing.specs.Feed.{Fed, state, opened, stopped, going, nextLine, took, withKept, keepOneOf, byteOf, feedOf, lastOf, shutBy, shutOf, shutFed, closeOf, endedOf, fedResult, cameTo}
+use Rattle.listing.specs.Text.{Result, result, lineRoom, trimmedOf, linesFrom, unlessRefused, verdictBy, readFrom, readIn}
+use Rattle.listing.specs.Feed.{Fed, state, opened, stopped, going, nextLine, took, withKept, keepOneOf, byteOf, feedOf, lastOf, shutBy, shutOf, shutFed, endedOf, fedResult, cameTo}
 use Rattle.listing.specs.Laws.Feed.{byte-ends, byte-kept, keep-more, keep-none}
 use Rattle.listing.specs.declared.text.Text.{Text}
 
@@ -37,8 +37,8 @@ module _ (size : ℕ) (h : Hex) (image map : List ℕ) where
       ∙ ap (λ (c : ℕ). pick (sizeWrong size image map) (refused 20) (pick (h .ended) (refused 21) (pick (not (eqb c 0x3A)) (refused 22) (refused 23)))) e
       ∙ sym (long-record b q)
 
-  -- 523 characters of a line are enough
-  record-kept : (n : ℕ) (l : List ℕ) → 523 ≤ n → recordIn size h (take n l) image map ≡ recordIn size h l image map
+  -- so many characters of a line are enough
+  record-kept : (n : ℕ) (l : List ℕ) → lineRoom ≤ n → recordIn size h (take n l) image map ≡ recordIn size h l image map
   record-kept n l g =
       decide (ltb n (length l))
       (λ t. let k = ltb-true n (length l) t in
@@ -60,7 +60,7 @@ trimmed-first l h =
     (λ t. rw t)
 
 module _ (size : ℕ) (h : Hex) (image map : List ℕ) where
-  record-trimmed : (n : ℕ) (l : List ℕ) → 523 ≤ n → recordIn size h (trimmedOf (take n l)) image map ≡ recordIn size h (trimmedOf l) image map
+  record-trimmed : (n : ℕ) (l : List ℕ) → lineRoom ≤ n → recordIn size h (trimmedOf (take n l)) image map ≡ recordIn size h (trimmedOf l) image map
   record-trimmed n l g =
       decide (ltb n (length l))
       (λ t. let k = ltb-true n (length l) t in
@@ -123,7 +123,7 @@ module _ (size : ℕ) where
   went t line image map text (refused k) g e ih = rw (feed-stopped (nextLine t) k line image map text, e)
   went t line image map text (given f) g e ih = ih f
 
-  module _ (line : List ℕ) (room : 523 ≤ length line) where
+  module _ (line : List ℕ) (room : lineRoom ≤ length line) where
     -- the end: the open line is the last one, and nothing is none
     ends : (l : List ℕ) (t : Text) (image map : List ℕ) → Held l t line → nextLine t ≡ t .lines + 1 → cameTo size (state (going t) line image map) [] ≡ readFrom size (t .lines) (linesFrom l []) (file (t .hex) image map)
     unfolding Held feedOf linesFrom readFrom lastOf shutOf
@@ -161,7 +161,7 @@ module _ (size : ℕ) where
   read-on n l ls f = refl
 
   -- from any state on: the open line and what comes, as lines
-  reads : (text l line image map : List ℕ) (t : Text) → 523 ≤ length line → Held l t line → t .lines + length text + 1 < 2 ^ 64 → cameTo size (state (going t) line image map) text ≡ readFrom size (t .lines) (linesFrom l text) (file (t .hex) image map)
+  reads : (text l line image map : List ℕ) (t : Text) → lineRoom ≤ length line → Held l t line → t .lines + length text + 1 < 2 ^ 64 → cameTo size (state (going t) line image map) text ≡ readFrom size (t .lines) (linesFrom l text) (file (t .hex) image map)
   reads [] l line image map t room h few = ends line room l t image map h (numbered (t .lines) 0 (omega arith))
   reads (b ∷ text) l line image map t room h few =
       let next : nextLine t ≡ t .lines + 1 = numbered (t .lines) (length text) (omega arith) in
@@ -178,7 +178,7 @@ module _ (size : ℕ) where
       ∙ sym (ap (λ (ls : List (List ℕ)). readFrom size (t .lines) ls f) (lines-on l text b z)))
 
   -- from the start on, however the text was cut: what the paper says of its lines
-  pub text-reads : (text line image map : List ℕ) → 523 ≤ length line → length text + 1 < 2 ^ 64 → cameTo size (opened (settled (startIn size image map) image map) line) text ≡ readIn size text image map
+  pub text-reads : (text line image map : List ℕ) → lineRoom ≤ length line → length text + 1 < 2 ^ 64 → cameTo size (opened (settled (startIn size image map) image map) line) text ≡ readIn size text image map
   unfolding readIn
   text-reads text line image map room few = go (startIn size image map)
     where

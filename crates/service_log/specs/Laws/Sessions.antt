@@ -26,7 +26,7 @@ use Rattle.session.specs.declared.phase.RunKind.{RunKind}
 use Rattle.session.specs.declared.session.Session.{Session}
 use Rattle.service_log.specs.Laws.FalseRecords.{false-valid, true-greeted, false-ungreeted}
 use Rattle.service_log.specs.Laws.Log.{write-given, read-given}
-use Rattle.service_log.specs.Log.{known, isFalseOf, outcomeIn, twoBytes, fitTwo, recordBytes, writeOf, recordAt, pairAt, readOf}
+use Rattle.service_log.specs.Log.{recordSize, known, isFalseOf, outcomeIn, twoBytes, fitTwo, recordBytes, writeOf, recordAt, pairAt, readOf}
 use Rattle.service_log.specs.declared.read.Record.{Record}
 
 -- ---- what is written reads back
@@ -104,7 +104,7 @@ module _ (m : List ℕ) (long : length m ≡ mapSize) (some : 0 < namedCount m) 
       ∙ ap not (eq-eqb (total m) (total m) refl)
 
   -- once ended it is never refused 45: its total is e + 2w + 1, and its bytes are the named count
-  module _ (kind : RunKind) (room : ℕ) (l : 10 ≤ room) where
+  module _ (kind : RunKind) (room : ℕ) (l : recordSize ≤ room) where
     pub came-logged : (s : Session) → Came m kind s → ended (s .phase) ≡ true → writeOf room s ≡ given (recordBytes (outcomeIn (s .phase)) (s .acknowledged) (total m) (namedCount m))
     came-logged s (waits e) h = absurd (true-false (sym h ∙ ap (λ (x : Session). ended (x .phase)) e))
     came-logged s (stands k b e) h = absurd (true-false (sym h ∙ ap (λ (x : Session). ended (x .phase)) e ∙ phase-open m k))

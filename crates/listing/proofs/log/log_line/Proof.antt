@@ -1,11 +1,20 @@
 -- `log_line` meets its contract: each case of the reading has its line.
-use mathlib.Core.Path.{sym, ap, _∙_}
-use Rattle.basis.specs.Refusals.{refused}
+use Prim.Native.Nat.{ℕ}
+use mathlib.Core.List.{List}
+use mathlib.Core.Path.{_≡_, sym, ap, _∙_}
+use lib.ListN.{length}
+use Rattle.basis.specs.Lists.{overlay}
+use Rattle.basis.specs.Refusals.{Answer, refused}
 use Rattle.service_log.specs.Paper.{paperReading}
-use Rattle.listing.proofs.Buffers.{log-put}
+use Rattle.service_log.specs.declared.read.Record.{Record}
+use Rattle.listing.specs.Lines.{logLine}
 use borrow.Author.Needs.{needs}
 use Rattle.listing.proofs.log.log_line.Statement.{statement}
 use Rattle.listing.proofs.log.log_line.Tie as tie
+
+-- the line of what was read
+log-put : (a b : Answer Record) (old new : List ℕ) (n : ℕ) → a ≡ b → (n ≡ length (logLine b)) × (new ≡ overlay (logLine b) old) → (n ≡ length (logLine a)) × (new ≡ overlay (logLine a) old)
+log-put a b old new n e f = rw e f
 
 read-requires : tie.Need-read-requires
 read-requires c κs = search needs
