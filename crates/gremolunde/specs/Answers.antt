@@ -11,10 +11,10 @@ use Rattle.packet.specs.Packet as packet
 use Rattle.service_log.specs.declared.read.Record.{Record}
 use Rattle.session.specs.declared.session.Next.{Next}
 use Rattle.gremolunde.specs.States.{flagOf, loaderShown, hexShown, sessionShown}
+use Rattle.gremolunde.specs.declared.answers.Length.{Length}
 use Rattle.gremolunde.specs.declared.files.HexRead.{HexRead}
 use Rattle.gremolunde.specs.declared.files.HexWritten.{HexWritten}
 use Rattle.gremolunde.specs.declared.loading.Taken.{Taken}
-use Rattle.gremolunde.specs.declared.packets.Length.{Length}
 use Rattle.gremolunde.specs.declared.packets.Parts.{Parts}
 use Rattle.gremolunde.specs.declared.records.LogRecord.{LogRecord}
 use Rattle.gremolunde.specs.declared.rehearsals.Rehearsal.{Rehearsal}

@@ -45,7 +45,7 @@ pub extern "C" fn gremolunde_hex_start(image: &mut [u8], map: &mut [u8]) -> HexR
         ended: 0,
         taken: 0,
     };
-    answered(none, Hex::start(image, map))
+    hex_answer(none, Hex::start(image, map))
 }
 
 #[no_mangle]
@@ -61,7 +61,7 @@ pub extern "C" fn gremolunde_hex_record(
         ⌝ }
 {
     let meant = hex_meant(reader);
-    answered(reader, meant.record(line, image, map))
+    hex_answer(reader, meant.record(line, image, map))
 }
 
 #[no_mangle]
@@ -69,10 +69,10 @@ pub extern "C" fn gremolunde_hex_close(reader: HexState) -> HexRead
     ensures { λ r. ⌜ r ≡ hexAnswer reader (closeOf (hexMeant reader)) ⌝ }
 {
     let meant = hex_meant(reader);
-    answered(reader, meant.close())
+    hex_answer(reader, meant.close())
 }
 
-fn answered(reader: HexState, answer: Read) -> HexRead
+fn hex_answer(reader: HexState, answer: Read) -> HexRead
     ensures { λ r. ⌜ r ≡ hexAnswer reader (paperRead answer) ⌝ }
 {
     match answer {
@@ -99,10 +99,10 @@ pub extern "C" fn gremolunde_hex_write(
         (r ≡ writtenAnswer from (measured a)) × (now (buffer .exit) ≡ overlay (textBytes a) (now (buffer .entry))))
         ⌝ }
 {
-    told(from, write(image, map, Address(from), buffer))
+    written_answer(from, write(image, map, Address(from), buffer))
 }
 
-fn told(from: u32, answer: Written) -> HexWritten
+fn written_answer(from: u32, answer: Written) -> HexWritten
     ensures { λ r. ⌜ r ≡ writtenAnswer from (paperWritten answer) ⌝ }
 {
     match answer {

@@ -58,10 +58,10 @@ pub extern "C" fn gremolunde_loader_take(
     let taken = take(loader_meant(loader), input, flash, answer);
     let next = taken.loader;
     let verdict = taken.verdict;
-    told(loader, verdict, next, taken.answered)
+    taken_answer(loader, verdict, next, taken.answered)
 }
 
-fn told(loader: LoaderState, verdict: Verdict, next: Loader, answered: usize) -> Taken
+fn taken_answer(loader: LoaderState, verdict: Verdict, next: Loader, answered: usize) -> Taken
     ensures { λ r. ⌜ r ≡ takenAnswer loader (paperVerdict verdict) next answered ⌝ }
 {
     match verdict {

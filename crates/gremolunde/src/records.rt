@@ -7,10 +7,11 @@ ghost use Rattle.gremolunde.specs.Answers.{lengthAnswer, recordAnswer};
 ghost use Rattle.gremolunde.specs.States.{sessionMeant};
 ghost use Rattle.service_log.specs.Log.{writeOf, readOf};
 ghost use Rattle.service_log.specs.Paper.{paperReading, paperWritten};
-use crate::packets::Length;
-use crate::packets::refused;
+use crate::answers::Length;
+use crate::answers::refused;
 use crate::states::SessionState;
 use crate::states::session_meant;
+use service_log::read::RECORD;
 use service_log::read::Reading;
 use service_log::read::read;
 use service_log::write::Written;
@@ -43,7 +44,7 @@ fn length_answer(answer: Written) -> Length
     match answer {
         Written::Record => Length {
             number: 0,
-            length: 10,
+            length: RECORD,
         },
         Written::Refused(why) => refused(why.number()),
     }

@@ -38,10 +38,10 @@ pub extern "C" fn gremolunde_rehearse(
 {
     let kind = run_meant(run);
     let meant = loader_meant(loader);
-    told(loader, rehearse(kind, meant, losses, image, map, flash))
+    rehearsed_answer(loader, rehearse(kind, meant, losses, image, map, flash))
 }
 
-fn told(loader: LoaderState, answer: Rehearsed) -> Rehearsal
+fn rehearsed_answer(loader: LoaderState, answer: Rehearsed) -> Rehearsal
     ensures { λ r. ⌜ r ≡ rehearsedAnswer loader (paperRehearsed answer) ⌝ }
 {
     match answer {

@@ -44,7 +44,7 @@ pub extern "C" fn gremolunde_session_start(
         (r ≡ steppedAnswer noSession (measured a)) × (now (buffer .exit) ≡ overlay (sentBytes a) (now (buffer .entry))))
         ⌝ }
 {
-    answered(
+    stepped_answer(
         no_session(),
         Session::start(run_meant(run), image, map, buffer),
     )
@@ -79,10 +79,10 @@ pub extern "C" fn gremolunde_session_step(
         ⌝ }
 {
     let meant = session_meant(session);
-    answered(session, meant.step(silent != 0, answer, image, map, buffer))
+    stepped_answer(session, meant.step(silent != 0, answer, image, map, buffer))
 }
 
-fn answered(session: SessionState, answer: Stepped) -> SessionStepped
+fn stepped_answer(session: SessionState, answer: Stepped) -> SessionStepped
     ensures { λ r. ⌜ r ≡ steppedAnswer session (paperStepped answer) ⌝ }
 {
     match answer {
@@ -111,10 +111,10 @@ pub extern "C" fn gremolunde_session_proved(
     ensures { λ r. ⌜ r ≡ markAnswer (provedOf (now (map .entry)) (sessionMeant session) address) ⌝ }
 {
     let meant = session_meant(session);
-    marked(meant.proved(map, Address(address)))
+    mark_answer(meant.proved(map, Address(address)))
 }
 
-fn marked(answer: Mark) -> SessionMark
+fn mark_answer(answer: Mark) -> SessionMark
     ensures { λ r. ⌜ r ≡ markAnswer (paperMark answer) ⌝ }
 {
     match answer {

@@ -30,8 +30,8 @@ loader-meant-requires c κs = search needs
 take-requires : tie.Need-take-requires
 take-requires c κs = search needs
 
-told-requires : tie.Need-told-requires
-told-requires c κs = search needs
+taken-answer-requires : tie.Need-taken-answer-requires
+taken-answer-requires c κs = search needs
 
 same-length : tie.Need-same-length
 same-length c = search needs
@@ -40,9 +40,9 @@ same-length-2 : tie.Need-same-length-2
 same-length-2 c = search needs
 
 returns : tie.Need-returns
-returns c = told-of _ _ _ (c .before .before .before .before .before .before .before .before .before .loader-meant .ensures) _ _ _ _ (c .told .ensures) (c .before .before .before .before .before .before .take .ensures)
+returns c = told-of _ _ _ (c .before .before .before .before .before .before .before .before .before .loader-meant .ensures) _ _ _ _ (c .taken-answer .ensures) (c .before .before .before .before .before .before .take .ensures)
 
 pub gremolunde-loader-take-spec : {M : Type 1} → statement M
 gremolunde-loader-take-spec =
     tie.close
-    (tie.spec loader-meant-requires take-requires told-requires same-length same-length-2 returns)
+    (tie.spec loader-meant-requires take-requires taken-answer-requires same-length same-length-2 returns)

@@ -30,14 +30,14 @@ loader-meant-requires c κs = search needs
 rehearse-requires : tie.Need-rehearse-requires
 rehearse-requires c κs = search needs
 
-told-requires : tie.Need-told-requires
-told-requires c κs = search needs
+rehearsed-answer-requires : tie.Need-rehearsed-answer-requires
+rehearsed-answer-requires c κs = search needs
 
 same-length : tie.Need-same-length
 same-length c = search needs
 
 returns : tie.Need-returns
-returns c = told-of _ _ _ _ _ (c .before .before .before .before .before .before .run-meant .ensures) (c .before .before .before .before .before .loader-meant .ensures) _ _ _ _ _ (c .told .ensures) (c .before .before .before .rehearse .ensures)
+returns c = told-of _ _ _ _ _ (c .before .before .before .before .before .before .run-meant .ensures) (c .before .before .before .before .before .loader-meant .ensures) _ _ _ _ _ (c .rehearsed-answer .ensures) (c .before .before .before .rehearse .ensures)
 
 pub gremolunde-rehearse-spec : {M : Type 1} → statement M
 gremolunde-rehearse-spec =
@@ -46,6 +46,6 @@ gremolunde-rehearse-spec =
     run-meant-requires
     loader-meant-requires
     rehearse-requires
-    told-requires
+    rehearsed-answer-requires
     same-length
     returns)

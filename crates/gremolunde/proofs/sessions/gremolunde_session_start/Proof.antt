@@ -14,14 +14,14 @@ run-meant-requires c κs = search needs
 start-requires : tie.Need-start-requires
 start-requires c κs = search needs
 
-answered-requires : tie.Need-answered-requires
-answered-requires c κs = search needs
+stepped-answer-requires : tie.Need-stepped-answer-requires
+stepped-answer-requires c κs = search needs
 
 same-length : tie.Need-same-length
 same-length c = search needs
 
 returns : tie.Need-returns
-returns c = rw (sym (c .before .before .before .before .before .run-meant .ensures)) (c .answered .ensures ∙ (λ i. steppedAnswer (c .before .before .before .before .before .before .no-session .ensures i) (c .before .before .before .start .ensures .0 i)), c .before .before .before .start .ensures .1)
+returns c = rw (sym (c .before .before .before .before .before .run-meant .ensures)) (c .stepped-answer .ensures ∙ (λ i. steppedAnswer (c .before .before .before .before .before .before .no-session .ensures i) (c .before .before .before .start .ensures .0 i)), c .before .before .before .start .ensures .1)
 
 pub gremolunde-session-start-spec : {M : Type 1} → statement M
 gremolunde-session-start-spec =
@@ -30,6 +30,6 @@ gremolunde-session-start-spec =
     no-session-requires
     run-meant-requires
     start-requires
-    answered-requires
+    stepped-answer-requires
     same-length
     returns)

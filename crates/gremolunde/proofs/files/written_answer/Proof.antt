@@ -1,11 +1,11 @@
--- `told` meets its contract: each arm is one case of the writer's answer.
+-- `written_answer` meets its contract: each arm is one case of the writer's answer.
 use mathlib.Core.Path.{ap, sym, _∙_}
 use borrow.Author.Needs.{needs}
 use Rattle.image.specs.Writer.{paperWritten}
 use Rattle.image.specs.declared.writer.Written.{Written}
 use Rattle.gremolunde.specs.Answers.{writtenAnswer}
-use Rattle.gremolunde.proofs.files.told.Statement.{statement}
-use Rattle.gremolunde.proofs.files.told.Tie as tie
+use Rattle.gremolunde.proofs.files.written_answer.Statement.{statement}
+use Rattle.gremolunde.proofs.files.written_answer.Tie as tie
 
 enum-known-answer : tie.Need-enum-known-answer
 enum-known-answer c = search needs
@@ -31,8 +31,8 @@ returns-2 c = c .unwritten .ensures ∙ ap (λ (x : Written). writtenAnswer (c .
 returns-3 : tie.Need-returns-3
 returns-3 c = c .unwritten2 .ensures ∙ ap (λ (x : Written). writtenAnswer (c .before .before .before .args .from) (paperWritten x)) (sym (c .before .enum-told2 .given .1))
 
-pub told-spec : {M : Type 1} → statement M
-told-spec =
+pub written-answer-spec : {M : Type 1} → statement M
+written-answer-spec =
     tie.close
     (tie.spec
     enum-known-answer

@@ -1,11 +1,11 @@
--- `told` meets its contract: loader and session at the end are shown, or the refusal's number with the loader as it came.
+-- `rehearsed_answer` meets its contract: loader and session at the end are shown, or the refusal's number with the loader as it came.
 use mathlib.Core.Path.{ap, sym, _∙_}
 use Rattle.gremolunde.specs.Answers.{rehearsedAnswer}
 use Rattle.line.specs.Paper.{paperRehearsed}
 use Rattle.line.specs.declared.rehearse.Rehearsed.{Rehearsed}
 use borrow.Author.Needs.{needs}
-use Rattle.gremolunde.proofs.rehearsals.told.Statement.{statement}
-use Rattle.gremolunde.proofs.rehearsals.told.Tie as tie
+use Rattle.gremolunde.proofs.rehearsals.rehearsed_answer.Statement.{statement}
+use Rattle.gremolunde.proofs.rehearsals.rehearsed_answer.Tie as tie
 
 enum-known-answer : tie.Need-enum-known-answer
 enum-known-answer c = search needs
@@ -31,8 +31,8 @@ returns c = (λ i. record { number = 0; loader = c .before .loader-shown .ensure
 returns-2 : tie.Need-returns-2
 returns-2 c = (λ i. record { number = c .before .number .ensures i; loader = c .before .before .before .before .before .args .loader; session = c .no-session .ensures i }) ∙ ap (λ (x : Rehearsed). rehearsedAnswer (c .before .before .before .before .before .args .loader) (paperRehearsed x)) (sym (c .before .before .before .answer2 .given .1))
 
-pub told-spec : {M : Type 1} → statement M
-told-spec =
+pub rehearsed-answer-spec : {M : Type 1} → statement M
+rehearsed-answer-spec =
     tie.close
     (tie.spec
     enum-known-answer
