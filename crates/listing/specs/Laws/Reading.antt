@@ -10,9 +10,8 @@ use borrow.Author.Tests.{eq-eqb, ne-eqb, lt-ltb, le-ltb, eqb-true, eqb-false, lt
 use lib.Dec.{eqb, ltb}
 use lib.ListN.{length, getD, set, take, length-append, length-take, length-set}
 use lib.Seq.{length-take-le, take-all, take-nil, take-append-le, take-suc-set, set-out, getD-take}
-use Rattle.basis.specs.Choice.{pick}
 use Rattle.basis.specs.Laws.Choice.{decide}
-use Rattle.basis.specs.Refusals.{Answer, refused, given, first}
+use Rattle.basis.specs.Refusals.{Answer, refused, given, _when_, first}
 use Rattle.image.specs.Hex.{File, file, settled, sizeWrong, startIn, recordIn}
 use Rattle.image.specs.Hex.{closeOf as closing}
 use Rattle.image.specs.declared.hex.Hex.{Hex}
@@ -24,7 +23,11 @@ use Rattle.listing.specs.declared.text.Text.{Text}
 -- ---- of a line that is too long, only its first character counts
 
 module _ (size : ℕ) (h : Hex) (image map : List ℕ) where
-  long-record : (l : List ℕ) → 521 < length l → recordIn size h l image map ≡ pick (sizeWrong size image map) (refused 20) (pick (h .ended) (refused 21) (pick (not (eqb (getD l 0 0) 0x3A)) (refused 22) (refused 23)))
+  -- by its first character c
+  abbrev early : ℕ → Answer File
+  early c = first (20 when sizeWrong size image map ∷ 21 when h .ended ∷ 22 when not (eqb c 0x3A) ∷ []) (refused 23)
+
+  long-record : (l : List ℕ) → 521 < length l → recordIn size h l image map ≡ early (getD l 0 0)
   unfolding first recordIn
   long-record l g =
       let some : length l ≡ 0 → ⊥ = λ e. omega arith in
@@ -32,10 +35,7 @@ module _ (size : ℕ) (h : Hex) (image map : List ℕ) where
       rw (ne-eqb _ _ some, le-ltb _ _ least, lt-ltb _ _ g)
 
   overlong : (a b : List ℕ) → 521 < length a → 521 < length b → getD a 0 0 ≡ getD b 0 0 → recordIn size h a image map ≡ recordIn size h b image map
-  overlong a b p q e =
-      long-record a p
-      ∙ ap (λ (c : ℕ). pick (sizeWrong size image map) (refused 20) (pick (h .ended) (refused 21) (pick (not (eqb c 0x3A)) (refused 22) (refused 23)))) e
-      ∙ sym (long-record b q)
+  overlong a b p q e = long-record a p ∙ ap early e ∙ sym (long-record b q)
 
   -- so many characters of a line are enough
   record-kept : (n : ℕ) (l : List ℕ) → lineRoom ≤ n → recordIn size h (take n l) image map ≡ recordIn size h l image map
