@@ -35,7 +35,8 @@ pub struct HexWritten {
 #[no_mangle]
 pub extern "C" fn gremolunde_hex_start(image: &mut [u8], map: &mut [u8]) -> HexRead
     ensures { λ r. ⌜
-        (let o = settled (startIn flashSize (now (image .entry)) (now (map .entry))) (now (image .entry)) (now (map .entry)) in
+        (let o = settled (startIn flashSize (now (image .entry)) (now (map .entry))) (now (image .entry))
+        (now (map .entry)) in
         (r ≡ hexAnswer noReader (o .answer)) × (now (image .exit) ≡ o .image) × (now (map .exit) ≡ o .map))
         ⌝ }
 {
@@ -56,7 +57,9 @@ pub extern "C" fn gremolunde_hex_record(
     map: &mut [u8],
 ) -> HexRead
     ensures { λ r. ⌜
-        (let o = settled (recordIn flashSize (hexMeant reader) (now (line .entry)) (now (image .entry)) (now (map .entry))) (now (image .entry)) (now (map .entry)) in
+        (let o = settled
+        (recordIn flashSize (hexMeant reader) (now (line .entry)) (now (image .entry)) (now (map .entry)))
+        (now (image .entry)) (now (map .entry)) in
         (r ≡ hexAnswer reader (o .answer)) × (now (image .exit) ≡ o .image) × (now (map .exit) ≡ o .map))
         ⌝ }
 {
@@ -95,8 +98,10 @@ pub extern "C" fn gremolunde_hex_write(
     buffer: &mut [u8],
 ) -> HexWritten
     ensures { λ r. ⌜
-        (let a = writeIn flashSize (now (image .entry)) (now (map .entry)) from (length (now (buffer .entry))) in
-        (r ≡ writtenAnswer from (measured a)) × (now (buffer .exit) ≡ overlay (textBytes a) (now (buffer .entry))))
+        (let a = writeIn flashSize (now (image .entry)) (now (map .entry)) from
+        (length (now (buffer .entry))) in
+        (r ≡ writtenAnswer from (measured a))
+        × (now (buffer .exit) ≡ overlay (textBytes a) (now (buffer .entry))))
         ⌝ }
 {
     written_answer(from, write(image, map, Address(from), buffer))

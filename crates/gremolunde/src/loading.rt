@@ -52,7 +52,8 @@ pub extern "C" fn gremolunde_loader_take(
         let x = takeOf pages l (now (input .entry)) (now (flash .entry)) (length (now (answer .entry))) in
         let e = effectAfter l (now (flash .entry)) x in
         (r ≡ takenAnswer loader (bare x) (e .loader) (length (answerBytes l x)))
-        × (now (flash .exit) ≡ e .flash) × (now (answer .exit) ≡ overlay (answerBytes l x) (now (answer .entry))))
+        × (now (flash .exit) ≡ e .flash)
+        × (now (answer .exit) ≡ overlay (answerBytes l x) (now (answer .entry))))
         ⌝ }
 {
     let taken = take(loader_meant(loader), input, flash, answer);

@@ -32,7 +32,8 @@ pub extern "C" fn gremolunde_rehearse(
     flash: &mut [u8],
 ) -> Rehearsal
     ensures { λ r. ⌜
-        (let a = rehearseOf (now (image .entry)) (now (map .entry)) (runMeant run) (loaderMeant loader) (lossAt (now (losses .entry))) (now (flash .entry)) in
+        (let a = rehearseOf (now (image .entry)) (now (map .entry)) (runMeant run) (loaderMeant loader)
+        (lossAt (now (losses .entry))) (now (flash .entry)) in
         (r ≡ rehearsedAnswer loader (loaded a)) × (now (flash .exit) ≡ leftFlash (now (flash .entry)) a))
         ⌝ }
 {

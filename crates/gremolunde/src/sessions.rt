@@ -40,8 +40,10 @@ pub extern "C" fn gremolunde_session_start(
     buffer: &mut [u8],
 ) -> SessionStepped
     ensures { λ r. ⌜
-        (let a = started (now (image .entry)) (now (map .entry)) (length (now (buffer .entry))) (runMeant run) in
-        (r ≡ steppedAnswer noSession (measured a)) × (now (buffer .exit) ≡ overlay (sentBytes a) (now (buffer .entry))))
+        (let a = started (now (image .entry)) (now (map .entry)) (length (now (buffer .entry)))
+        (runMeant run) in
+        (r ≡ steppedAnswer noSession (measured a))
+        × (now (buffer .exit) ≡ overlay (sentBytes a) (now (buffer .entry))))
         ⌝ }
 {
     stepped_answer(
@@ -74,8 +76,10 @@ pub extern "C" fn gremolunde_session_step(
     buffer: &mut [u8],
 ) -> SessionStepped
     ensures { λ r. ⌜
-        (let a = stepOf (now (image .entry)) (now (map .entry)) (length (now (buffer .entry))) (sessionMeant session) (classifyOf (isSet silent) (now (answer .entry))) in
-        (r ≡ steppedAnswer session (measured a)) × (now (buffer .exit) ≡ overlay (sentBytes a) (now (buffer .entry))))
+        (let a = stepOf (now (image .entry)) (now (map .entry)) (length (now (buffer .entry)))
+        (sessionMeant session) (classifyOf (isSet silent) (now (answer .entry))) in
+        (r ≡ steppedAnswer session (measured a))
+        × (now (buffer .exit) ≡ overlay (sentBytes a) (now (buffer .entry))))
         ⌝ }
 {
     let meant = session_meant(session);

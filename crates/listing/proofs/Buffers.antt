@@ -15,10 +15,12 @@ copy-one b at x = refl
 
 module _ (b : List ℕ) (at : ℕ) where
   -- some, then others behind them
-  pub copy-then : (s t c : List ℕ) (e : ℕ) → e ≡ at + length s → c ≡ copyOf b at s → copyOf c e t ≡ copyOf b at (s ++ t)
+  pub copy-then : (s t c : List ℕ) (e : ℕ) → e ≡ at + length s → c ≡ copyOf b at s
+      → copyOf c e t ≡ copyOf b at (s ++ t)
   copy-then s t c e ee ec = rw (ee, ec) (sym (stored-append new b at s t))
 
-  pub copy-last : (s c : List ℕ) (e x : ℕ) → e ≡ at + length s → c ≡ copyOf b at s → set c e x ≡ copyOf b at (s ++ (x ∷ []))
+  pub copy-last : (s c : List ℕ) (e x : ℕ) → e ≡ at + length s → c ≡ copyOf b at s
+      → set c e x ≡ copyOf b at (s ++ (x ∷ []))
   copy-last s c e x ee ec = sym (copy-one c e x) ∙ copy-then s (x ∷ []) c e ee ec
 
 -- s is written from e on, up to k, which is at most r
@@ -40,5 +42,6 @@ module _ (old : List ℕ) where
       (omega (arith, length-append s t, p .0, f .0), f .1 .0 ∙ copy-then old 0 s t c e (omega (arith, p .0)) (p .1))
 
   -- all of it, over what the buffer held
-  pub put-over : (s c : List ℕ) (e : ℕ) → Put old s c e → e ≤ length old → (e ≡ length s) × (c ≡ overlay s old)
+  pub put-over : (s c : List ℕ) (e : ℕ) → Put old s c e → e ≤ length old
+      → (e ≡ length s) × (c ≡ overlay s old)
   put-over s c e p h = (p .0, p .1 ∙ copy-overlay [] old s 0 refl (omega (arith, p .0)))

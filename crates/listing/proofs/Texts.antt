@@ -15,16 +15,20 @@ use Rattle.listing.specs.declared.text.Text.{Text}
 abbrev pub Shown : (Answer Hex → Progress) → Progress → List ℕ → List ℕ → Settled → Type 0
 Shown by p image map o = (p ≡ by (o .answer)) × (image ≡ o .image) × (map ≡ o .map)
 
-pub shown : (by : Answer Hex → Progress) (r x : Read) (i m : List ℕ) (o : Settled) → r ≡ x → settledAs (paperRead r) i m ≡ o → Shown by (by (paperRead x)) i m o
+pub shown : (by : Answer Hex → Progress) (r x : Read) (i m : List ℕ) (o : Settled) → r ≡ x
+    → settledAs (paperRead r) i m ≡ o → Shown by (by (paperRead x)) i m o
 shown by r x i m o e f =
     let g : settledAs (paperRead x) i m ≡ o = rw e at f in
     (ap (λ (y : Settled). by (y .answer)) g, ap (λ (y : Settled). y .image) g, ap (λ (y : Settled). y .map) g)
 
 -- the same with the line buffer
-pub took-shown : (t : Text) (p : Progress) (line i m : List ℕ) (o : Settled) → Shown (tookBy t) p i m o → state p line i m ≡ took t o line
+pub took-shown : (t : Text) (p : Progress) (line i m : List ℕ) (o : Settled) → Shown (tookBy t) p i m o
+    → state p line i m ≡ took t o line
 took-shown t p line i m o s = rw (s .0, s .1, s .2)
 
 -- a byte that does not end the line is kept
 module _ (size : ℕ) (t : Text) (b : ℕ) (line image map : List ℕ) where
-  pub kept-by : (n : ℕ) (k : List ℕ) → (b ≡ 0x0A → ⊥) → (n ≡ keepOneOf (t .len) line) × (k ≡ set line (t .len) b) → state (going (withKept t n)) k image map ≡ textByte size t b line image map
+  pub kept-by : (n : ℕ) (k : List ℕ) → (b ≡ 0x0A → ⊥)
+      → (n ≡ keepOneOf (t .len) line) × (k ≡ set line (t .len) b)
+      → state (going (withKept t n)) k image map ≡ textByte size t b line image map
   kept-by n k e f = rw (f .0, f .1) (sym (byte-kept size t b line image map e))

@@ -31,7 +31,9 @@ pub fn log_line(input: &[u8], buffer: &mut [u8]) -> usize
 
 fn record_line(x: Record, buffer: &mut [u8]) -> usize
     requires { ⌜ logRoom ≤ length (now buffer) ⌝ }
-    ensures { λ r. ⌜ (r ≡ length (recordLine x)) × (now (buffer .exit) ≡ overlay (recordLine x) (now (buffer .entry))) ⌝ }
+    ensures { λ r. ⌜
+        (r ≡ length (recordLine x)) × (now (buffer .exit) ≡ overlay (recordLine x) (now (buffer .entry)))
+        ⌝ }
 {
     let version = field(buffer, 0, b"VERSION ", x.version as u64);
     let outcome = field(buffer, version, b" OUTCOME ", x.outcome as u64);

@@ -28,7 +28,9 @@ pub fn decimal(buffer: &mut [u8], at: usize, n: u64) -> usize
 pub fn field(buffer: &mut [u8], at: usize, word: &[u8], n: u64) -> usize
     requires { ⌜ at + length (now word) + 20 ≤ length (now buffer) ⌝ }
     ensures end { λ r. ⌜ r ≡ at + length (now (word .entry) ++ decimalOf n) ⌝ }
-    ensures buffer { λ _. ⌜ now (buffer .exit) ≡ copyOf (now (buffer .entry)) at (now (word .entry) ++ decimalOf n) ⌝ }
+    ensures buffer { λ _. ⌜
+        now (buffer .exit) ≡ copyOf (now (buffer .entry)) at (now (word .entry) ++ decimalOf n)
+        ⌝ }
     ensures within { λ r. ⌜ r ≤ at + length (now (word .entry)) + 20 ⌝ }
 {
     copy(buffer, at, word);

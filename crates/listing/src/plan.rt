@@ -49,7 +49,11 @@ pub struct Sheet {
 impl Listing {
     // Refused as the session's start is.
     pub fn start(image: &[u8], map: &[u8]) -> Begun
-        ensures { λ r. ⌜ paperBegun r ≡ listingBy (now (map .entry)) (started (now (image .entry)) (now (map .entry)) packetMost RunKind.Reset) ⌝ }
+        ensures { λ r. ⌜
+            paperBegun r
+            ≡ listingBy (now (map .entry))
+            (started (now (image .entry)) (now (map .entry)) packetMost RunKind.Reset)
+            ⌝ }
     {
         let mut packet = [0u8; PACKET];
         Listing::start_with(image, map, &mut packet)
@@ -57,7 +61,11 @@ impl Listing {
 
     // The packet's buffer is lent from a function of its own: its 259 bytes would stand in every fact of this one.
     fn start_with(image: &[u8], map: &[u8], packet: &mut [u8]) -> Begun
-        ensures { λ r. ⌜ paperBegun r ≡ listingBy (now (map .entry)) (started (now (image .entry)) (now (map .entry)) (length (now (packet .entry))) RunKind.Reset) ⌝ }
+        ensures { λ r. ⌜
+            paperBegun r
+            ≡ listingBy (now (map .entry))
+            (started (now (image .entry)) (now (map .entry)) (length (now (packet .entry))) RunKind.Reset)
+            ⌝ }
     {
         match Session::start(RunKind::Reset, image, map, packet) {
             Stepped::Next(next) => Begun::Listing(Listing::opening(map, next.session)),
@@ -67,7 +75,9 @@ impl Listing {
 
     // Nothing is listed; the first packet is the one that follows the greeting.
     fn opening(map: &[u8], session: Session) -> Listing
-        requires { ⌜ (length (now map) ≡ mapSize) × (0 < namedCount (now map)) × (session .total ≡ total (now map)) ⌝ }
+        requires { ⌜
+            (length (now map) ≡ mapSize) × (0 < namedCount (now map)) × (session .total ≡ total (now map))
+            ⌝ }
         ensures { λ r. ⌜ r ≡ listingAt (now (map .entry)) 0 ⌝ }
     {
         Listing {
@@ -81,8 +91,10 @@ impl Listing {
     pub fn sheet(self, image: &[u8], map: &[u8], buffer: &mut [u8]) -> Sheet
         requires { ⌜ Listed (now image) (now map) self ⌝ }
         ensures { λ r. ⌜
-            (let g = sheetOf (length (now (buffer .entry))) (self .listed) (drop (self .listed) (plan (now (image .entry)) (now (map .entry)) RunKind.Reset)) in
-            (r .listing ≡ listingAt (now (map .entry)) (g .listed)) × (r .len ≡ length (g .text)) × (now (buffer .exit) ≡ overlay (g .text) (now (buffer .entry))))
+            (let g = sheetOf (length (now (buffer .entry))) (self .listed)
+            (drop (self .listed) (plan (now (image .entry)) (now (map .entry)) RunKind.Reset)) in
+            (r .listing ≡ listingAt (now (map .entry)) (g .listed)) × (r .len ≡ length (g .text))
+            × (now (buffer .exit) ≡ overlay (g .text) (now (buffer .entry))))
             ⌝ }
     {
         let mut listing = self;
@@ -100,10 +112,15 @@ impl Listing {
 
     // The next packet's line, from `at` on.
     fn line(self, image: &[u8], map: &[u8], buffer: &mut [u8], at: usize) -> Sheet
-        requires { ⌜ Listed (now image) (now map) self × (self .listed < self .total) × (at + longestLine ≤ length (now buffer)) ⌝ }
+        requires { ⌜
+            Listed (now image) (now map) self × (self .listed < self .total)
+            × (at + longestLine ≤ length (now buffer))
+            ⌝ }
         ensures { λ r. ⌜
-            (let s = stepLine (self .listed + 1) (packetAt (now (image .entry)) (now (map .entry)) (self .listed)) in
-            (r .listing ≡ listingAt (now (map .entry)) (self .listed + 1)) × (r .len ≡ at + length s) × (now (buffer .exit) ≡ copyOf (now (buffer .entry)) at s) × (length s ≤ longestLine))
+            (let s = stepLine (self .listed + 1)
+            (packetAt (now (image .entry)) (now (map .entry)) (self .listed)) in
+            (r .listing ≡ listingAt (now (map .entry)) (self .listed + 1)) × (r .len ≡ at + length s)
+            × (now (buffer .exit) ≡ copyOf (now (buffer .entry)) at s) × (length s ≤ longestLine))
             ⌝ }
     {
         let mut packet = [0u8; PACKET];
@@ -119,10 +136,15 @@ impl Listing {
         buffer: &mut [u8],
         at: usize,
     ) -> Sheet
-        requires { ⌜ Listed (now image) (now map) self × (self .listed < self .total) × (length (now packet) ≡ packetMost) × (at + longestLine ≤ length (now buffer)) ⌝ }
+        requires { ⌜
+            Listed (now image) (now map) self × (self .listed < self .total)
+            × (length (now packet) ≡ packetMost) × (at + longestLine ≤ length (now buffer))
+            ⌝ }
         ensures { λ r. ⌜
-            (let s = stepLine (self .listed + 1) (packetAt (now (image .entry)) (now (map .entry)) (self .listed)) in
-            (r .listing ≡ listingAt (now (map .entry)) (self .listed + 1)) × (r .len ≡ at + length s) × (now (buffer .exit) ≡ copyOf (now (buffer .entry)) at s) × (length s ≤ longestLine))
+            (let s = stepLine (self .listed + 1)
+            (packetAt (now (image .entry)) (now (map .entry)) (self .listed)) in
+            (r .listing ≡ listingAt (now (map .entry)) (self .listed + 1)) × (r .len ≡ at + length s)
+            × (now (buffer .exit) ≡ copyOf (now (buffer .entry)) at s) × (length s ≤ longestLine))
             ⌝ }
     {
         let phase = self.phase;
@@ -150,7 +172,10 @@ pub fn head_line(buffer: &mut [u8]) -> usize
 // The line below them.
 pub fn total_line(buffer: &mut [u8], total: u32) -> usize
     requires { ⌜ longestLine ≤ length (now buffer) ⌝ }
-    ensures { λ r. ⌜ (r ≡ length (totalLine total)) × (now (buffer .exit) ≡ overlay (totalLine total) (now (buffer .entry))) ⌝ }
+    ensures { λ r. ⌜
+        (r ≡ length (totalLine total))
+        × (now (buffer .exit) ≡ overlay (totalLine total) (now (buffer .entry)))
+        ⌝ }
 {
     last_field(buffer, 0, b"TOTAL ", total as u64)
 }
@@ -160,7 +185,8 @@ fn step_line(buffer: &mut [u8], at: usize, step: u64, packet: &[u8]) -> usize
     requires { ⌜ at + 2 * length (now packet) + 24 ≤ length (now buffer) ⌝ }
     ensures { λ r. ⌜
         (let s = stepLine step (now (packet .entry)) in
-        (r ≡ at + length s) × (now (buffer .exit) ≡ copyOf (now (buffer .entry)) at s) × (length s ≤ 2 * length (now (packet .entry)) + 24))
+        (r ≡ at + length s) × (now (buffer .exit) ≡ copyOf (now (buffer .entry)) at s)
+        × (length s ≤ 2 * length (now (packet .entry)) + 24))
         ⌝ }
 {
     let end = decimal(buffer, at, step);

@@ -25,7 +25,8 @@ reading-one (Reading.Refused n x) (Reading.Refused k y) e =
     let g : x ≡ y = refusal-one x y (cc) in
     λ i. Reading.Refused (f i) (g i)
 
-pub feed-determined : {f : Fed} (r s : Reading) (a b i j m n : List ℕ) → state (paperReading r) a i m ≡ f → state (paperReading s) b j n ≡ f → (r ≡ s) × (a ≡ b) × (i ≡ j) × (m ≡ n)
+pub feed-determined : {f : Fed} (r s : Reading) (a b i j m n : List ℕ) → state (paperReading r) a i m ≡ f
+    → state (paperReading s) b j n ≡ f → (r ≡ s) × (a ≡ b) × (i ≡ j) × (m ≡ n)
 feed-determined r s a b i j m n p q =
     let e = p ∙ sym q in
     (reading-one r s (ap (λ (x : Fed). x .progress) e), ap (λ (x : Fed). x .line) e, ap (λ (x : Fed). x .image) e, ap (λ (x : Fed). x .map) e)
@@ -40,7 +41,8 @@ ended-one (Ended.Refused n x) (Ended.Refused k y) e =
     let g : x ≡ y = refusal-one x y (cc) in
     λ i. Ended.Refused (f i) (g i)
 
-pub read-determined : {x : Result} (r s : Ended) (i j m n : List ℕ) → result (paperEnded r) i m ≡ x → result (paperEnded s) j n ≡ x → (r ≡ s) × (i ≡ j) × (m ≡ n)
+pub read-determined : {x : Result} (r s : Ended) (i j m n : List ℕ) → result (paperEnded r) i m ≡ x
+    → result (paperEnded s) j n ≡ x → (r ≡ s) × (i ≡ j) × (m ≡ n)
 read-determined r s i j m n p q =
     let e = p ∙ sym q in
     (ended-one r s (ap (λ (y : Result). y .verdict) e), ap (λ (y : Result). y .image) e, ap (λ (y : Result). y .map) e)

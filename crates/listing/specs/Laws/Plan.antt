@@ -46,7 +46,8 @@ module _ (m : List ℕ) (long : length m ≡ mapSize) (some : 0 < namedCount m) 
       (λ t. rw t (ap (λ (s : Session). s .phase) (ack-last m long some RunKind.Reset n (omega (arith, ltb-false (n + 1) (total m) t)))))
 
   -- nothing is listed: the first packet follows the greeting
-  pub listing-first : (ph : Phase) (k : ℕ) → ph ≡ afterOf m Phase.Greeting → k ≡ total m → record { phase = ph; listed = 0; total = k } ≡ listingAt m 0
+  pub listing-first : (ph : Phase) (k : ℕ) → ph ≡ afterOf m Phase.Greeting → k ≡ total m
+      → record { phase = ph; listed = 0; total = k } ≡ listingAt m 0
   unfolding tookOf
   listing-first ph k e f =
       let g : ph ≡ phaseAt m 0 = e ∙ ap (λ (s : Session). s .phase) (greeting-state m long some RunKind.Reset) in
@@ -71,7 +72,8 @@ module _ (image m : List ℕ) (l : Listing) (h : Listed image m l) where
     listed-start =
         ap (atStart m) listed-phase ∙ stands-start m (h .long) (phaseAt m (l .listed)) (l .listed) (at-stands m (l .listed) listed-below)
 
-    pub listed-next : (ph : Phase) → ph ≡ afterOf m (l .phase) → record { phase = ph; listed = l .listed + 1; total = l .total } ≡ listingAt m (l .listed + 1)
+    pub listed-next : (ph : Phase) → ph ≡ afterOf m (l .phase)
+        → record { phase = ph; listed = l .listed + 1; total = l .total } ≡ listingAt m (l .listed + 1)
     listed-next ph e =
         let f : ph ≡ phaseAfter m (l .listed + 1) = e ∙ ap (afterOf m) listed-phase ∙ phase-after m (h .long) (h .some) (l .listed) listed-below in
         λ i. record { phase = f i; listed = l .listed + 1; total = listed-total i }
@@ -102,7 +104,8 @@ pub record Starts (image m : List ℕ) (room : ℕ) (x : Next) : Type 0 where
   pub counted : x .session .total ≡ total m
   pub begun : listingBy m (started image m room RunKind.Reset) ≡ given (listingAt m 0)
 
-pub starts : (image m : List ℕ) (room : ℕ) (x : Next) → given x ≡ measured (started image m room RunKind.Reset) → Starts image m room x
+pub starts : (image m : List ℕ) (room : ℕ) (x : Next)
+    → given x ≡ measured (started image m room RunKind.Reset) → Starts image m room x
 starts image m room x e =
     decide (rightSizes (length image) (length m) room)
     (λ t. let z = sizes-right (length image) (length m) room t in
@@ -114,7 +117,9 @@ starts image m room x e =
     record { right = z .0; long = z .1; some = omega arith; counted = ap (λ (v : Session). v .total) y; begun = ap (listingBy m) g }))
     (λ t. absurd (apart (sym (e ∙ ap measured (start-size image m room RunKind.Reset t)))))
 
-pub start-refused : (image m : List ℕ) (room k : ℕ) → refused k ≡ measured (started image m room RunKind.Reset) → refused k ≡ listingBy m (started image m room RunKind.Reset)
+pub start-refused : (image m : List ℕ) (room k : ℕ)
+    → refused k ≡ measured (started image m room RunKind.Reset)
+    → refused k ≡ listingBy m (started image m room RunKind.Reset)
 start-refused image m room k e = go (started image m room RunKind.Reset) e
   where
     go : (a : Answer Sent) → refused k ≡ measured a → refused k ≡ listingBy m a
@@ -133,7 +138,8 @@ module _ (room n : ℕ) where
   sheet-full [] h = refl
   sheet-full (p ∷ ps) h = rw (lt-ltb room longestLine h)
 
-  pub sheet-line : (p : List ℕ) (ps : List (List ℕ)) → longestLine ≤ room → sheetOf room n (p ∷ ps) ≡ followedBy (stepLine (n + 1) p) (sheetOf (room - length (stepLine (n + 1) p)) (n + 1) ps)
+  pub sheet-line : (p : List ℕ) (ps : List (List ℕ)) → longestLine ≤ room
+      → sheetOf room n (p ∷ ps) ≡ followedBy (stepLine (n + 1) p) (sheetOf (room - length (stepLine (n + 1) p)) (n + 1) ps)
   unfolding sheetOf
   sheet-line p ps h = rw (le-ltb room longestLine h)
 
@@ -146,7 +152,8 @@ sheet-from room n (p ∷ ps) =
     (λ t. rw t (omega arith))
     (λ t. rw t (omega (arith, sheet-from (room - length (stepLine (n + 1) p)) (n + 1) ps)))
 
-pub sheet-moves : (room n : ℕ) (ps : List (List ℕ)) → longestLine ≤ room → 0 < length ps → n < sheetOf room n ps .listed
+pub sheet-moves : (room n : ℕ) (ps : List (List ℕ)) → longestLine ≤ room → 0 < length ps
+    → n < sheetOf room n ps .listed
 sheet-moves room n [] h l = absurd (omega arith)
 sheet-moves room n (p ∷ ps) h l =
     rw (sheet-line room n p ps h) (omega (arith, sheet-from (room - length (stepLine (n + 1) p)) (n + 1) ps))
@@ -160,7 +167,8 @@ sheet-within room n (p ∷ ps) =
     (λ t. rw t (omega (arith, sheet-within (room - length (stepLine (n + 1) p)) (n + 1) ps)))
 
 -- sheets one after another are the plan's lines: each is followed by the lines of the packets after it
-pub sheet-text : (room n : ℕ) (ps : List (List ℕ)) → stepLines n ps ≡ sheetOf room n ps .text ++ stepLines (sheetOf room n ps .listed) (drop (sheetOf room n ps .listed - n) ps)
+pub sheet-text : (room n : ℕ) (ps : List (List ℕ))
+    → stepLines n ps ≡ sheetOf room n ps .text ++ stepLines (sheetOf room n ps .listed) (drop (sheetOf room n ps .listed - n) ps)
 unfolding sheetOf stepLines
 sheet-text room n [] = sym (ap (stepLines n) (drop-nil (n - n)))
 sheet-text room n (p ∷ ps) =
@@ -171,7 +179,8 @@ sheet-text room n (p ∷ ps) =
     let k : g .listed - n ≡ suc (g .listed - (n + 1)) = omega (arith, sheet-from (room - length (stepLine (n + 1) p)) (n + 1) ps) in
     rw (t, k, append-assoc) (ap (λ (s : List ℕ). stepLine (n + 1) p ++ s) (sheet-text (room - length (stepLine (n + 1) p)) (n + 1) ps)))
 
-sheets-text : (k room n : ℕ) (ps : List (List ℕ)) → longestLine ≤ room → length ps ≤ k → sheets k room n ps ≡ stepLines n ps
+sheets-text : (k room n : ℕ) (ps : List (List ℕ)) → longestLine ≤ room → length ps ≤ k
+    → sheets k room n ps ≡ stepLines n ps
 unfolding sheets stepLines
 sheets-text zero room n [] h l = refl
 sheets-text zero room n (p ∷ ps) h l = absurd (omega arith)
@@ -187,7 +196,8 @@ sheets-text (suc k) room n ps h l =
         omega (arith, length-drop (sheetOf room n (p ∷ ps) .listed - n) (p ∷ ps))
 
 -- head line, sheets and total line are the plan's text
-pub plan-sheets : (image m : List ℕ) (room : ℕ) → longestLine ≤ room → headLine ++ (sheets (total m) room 0 (plan image m RunKind.Reset) ++ totalLine (total m)) ≡ planText image m
+pub plan-sheets : (image m : List ℕ) (room : ℕ) → longestLine ≤ room
+    → headLine ++ (sheets (total m) room 0 (plan image m RunKind.Reset) ++ totalLine (total m)) ≡ planText image m
 unfolding planText
 plan-sheets image m room h =
     ap (λ (s : List ℕ). headLine ++ (s ++ totalLine (total m))) (sheets-text (total m) room 0 (plan image m RunKind.Reset) h (omega (arith, plan-length image m RunKind.Reset)))
@@ -212,10 +222,12 @@ module _ (image m : List ℕ) (l : Listing) (h : Listed image m l) (room : ℕ) 
       omega (arith, n, ap (λ (y : Listing). y .total) e, listed-total image m l h, sheet-moves room (l .listed) rest r (omega (arith, rest-length, listed-total image m l h)), sheet-within room (l .listed) rest, rest-length)
 
 -- what a start that is not refused gives
-pub begun-listed : (image m : List ℕ) (room : ℕ) (l : Listing) → given l ≡ listingBy m (started image m room RunKind.Reset) → Listed image m l
+pub begun-listed : (image m : List ℕ) (room : ℕ) (l : Listing)
+    → given l ≡ listingBy m (started image m room RunKind.Reset) → Listed image m l
 begun-listed image m room l e = go (started image m room RunKind.Reset) refl e
   where
-    go : (a : Answer Sent) → started image m room RunKind.Reset ≡ a → given l ≡ listingBy m a → Listed image m l
+    go : (a : Answer Sent) → started image m room RunKind.Reset ≡ a → given l ≡ listingBy m a
+        → Listed image m l
     go (refused k) q f = absurd (apart (sym f))
     go (given y) q f =
         let s = starts image m room (record { session = y .session; len = length (y .packet) }) (sym (ap measured q)) in

@@ -34,11 +34,13 @@ module _ (size : ℕ) (h : Hex) (image map : List ℕ) where
       let least : 11 ≤ length l = omega arith in
       rw (ne-eqb _ _ some, le-ltb _ _ least, lt-ltb _ _ g)
 
-  overlong : (a b : List ℕ) → 521 < length a → 521 < length b → getD a 0 0 ≡ getD b 0 0 → recordIn size h a image map ≡ recordIn size h b image map
+  overlong : (a b : List ℕ) → 521 < length a → 521 < length b → getD a 0 0 ≡ getD b 0 0
+      → recordIn size h a image map ≡ recordIn size h b image map
   overlong a b p q e = long-record a p ∙ ap early e ∙ sym (long-record b q)
 
   -- so many characters of a line are enough
-  record-kept : (n : ℕ) (l : List ℕ) → lineRoom ≤ n → recordIn size h (take n l) image map ≡ recordIn size h l image map
+  record-kept : (n : ℕ) (l : List ℕ) → lineRoom ≤ n
+      → recordIn size h (take n l) image map ≡ recordIn size h l image map
   record-kept n l g =
       decide (ltb n (length l))
       (λ t. let k = ltb-true n (length l) t in
@@ -60,7 +62,8 @@ trimmed-first l h =
     (λ t. rw t)
 
 module _ (size : ℕ) (h : Hex) (image map : List ℕ) where
-  record-trimmed : (n : ℕ) (l : List ℕ) → lineRoom ≤ n → recordIn size h (trimmedOf (take n l)) image map ≡ recordIn size h (trimmedOf l) image map
+  record-trimmed : (n : ℕ) (l : List ℕ) → lineRoom ≤ n
+      → recordIn size h (trimmedOf (take n l)) image map ≡ recordIn size h (trimmedOf l) image map
   record-trimmed n l g =
       decide (ltb n (length l))
       (λ t. let k = ltb-true n (length l) t in
@@ -111,7 +114,8 @@ verdict-shut t (given h) = refl
 
 module _ (size : ℕ) where
   -- a refusal stays
-  pub feed-stopped : (n k : ℕ) (line image map text : List ℕ) → feedOf size (state (stopped n k) line image map) text ≡ state (stopped n k) line image map
+  pub feed-stopped : (n k : ℕ) (line image map text : List ℕ)
+      → feedOf size (state (stopped n k) line image map) text ≡ state (stopped n k) line image map
   unfolding feedOf
   feed-stopped n k line image map [] = refl
   feed-stopped n k line image map (b ∷ text) = feed-stopped n k line image map text
@@ -119,13 +123,17 @@ module _ (size : ℕ) where
   abbrev fresh : Text → Hex → Text
   fresh t h = record { hex = h; lines = nextLine t; len = 0 }
 
-  went : (t : Text) (line image map text : List ℕ) (a : Answer File) (g : File → Result) → nextLine t ≡ t .lines + 1 → ((f : File) → cameTo size (state (going (fresh t (f .reader))) line (f .image) (f .map)) text ≡ g f) → cameTo size (took t (settled a image map) line) text ≡ unlessRefused (t .lines + 1) image map a g
+  went : (t : Text) (line image map text : List ℕ) (a : Answer File) (g : File → Result)
+      → nextLine t ≡ t .lines + 1
+      → ((f : File) → cameTo size (state (going (fresh t (f .reader))) line (f .image) (f .map)) text ≡ g f)
+      → cameTo size (took t (settled a image map) line) text ≡ unlessRefused (t .lines + 1) image map a g
   went t line image map text (refused k) g e ih = rw (feed-stopped (nextLine t) k line image map text, e)
   went t line image map text (given f) g e ih = ih f
 
   module _ (line : List ℕ) (room : lineRoom ≤ length line) where
     -- the end: the open line is the last one, and nothing is none
-    ends : (l : List ℕ) (t : Text) (image map : List ℕ) → Held l t line → nextLine t ≡ t .lines + 1 → cameTo size (state (going t) line image map) [] ≡ readFrom size (t .lines) (linesFrom l []) (file (t .hex) image map)
+    ends : (l : List ℕ) (t : Text) (image map : List ℕ) → Held l t line → nextLine t ≡ t .lines + 1
+        → cameTo size (state (going t) line image map) [] ≡ readFrom size (t .lines) (linesFrom l []) (file (t .hex) image map)
     unfolding Held feedOf linesFrom readFrom lastOf shutOf
     ends l t image map h e =
         decide (eqb (length l) 0)
@@ -135,7 +143,8 @@ module _ (size : ℕ) where
         rw (z, ne-eqb (t .len) 0 n, h .1, record-kept size (t .hex) image map (length line) l room)
         (last (recordIn size (t .hex) l image map)))
       where
-        last : (a : Answer File) → fedResult (shutFed (took t (settled a image map) line)) ≡ unlessRefused (t .lines + 1) image map a (readFrom size (t .lines + 1) [])
+        last : (a : Answer File)
+            → fedResult (shutFed (took t (settled a image map) line)) ≡ unlessRefused (t .lines + 1) image map a (readFrom size (t .lines + 1) [])
         last (refused k) = rw e
         last (given f) = ap (λ v. result v (f .image) (f .map)) (verdict-shut (fresh t (f .reader)) (closing (f .reader)))
 
@@ -156,12 +165,15 @@ module _ (size : ℕ) where
   unfolding feedOf
   fed-on s b text = refl
 
-  read-on : (n : ℕ) (l : List ℕ) (ls : List (List ℕ)) (f : File) → readFrom size n (l ∷ ls) f ≡ unlessRefused (n + 1) (f .image) (f .map) (recordIn size (f .reader) l (f .image) (f .map)) (readFrom size (n + 1) ls)
+  read-on : (n : ℕ) (l : List ℕ) (ls : List (List ℕ)) (f : File)
+      → readFrom size n (l ∷ ls) f ≡ unlessRefused (n + 1) (f .image) (f .map) (recordIn size (f .reader) l (f .image) (f .map)) (readFrom size (n + 1) ls)
   unfolding readFrom
   read-on n l ls f = refl
 
   -- from any state on: the open line and what comes, as lines
-  reads : (text l line image map : List ℕ) (t : Text) → lineRoom ≤ length line → Held l t line → t .lines + length text + 1 < 2 ^ 64 → cameTo size (state (going t) line image map) text ≡ readFrom size (t .lines) (linesFrom l text) (file (t .hex) image map)
+  reads : (text l line image map : List ℕ) (t : Text) → lineRoom ≤ length line → Held l t line
+      → t .lines + length text + 1 < 2 ^ 64
+      → cameTo size (state (going t) line image map) text ≡ readFrom size (t .lines) (linesFrom l text) (file (t .hex) image map)
   reads [] l line image map t room h few = ends line room l t image map h (numbered (t .lines) 0 (omega arith))
   reads (b ∷ text) l line image map t room h few =
       let next : nextLine t ≡ t .lines + 1 = numbered (t .lines) (length text) (omega arith) in
@@ -178,10 +190,12 @@ module _ (size : ℕ) where
       ∙ sym (ap (λ (ls : List (List ℕ)). readFrom size (t .lines) ls f) (lines-on l text b z)))
 
   -- from the start on, however the text was cut: what the paper says of its lines
-  pub text-reads : (text line image map : List ℕ) → lineRoom ≤ length line → length text + 1 < 2 ^ 64 → cameTo size (opened (settled (startIn size image map) image map) line) text ≡ readIn size text image map
+  pub text-reads : (text line image map : List ℕ) → lineRoom ≤ length line → length text + 1 < 2 ^ 64
+      → cameTo size (opened (settled (startIn size image map) image map) line) text ≡ readIn size text image map
   unfolding readIn
   text-reads text line image map room few = go (startIn size image map)
     where
-      go : (a : Answer File) → cameTo size (opened (settled a image map) line) text ≡ unlessRefused 0 image map a (readFrom size 0 (linesFrom [] text))
+      go : (a : Answer File)
+          → cameTo size (opened (settled a image map) line) text ≡ unlessRefused 0 image map a (readFrom size 0 (linesFrom [] text))
       go (refused k) = rw (feed-stopped 0 k line image map text)
       go (given f) = reads text [] line (f .image) (f .map) (record { hex = f .reader; lines = 0; len = 0 }) room (held-none (record { hex = f .reader; lines = 0; len = 0 }) line refl) (omega arith)

@@ -52,7 +52,8 @@ unfolding readingBy
 reading-back (Reading.Record x) = refl
 reading-back (Reading.Refused x) = ap Reading.Refused (unread-back x)
 
-pub write-determined : (b : Answer (List ℕ)) (r s : Written) (x y old : List ℕ) → (paperWritten r ≡ counted b) × (x ≡ overlay (written b) old)
+pub write-determined : (b : Answer (List ℕ)) (r s : Written) (x y old : List ℕ)
+    → (paperWritten r ≡ counted b) × (x ≡ overlay (written b) old)
     → (paperWritten s ≡ counted b) × (y ≡ overlay (written b) old) → (r ≡ s) × (x ≡ y)
 write-determined b r s x y old p q =
     (determined paperWritten (λ r s e. sym (written-back r) ∙ ap writtenBy e ∙ written-back s) r s (p .0) (q .0), p .1 ∙ sym (q .1))

@@ -24,7 +24,8 @@ module _ (room : ℕ) (s : Session) where
     write-wide e = skip 45 _ _ _ (ap not e₁) ∙ stop 45 _ _ _ (ap not e)
 
     module _ (e₂ : fitTwo (s .acknowledged) (s .total) (s .named) ≡ true) (o : ℕ) (is : o ≡ outcomeIn (s .phase)) where
-      pub write-false : isFalseOf o (s .acknowledged) (s .total) (s .named) ≡ true → writeOf room s ≡ refused 45
+      pub write-false : isFalseOf o (s .acknowledged) (s .total) (s .named) ≡ true
+          → writeOf room s ≡ refused 45
       unfolding writeOf
       write-false e = skip 45 _ _ _ (ap not e₁) ∙ skip 45 _ _ _ (ap not e₂) ∙ stop 45 _ _ _ (rw is at e)
 
@@ -33,7 +34,8 @@ module _ (room : ℕ) (s : Session) where
         unfolding writeOf
         write-small l = skip 45 _ _ _ (ap not e₁) ∙ skip 45 _ _ _ (ap not e₂) ∙ skip 45 _ _ _ (rw is at e₃) ∙ stop 20 _ _ _ (lt-ltb _ _ l)
 
-        pub write-given : recordSize ≤ room → writeOf room s ≡ given (recordBytes o (s .acknowledged) (s .total) (s .named))
+        pub write-given : recordSize ≤ room
+            → writeOf room s ≡ given (recordBytes o (s .acknowledged) (s .total) (s .named))
         unfolding writeOf
         write-given l =
             skip 45 _ _ _ (ap not e₁) ∙ skip 45 _ _ _ (ap not e₂) ∙ skip 45 _ _ _ (rw is at e₃) ∙ skip 20 _ _ _ (le-ltb _ _ l) ∙ done _

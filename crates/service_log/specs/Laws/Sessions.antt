@@ -34,7 +34,8 @@ use Rattle.service_log.specs.declared.read.Record.{Record}
 abbrev pub said : ℕ → ℕ → ℕ → ℕ → Record
 said o k t n = record { version = 1; outcome = o; acknowledged = k; total = t; bytes = n }
 
-pub read-back : (o k t n : ℕ) → fitTwo k t n ≡ true → isFalseOf o k t n ≡ false → readOf (recordBytes o k t n) ≡ given (said o k t n)
+pub read-back : (o k t n : ℕ) → fitTwo k t n ≡ true → isFalseOf o k t n ≡ false
+    → readOf (recordBytes o k t n) ≡ given (said o k t n)
 read-back o k t n f e =
     let a = both-true (twoBytes k) (both (twoBytes t) (twoBytes n)) f in
     let b = both-true (twoBytes t) (twoBytes n) (a .1) in
@@ -43,7 +44,8 @@ read-back o k t n f e =
     let ln = ltb-true n 65536 (b .1) in
     read-given (recordBytes o k t n) (omega arith) refl (omega arith) refl (omega arith) (omega arith) (omega arith) e
 
-pub written-reads : (room : ℕ) (s : Session) (w : List ℕ) → writeOf room s ≡ given w → readOf w ≡ given (said (outcomeIn (s .phase)) (s .acknowledged) (s .total) (s .named))
+pub written-reads : (room : ℕ) (s : Session) (w : List ℕ) → writeOf room s ≡ given w
+    → readOf w ≡ given (said (outcomeIn (s .phase)) (s .acknowledged) (s .total) (s .named))
 unfolding writeOf
 written-reads room s w e =
     let p₁ = passed _ _ _ _ e in
@@ -85,11 +87,13 @@ module _ (m : List ℕ) (long : length m ≡ mapSize) (some : 0 < namedCount m) 
       let n = named-fits m in
       both-second _ _ (lt-ltb k 65536 (omega arith)) ∙ both-second _ _ (lt-ltb (total m) 65536 (omega arith)) ∙ lt-ltb (namedCount m) 65536 (omega arith)
 
-  failed : (o k : ℕ) → k < total m → known o ≡ true → (o ≡ 0 → ⊥) → (o ≡ 42 → ⊥) → isFalseOf o k (total m) (namedCount m) ≡ false
+  failed : (o k : ℕ) → k < total m → known o ≡ true → (o ≡ 0 → ⊥) → (o ≡ 42 → ⊥)
+      → isFalseOf o k (total m) (namedCount m) ≡ false
   failed o k l q z w =
       sym (true-greeted o k (total m) (namedCount m) q (total-least m long some) (λ e. omega arith) (named-fits m) (omega arith) z (λ e. omega arith) w)
 
-  failed-true : (o : Outcome) (k : ℕ) → k < total m → failing o k ≡ true → isFalseOf (paperOutcome o) k (total m) (namedCount m) ≡ false
+  failed-true : (o : Outcome) (k : ℕ) → k < total m → failing o k ≡ true
+      → isFalseOf (paperOutcome o) k (total m) (namedCount m) ≡ false
   failed-true Outcome.Valid k l f = absurd (true-false (sym f))
   failed-true Outcome.Silence k l f = failed 40 k l refl (λ e. omega arith) (λ e. omega arith)
   failed-true Outcome.Bel k l f = failed 41 k l refl (λ e. omega arith) (λ e. omega arith)
@@ -105,7 +109,8 @@ module _ (m : List ℕ) (long : length m ≡ mapSize) (some : 0 < namedCount m) 
 
   -- once ended it is never refused 45: its total is e + 2w + 1, and its bytes are the named count
   module _ (kind : RunKind) (room : ℕ) (l : recordSize ≤ room) where
-    pub came-logged : (s : Session) → Came m kind s → ended (s .phase) ≡ true → writeOf room s ≡ given (recordBytes (outcomeIn (s .phase)) (s .acknowledged) (total m) (namedCount m))
+    pub came-logged : (s : Session) → Came m kind s → ended (s .phase) ≡ true
+        → writeOf room s ≡ given (recordBytes (outcomeIn (s .phase)) (s .acknowledged) (total m) (namedCount m))
     came-logged s (waits e) h = absurd (true-false (sym h ∙ ap (λ (x : Session). ended (x .phase)) e))
     came-logged s (stands k b e) h = absurd (true-false (sym h ∙ ap (λ (x : Session). ended (x .phase)) e ∙ phase-open m k))
     came-logged s (fails o k b f e) h =

@@ -17,7 +17,8 @@ use Rattle.gremolunde.proofs.loading.gremolunde_loader_take.Statement.{
 use Rattle.gremolunde.proofs.loading.gremolunde_loader_take.Tie as tie
 
 -- what the loader l shows of an input, where l is what the state stands for
-told-of : (s : LoaderState) (l m : Loader) → l ≡ m → (input flash old : List ℕ) {v : Answer (Unit {0})} {next : Loader} {k : ℕ} {f a : List ℕ} (r : Taken)
+told-of : (s : LoaderState) (l m : Loader) → l ≡ m
+    → (input flash old : List ℕ) {v : Answer (Unit {0})} {next : Loader} {k : ℕ} {f a : List ℕ} (r : Taken)
     → r ≡ takenAnswer s v next k → Takes (takeOf pages l input flash (length old)) l flash old v next k f a
     → let x = takeOf pages m input flash (length old) in (r ≡ takenAnswer s (bare x) (effectAfter m flash x .loader) (length (answerBytes m x))) × (f ≡ effectAfter m flash x .flash) × (a ≡ overlay (answerBytes m x) old)
 told-of s l m e input flash old r p t =

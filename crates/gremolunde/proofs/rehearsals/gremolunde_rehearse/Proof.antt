@@ -16,7 +16,8 @@ use Rattle.gremolunde.proofs.rehearsals.gremolunde_rehearse.Statement.{
 use Rattle.gremolunde.proofs.rehearsals.gremolunde_rehearse.Tie as tie
 
 -- what a rehearsal with the kind k and the loader l shows, where they are what the arguments stand for
-told-of : (s : LoaderState) (k n : RunKind) (l m : Loader) → k ≡ n → l ≡ m → (image map flash : List ℕ) (losses : ℕ → Loss) {a : Answer Load} {f : List ℕ} (r : Rehearsal)
+told-of : (s : LoaderState) (k n : RunKind) (l m : Loader) → k ≡ n → l ≡ m
+    → (image map flash : List ℕ) (losses : ℕ → Loss) {a : Answer Load} {f : List ℕ} (r : Rehearsal)
     → r ≡ rehearsedAnswer s a → Rehearses (rehearseOf image map k l losses flash) flash a f
     → let x = rehearseOf image map n m losses flash in (r ≡ rehearsedAnswer s (loaded x)) × (f ≡ leftFlash flash x)
 told-of s k n l m d e image map flash losses r p t = rw (sym d) (rw (sym e) (p ∙ ap (rehearsedAnswer s) (t .result-is), t .flash-is))

@@ -13,7 +13,9 @@ use Rattle.listing.proofs.log.log_line.Statement.{statement}
 use Rattle.listing.proofs.log.log_line.Tie as tie
 
 -- the line of what was read
-log-put : (a b : Answer Record) (old new : List ℕ) (n : ℕ) → a ≡ b → (n ≡ length (logLine b)) × (new ≡ overlay (logLine b) old) → (n ≡ length (logLine a)) × (new ≡ overlay (logLine a) old)
+log-put : (a b : Answer Record) (old new : List ℕ) (n : ℕ) → a ≡ b
+    → (n ≡ length (logLine b)) × (new ≡ overlay (logLine b) old)
+    → (n ≡ length (logLine a)) × (new ≡ overlay (logLine a) old)
 log-put a b old new n e f = rw e f
 
 read-requires : tie.Need-read-requires

@@ -13,7 +13,8 @@ use Rattle.listing.proofs.log.record_line.Tie as tie
 
 -- five fields one behind the other
 module _ (old u v w x y b1 b2 b3 b4 b5 : List ℕ) (e1 e2 e3 e4 e5 r1 r2 r3 r4 r5 : ℕ) where
-  five-fields : Field old 0 u b1 e1 r1 → Field b1 e1 v b2 e2 r2 → Field b2 e2 w b3 e3 r3 → Field b3 e3 x b4 e4 r4
+  five-fields : Field old 0 u b1 e1 r1 → Field b1 e1 v b2 e2 r2 → Field b2 e2 w b3 e3 r3
+      → Field b3 e3 x b4 e4 r4
       → Field b4 e4 y b5 e5 r5 → r5 ≤ length old
       → (e5 ≡ length (u ++ (v ++ (w ++ (x ++ y))))) × (b5 ≡ overlay (u ++ (v ++ (w ++ (x ++ y)))) old)
   five-fields f1 f2 f3 f4 f5 h =

@@ -29,7 +29,8 @@ module _ (b : List ℕ) (at n : ℕ) where
   decimal-last : n < 10 → Field b at (decimalOf n) (set b at (48 + n)) (at + 1) (at + 20)
   decimal-last h = rw (decimal-one n h) (refl, (sym (copy-one b at (digit n)), omega arith))
 
-  decimal-next : (c : List ℕ) (e r : ℕ) → 10 ≤ n → length (decimalOf n) ≤ 20 → Field b at (decimalOf (n / 10)) c e r
+  decimal-next : (c : List ℕ) (e r : ℕ) → 10 ≤ n → length (decimalOf n) ≤ 20
+      → Field b at (decimalOf (n / 10)) c e r
       → Field b at (decimalOf n) (set c e (48 + n % 10)) (e + 1) (at + 20)
   decimal-next c e r h few f =
       (omega (arith, decimal-room n h, f .0), (copied, omega (arith, decimal-room n h, f .0)))

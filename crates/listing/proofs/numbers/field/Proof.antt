@@ -13,7 +13,8 @@ use Rattle.listing.proofs.numbers.field.Statement.{statement}
 use Rattle.listing.proofs.numbers.field.Tie as tie
 
 -- a word and a number
-field-put : (b : List ℕ) (at n : ℕ) (w c d : List ℕ) (e : ℕ) → c ≡ copyOf b at w → Field c (at + length w) (decimalOf n) d e (at + length w + 20)
+field-put : (b : List ℕ) (at n : ℕ) (w c d : List ℕ) (e : ℕ) → c ≡ copyOf b at w
+    → Field c (at + length w) (decimalOf n) d e (at + length w + 20)
     → Field b at (w ++ decimalOf n) d e (at + length w + 20)
 field-put b at n w c d e ec f =
     (omega (arith, length-append w (decimalOf n), f .0), (f .1 .0 ∙ copy-then b at w (decimalOf n) c (at + length w) refl ec, f .1 .1))

@@ -16,7 +16,8 @@ use Rattle.listing.proofs.plan.step_line.Statement.{statement}
 use Rattle.listing.proofs.plan.step_line.Tie as tie
 
 -- three, and more behind them
-copy-three : (c : List ℕ) (e x y z : ℕ) (s : List ℕ) → copyOf c e (x ∷ y ∷ z ∷ s) ≡ copyOf (set (set (set c e x) (e + 1) y) (e + 2) z) (e + 3) s
+copy-three : (c : List ℕ) (e x y z : ℕ) (s : List ℕ)
+    → copyOf c e (x ∷ y ∷ z ∷ s) ≡ copyOf (set (set (set c e x) (e + 1) y) (e + 2) z) (e + 3) s
 unfolding stored
 copy-three c e x y z s =
     let p : e + 2 ≡ e + 1 + 1 = omega arith in let q : e + 3 ≡ e + 1 + 1 + 1 = omega arith in rw (p, q)
@@ -27,7 +28,9 @@ module _ (b p : List ℕ) (at n : ℕ) where
   step-length = simp (length-append, length-spelt) (omega arith)
 
   -- the number, a space, the letter, a space, the packet and 0A, one behind the other
-  step-put : (c d : List ℕ) (e k : ℕ) → Field b at (decimalOf n) c e (at + 20) → k ≡ getD p 3 0 → d ≡ copyOf (set (set (set c e 0x20) (e + 1) k) (e + 2) 0x20) (e + 3) (spelt p) → (e + 3 + 2 * length p + 1 ≡ at + length (stepLine n p)) × (set d (e + 3 + 2 * length p) 0x0A ≡ copyOf b at (stepLine n p)) × (length (stepLine n p) ≤ 2 * length p + 24)
+  step-put : (c d : List ℕ) (e k : ℕ) → Field b at (decimalOf n) c e (at + 20) → k ≡ getD p 3 0
+      → d ≡ copyOf (set (set (set c e 0x20) (e + 1) k) (e + 2) 0x20) (e + 3) (spelt p)
+      → (e + 3 + 2 * length p + 1 ≡ at + length (stepLine n p)) × (set d (e + 3 + 2 * length p) 0x0A ≡ copyOf b at (stepLine n p)) × (length (stepLine n p) ≤ 2 * length p + 24)
   unfolding stepLine
   step-put c d e k f ek ed =
       let l = step-length in

@@ -14,7 +14,11 @@ use Rattle.listing.proofs.text.read.Statement.{statement}
 use Rattle.listing.proofs.text.read.Tie as tie
 
 module _ (size : ℕ) (text line image map : List ℕ) (room : lineRoom ≤ length line) (few : length text + 1 < 2 ^ 64) where
-  read-by : (p q r : Progress) (i1 m1 l2 i2 m2 i3 m3 : List ℕ) → Shown begunBy p i1 m1 (settled (startIn size image map) image map) → state q l2 i2 m2 ≡ feedOf size (state p line i1 m1) text → state r l2 i3 m3 ≡ closeOf size (state q l2 i2 m2) → (v : Verdict) → v ≡ endedOf r → result v i3 m3 ≡ readIn size text image map
+  read-by : (p q r : Progress) (i1 m1 l2 i2 m2 i3 m3 : List ℕ)
+      → Shown begunBy p i1 m1 (settled (startIn size image map) image map)
+      → state q l2 i2 m2 ≡ feedOf size (state p line i1 m1) text
+      → state r l2 i3 m3 ≡ closeOf size (state q l2 i2 m2) → (v : Verdict) → v ≡ endedOf r
+      → result v i3 m3 ≡ readIn size text image map
   read-by p q r i1 m1 l2 i2 m2 i3 m3 s f g v ev =
       let o : Settled = settled (startIn size image map) image map in
       let e : state p line i1 m1 ≡ opened o line = rw (s .0, s .1, s .2) in

@@ -41,7 +41,10 @@ module _ (image m : List ℕ) (l : Listing) (h : Listed image m l) (more : l .li
   packet-length : length (take k x) ≤ packetMost
   packet-length = omega (arith, length-take k x, packet-fits)
 
-  line-put : (buffer b : List ℕ) (at e : ℕ) (ph : Phase) → (e ≡ at + length (stepLine (l .listed + 1) (take k x))) × (b ≡ copyOf buffer at (stepLine (l .listed + 1) (take k x))) × (length (stepLine (l .listed + 1) (take k x)) ≤ 2 * length (take k x) + 24) → ph ≡ afterOf m (l .phase) → (record { phase = ph; listed = l .listed + 1; total = l .total } ≡ listingAt m (l .listed + 1)) × (e ≡ at + length (stepLine (l .listed + 1) (packetAt image m (l .listed)))) × (b ≡ copyOf buffer at (stepLine (l .listed + 1) (packetAt image m (l .listed)))) × (length (stepLine (l .listed + 1) (packetAt image m (l .listed))) ≤ longestLine)
+  line-put : (buffer b : List ℕ) (at e : ℕ) (ph : Phase)
+      → (e ≡ at + length (stepLine (l .listed + 1) (take k x))) × (b ≡ copyOf buffer at (stepLine (l .listed + 1) (take k x))) × (length (stepLine (l .listed + 1) (take k x)) ≤ 2 * length (take k x) + 24)
+      → ph ≡ afterOf m (l .phase)
+      → (record { phase = ph; listed = l .listed + 1; total = l .total } ≡ listingAt m (l .listed + 1)) × (e ≡ at + length (stepLine (l .listed + 1) (packetAt image m (l .listed)))) × (b ≡ copyOf buffer at (stepLine (l .listed + 1) (packetAt image m (l .listed)))) × (length (stepLine (l .listed + 1) (packetAt image m (l .listed))) ≤ longestLine)
   line-put buffer b at e ph f g =
       let s = ap (stepLine (l .listed + 1)) packet-is in
       (listed-next image m l h more ph g, f .0 ∙ ap (λ (t : List ℕ). at + length t) s, f .1 ∙ ap (copyOf buffer at) s, omega (arith, f .2, packet-length, ap length s))

@@ -29,13 +29,15 @@ record Writing (g : Sheet) (old buffer : List ℕ) (at : ℕ) (h : Sheet) : Type
   long : at + length (h .text) ≡ length (g .text)
   count : h .listed ≡ g .listed
 
-writing-start : (image m old : List ℕ) (l : Listing) → Writing (left image m (length old) l) old old 0 (left image m (length old - 0) l)
+writing-start : (image m old : List ℕ) (l : Listing)
+    → Writing (left image m (length old) l) old old 0 (left image m (length old - 0) l)
 writing-start image m old l =
     let e : length old - 0 ≡ length old = omega arith in
     rw e (record { same = refl; inside = omega arith; text = refl; long = omega arith; count = refl })
 
 module _ (image m old : List ℕ) (g : Sheet) (l : Listing) (h : Listed image m l) (buffer : List ℕ) (at : ℕ) (w : Writing g old buffer at (left image m (length buffer - at) l)) where
-  ended : left image m (length buffer - at) l ≡ sheet [] (l .listed) → (l ≡ listingAt m (g .listed)) × (at ≡ length (g .text)) × (buffer ≡ overlay (g .text) old)
+  ended : left image m (length buffer - at) l ≡ sheet [] (l .listed)
+      → (l ≡ listingAt m (g .listed)) × (at ≡ length (g .text)) × (buffer ≡ overlay (g .text) old)
   unfolding stored
   ended e =
       let n : l .listed ≡ g .listed = sym (ap (λ (x : Sheet). x .listed) e) ∙ w .count in
@@ -44,10 +46,12 @@ module _ (image m old : List ℕ) (g : Sheet) (l : Listing) (h : Listed image m 
       (h .stands ∙ ap (listingAt m) n, k, t ∙ copy-overlay [] old (g .text) 0 refl (omega (arith, w .inside, w .same)))
 
   -- no room for one more, or none is left
-  writing-full : length buffer - at < longestLine → (l ≡ listingAt m (g .listed)) × (at ≡ length (g .text)) × (buffer ≡ overlay (g .text) old)
+  writing-full : length buffer - at < longestLine
+      → (l ≡ listingAt m (g .listed)) × (at ≡ length (g .text)) × (buffer ≡ overlay (g .text) old)
   writing-full s = ended (sheet-full (length buffer - at) (l .listed) (drop (l .listed) (plan image m RunKind.Reset)) s)
 
-  writing-end : l .total ≤ l .listed → (l ≡ listingAt m (g .listed)) × (at ≡ length (g .text)) × (buffer ≡ overlay (g .text) old)
+  writing-end : l .total ≤ l .listed
+      → (l ≡ listingAt m (g .listed)) × (at ≡ length (g .text)) × (buffer ≡ overlay (g .text) old)
   writing-end s = ended (ap (sheetOf (length buffer - at) (l .listed)) (listed-end image m l h s) ∙ sheet-end (length buffer - at) (l .listed))
 
   module _ (more : l .listed < l .total) (room : longestLine ≤ length buffer - at) where
@@ -55,12 +59,16 @@ module _ (image m old : List ℕ) (g : Sheet) (l : Listing) (h : Listed image m 
     line = stepLine (l .listed + 1) (packetAt image m (l .listed))
 
     -- and one less is left
-    writing-falls : (x : Listing) → x ≡ listingAt m (l .listed + 1) → x .total - x .listed < l .total - l .listed
+    writing-falls : (x : Listing) → x ≡ listingAt m (l .listed + 1)
+        → x .total - x .listed < l .total - l .listed
     writing-falls x e =
         omega (arith, ap (λ (y : Listing). y .listed) e, ap (λ (y : Listing). y .total) e, ap (λ (y : Listing). y .total) (h .stands))
 
     -- one line more
-    writing-next : (x : Listing) (b : List ℕ) (e : ℕ) → x ≡ listingAt m (l .listed + 1) → length b ≡ length buffer → (e ≡ at + length line) × (b ≡ copyOf buffer at line) × (length line ≤ longestLine) → Listed image m x × Writing g old b e (left image m (length b - e) x)
+    writing-next : (x : Listing) (b : List ℕ) (e : ℕ) → x ≡ listingAt m (l .listed + 1)
+        → length b ≡ length buffer
+        → (e ≡ at + length line) × (b ≡ copyOf buffer at line) × (length line ≤ longestLine)
+        → Listed image m x × Writing g old b e (left image m (length b - e) x)
     writing-next x b e ex same f =
         let n : x .listed ≡ l .listed + 1 = ap (λ (y : Listing). y .listed) ex in
         let rest : Sheet = sheetOf (length buffer - at - length line) (l .listed + 1) (drop (l .listed + 1) (plan image m RunKind.Reset)) in
@@ -70,7 +78,9 @@ module _ (image m old : List ℕ) (g : Sheet) (l : Listing) (h : Listed image m 
         let y : left image m (length b - e) x ≡ rest = rw (n, r) in
         (next-listed image m l h more x ex, rw y (record { same = same ∙ w .same; inside = omega (arith, f .0, f .2); text = sym (copy-from b e rest f) ∙ ap (λ (z : Sheet). copyOf buffer at (z .text)) (sym q) ∙ w .text; long = omega (arith, f .0, length-append line (rest .text), sym (ap (λ (z : Sheet). at + length (z .text)) q) ∙ w .long); count = sym (ap (λ (z : Sheet). z .listed) q) ∙ w .count }))
       where
-        copy-from : (b : List ℕ) (e : ℕ) (rest : Sheet) → (e ≡ at + length line) × (b ≡ copyOf buffer at line) × (length line ≤ longestLine) → copyOf buffer at (line ++ rest .text) ≡ copyOf b e (rest .text)
+        copy-from : (b : List ℕ) (e : ℕ) (rest : Sheet)
+            → (e ≡ at + length line) × (b ≡ copyOf buffer at line) × (length line ≤ longestLine)
+            → copyOf buffer at (line ++ rest .text) ≡ copyOf b e (rest .text)
         copy-from b e rest f = sym (copy-then buffer at line (rest .text) b e (f .0) (f .1))
 
 abbrev Inv-loop : tie.InvT-loop

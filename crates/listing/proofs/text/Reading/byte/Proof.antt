@@ -12,10 +12,12 @@ use Rattle.listing.proofs.text.Reading.byte.Statement.{statement}
 use Rattle.listing.proofs.text.Reading.byte.Tie as tie
 
 module _ (size : ℕ) (r : Reading) (line image map : List ℕ) where
-  byte-open : (t : Text) (b : ℕ) (x : Fed) → r ≡ Reading.Open t → x ≡ textByte size t b line image map → x ≡ progressByte size (paperReading r) b line image map
+  byte-open : (t : Text) (b : ℕ) (x : Fed) → r ≡ Reading.Open t → x ≡ textByte size t b line image map
+      → x ≡ progressByte size (paperReading r) b line image map
   byte-open t b x e f = rw e f
 
-  byte-refused : (n b : ℕ) (x : Refusal) → r ≡ Reading.Refused n x → state (stopped n (paperRefusal x)) line image map ≡ progressByte size (paperReading r) b line image map
+  byte-refused : (n b : ℕ) (x : Refusal) → r ≡ Reading.Refused n x
+      → state (stopped n (paperRefusal x)) line image map ≡ progressByte size (paperReading r) b line image map
   byte-refused n b x e = rw e
 
 enum-known-self : tie.Need-enum-known-self

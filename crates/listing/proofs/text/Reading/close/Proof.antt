@@ -14,10 +14,13 @@ use Rattle.listing.proofs.text.Reading.close.Tie as tie
 
 module _ (size : ℕ) (r : Reading) (line image map : List ℕ) where
   -- the last line, and then closing
-  close-open : (t : Text) (i m : List ℕ) (p q : Progress) → r ≡ Reading.Open t → q ≡ shutOf p → state p line i m ≡ lastOf size t line image map → state q line i m ≡ progressClosed size (paperReading r) line image map
+  close-open : (t : Text) (i m : List ℕ) (p q : Progress) → r ≡ Reading.Open t → q ≡ shutOf p
+      → state p line i m ≡ lastOf size t line image map
+      → state q line i m ≡ progressClosed size (paperReading r) line image map
   close-open t i m p q e f g = rw (e, f) (ap shutFed g)
 
-  close-refused : (n : ℕ) (x : Refusal) → r ≡ Reading.Refused n x → state (stopped n (paperRefusal x)) line image map ≡ progressClosed size (paperReading r) line image map
+  close-refused : (n : ℕ) (x : Refusal) → r ≡ Reading.Refused n x
+      → state (stopped n (paperRefusal x)) line image map ≡ progressClosed size (paperReading r) line image map
   close-refused n x e = rw e
 
 enum-known-self : tie.Need-enum-known-self

@@ -10,7 +10,8 @@ use Rattle.listing.specs.declared.text.Reading.{Reading}
 use Rattle.listing.proofs.text.Reading.ended.Statement.{statement}
 use Rattle.listing.proofs.text.Reading.ended.Tie as tie
 
-ended-refused : (r : Reading) (n : ℕ) (x : Refusal) → r ≡ Reading.Refused n x → refusedAt n (paperRefusal x) ≡ endedOf (paperReading r)
+ended-refused : (r : Reading) (n : ℕ) (x : Refusal) → r ≡ Reading.Refused n x
+    → refusedAt n (paperRefusal x) ≡ endedOf (paperReading r)
 ended-refused r n x e = rw e
 
 enum-told : tie.Need-enum-told

@@ -12,10 +12,12 @@ use Rattle.listing.proofs.text.Reading.keep.Statement.{statement}
 use Rattle.listing.proofs.text.Reading.keep.Tie as tie
 
 module _ (size : ℕ) (r : Reading) (line : List ℕ) where
-  keep-open : (t : Text) (bytes k : List ℕ) (q : Progress) (n : ℕ) → r ≡ Reading.Open t → Keeps size (going t) line bytes q k n → Keeps size (paperReading r) line bytes q k n
+  keep-open : (t : Text) (bytes k : List ℕ) (q : Progress) (n : ℕ) → r ≡ Reading.Open t
+      → Keeps size (going t) line bytes q k n → Keeps size (paperReading r) line bytes q k n
   keep-open t bytes k q n e h = rw e h
 
-  keep-refused : (n : ℕ) (x : Refusal) (image map : List ℕ) → r ≡ Reading.Refused n x → state (stopped n (paperRefusal x)) line image map ≡ feedOf size (state (paperReading r) line image map) []
+  keep-refused : (n : ℕ) (x : Refusal) (image map : List ℕ) → r ≡ Reading.Refused n x
+      → state (stopped n (paperRefusal x)) line image map ≡ feedOf size (state (paperReading r) line image map) []
   unfolding feedOf
   keep-refused n x image map e = rw e
 

@@ -14,7 +14,9 @@ use Rattle.listing.proofs.text.Text.byte.Statement.{statement}
 use Rattle.listing.proofs.text.Text.byte.Tie as tie
 
 module _ (size : ℕ) (t : Text) (b : ℕ) (line image map : List ℕ) where
-  ended-by : (l i m : List ℕ) (p : Progress) → b ≡ 0x0A → l ≡ trimmedOf (take (t .len) line) → Shown (tookBy t) p i m (settled (recordIn size (t .hex) l image map) image map) → state p line i m ≡ textByte size t b line image map
+  ended-by : (l i m : List ℕ) (p : Progress) → b ≡ 0x0A → l ≡ trimmedOf (take (t .len) line)
+      → Shown (tookBy t) p i m (settled (recordIn size (t .hex) l image map) image map)
+      → state p line i m ≡ textByte size t b line image map
   ended-by l i m p e el s =
       took-shown t p line i m (settled (recordIn size (t .hex) (trimmedOf (take (t .len) line)) image map) image map) (rw el at s)
       ∙ sym (byte-ends size t b line image map e)

@@ -17,7 +17,9 @@ module _ (size : ℕ) (t : Text) (line image map : List ℕ) where
   unfolding lastOf
   last-none e = rw (eq-eqb _ _ e)
 
-  last-line : (l i m : List ℕ) (p : Progress) → (t .len ≡ 0 → ⊥) → l ≡ take (t .len) line → Shown (tookBy t) p i m (settled (recordIn size (t .hex) l image map) image map) → state p line i m ≡ lastOf size t line image map
+  last-line : (l i m : List ℕ) (p : Progress) → (t .len ≡ 0 → ⊥) → l ≡ take (t .len) line
+      → Shown (tookBy t) p i m (settled (recordIn size (t .hex) l image map) image map)
+      → state p line i m ≡ lastOf size t line image map
   unfolding lastOf
   last-line l i m p n el s = rw (ne-eqb _ _ n) (took-shown t p line i m (settled (recordIn size (t .hex) (take (t .len) line) image map) image map) (rw el at s))
 

@@ -16,10 +16,12 @@ use Rattle.listing.proofs.text.Text.take.Statement.{statement}
 use Rattle.listing.proofs.text.Text.take.Tie as tie
 
 module _ (t : Text) (n : ℕ) (e : n ≡ nextLine t) (i m : List ℕ) (o : Settled) (r : Read) where
-  took-given : (h : Hex) → r ≡ Read.Taken h → settledAs (paperRead r) i m ≡ o → Shown (tookBy t) (going (record { hex = h; lines = n; len = 0 })) i m o
+  took-given : (h : Hex) → r ≡ Read.Taken h → settledAs (paperRead r) i m ≡ o
+      → Shown (tookBy t) (going (record { hex = h; lines = n; len = 0 })) i m o
   took-given h f g = rw e (shown (tookBy t) r (Read.Taken h) i m o f g)
 
-  took-refused : (x : Refusal) → r ≡ Read.Refused x → settledAs (paperRead r) i m ≡ o → Shown (tookBy t) (stopped n (paperRefusal x)) i m o
+  took-refused : (x : Refusal) → r ≡ Read.Refused x → settledAs (paperRead r) i m ≡ o
+      → Shown (tookBy t) (stopped n (paperRefusal x)) i m o
   took-refused x f g = rw e (shown (tookBy t) r (Read.Refused x) i m o f g)
 
 wrapping-add-u64-requires : tie.Need-wrapping-add-u64-requires
