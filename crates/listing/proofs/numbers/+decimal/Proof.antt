@@ -97,12 +97,16 @@ decimal-slice-write-buffer-2 : (t : ℕ) → decimal-lts.Need-slice-write-buffer
   decimal-below t,
   decimal.Post,
 ) (decimal-at t) decimal.Post
-decimal-slice-write-buffer-2 t c = omega (arith, decimal-room (c .before .before .before .before .before .before .args .n) (c .before .before .before .before .if1 .left), c .before .before .before .before .before .before .pre .1, c .before .before .decimal .ensures .0, c .before .before .decimal .kept .0)
+decimal-slice-write-buffer-2 t c =
+    let s = c .before .before .before .before .before .before in
+    omega (arith, decimal-room (s .args .n) (c .before .before .before .before .if1 .left), s .pre .1, c .before .before .decimal .ensures .0, c .before .before .decimal .kept .0)
 
 decimal-add-result-2 :
     (t : ℕ) →
     decimal-lts.Need-add-result-2 (decimal-below t, decimal.Post) (decimal-at t) decimal.Post
-decimal-add-result-2 t c = omega (arith, decimal-room (c .before .before .before .before .before .before .args .n) (c .before .before .before .before .if1 .left), c .before .before .before .before .before .before .pre .1, c .before .before .decimal .ensures .0, c .before .before .decimal .kept .0)
+decimal-add-result-2 t c =
+    let s = c .before .before .before .before .before .before in
+    omega (arith, decimal-room (s .args .n) (c .before .before .before .before .if1 .left), s .pre .1, c .before .before .decimal .ensures .0, c .before .before .decimal .kept .0)
 
 decimal-same-length-2 :
     (t : ℕ) →

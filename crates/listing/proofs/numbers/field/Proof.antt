@@ -26,7 +26,9 @@ add-decimal : tie.Need-add-decimal
 add-decimal c = search needs
 
 decimal-requires : tie.Need-decimal-requires
-decimal-requires c κs = omega (arith, decimal-most (c .before .before .before .before .before .before .before .args .n) (c .before .before .before .before .before .before .before .fits .n .fits), c .before .before .before .copy .kept .0)
+decimal-requires c κs =
+    let s = c .before .before .before .before .before .before .before in
+    omega (arith, decimal-most (s .args .n) (s .fits .n .fits), c .before .before .before .copy .kept .0)
 
 same-length : tie.Need-same-length
 same-length c = search needs

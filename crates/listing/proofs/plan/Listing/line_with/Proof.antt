@@ -53,22 +53,32 @@ add-listed : tie.Need-add-listed
 add-listed c = search needs
 
 send-requires : tie.Need-send-requires
-send-requires c κs = (c .before .before .before .before .before .before .pre .0 .right, c .before .before .before .before .before .before .pre .0 .long, omega (arith, c .before .before .before .before .before .before .pre .2), listed-start (c .before .before .before .before .before .before .args .image .now) (c .before .before .before .before .before .before .args .map .now) (c .before .before .before .before .before .before .args .self) (c .before .before .before .before .before .before .pre .0) (c .before .before .before .before .before .before .pre .1))
+send-requires c κs =
+    let s = c .before .before .before .before .before .before in
+    (s .pre .0 .right, s .pre .0 .long, omega (arith, s .pre .2), listed-start (s .args .image .now) (s .args .map .now) (s .args .self) (s .pre .0) (s .pre .1))
 
 cast-step-line : tie.Need-cast-step-line
 cast-step-line c = search needs
 
 slice-reshare-prefix-step-line : tie.Need-slice-reshare-prefix-step-line
-slice-reshare-prefix-step-line c = omega (arith, packet-fits (c .before .before .before .before .before .before .before .before .before .before .args .image .now) (c .before .before .before .before .before .before .before .before .before .before .args .map .now) (c .before .before .before .before .before .before .before .before .before .before .args .self) (c .before .before .before .before .before .before .before .before .before .before .pre .0) (c .before .before .before .before .before .before .before .before .before .before .pre .1) _ _ _ (c .before .before .before .before .before .before .before .before .before .before .pre .2) (c .before .before .before .send .kept .1 .1 .1 .1 .0) (c .before .before .before .send .ensures), c .before .before .before .send .kept .1 .1 .1 .1 .0, c .before .before .before .before .before .before .before .before .before .before .pre .2)
+slice-reshare-prefix-step-line c =
+    let s = c .before .before .before .before .before .before .before .before .before .before in
+    omega (arith, packet-fits (s .args .image .now) (s .args .map .now) (s .args .self) (s .pre .0) (s .pre .1) _ _ _ (s .pre .2) (c .before .before .before .send .kept .1 .1 .1 .1 .0) (c .before .before .before .send .ensures), c .before .before .before .send .kept .1 .1 .1 .1 .0, s .pre .2)
 
 slice-aggregate-step-line : tie.Need-slice-aggregate-step-line
-slice-aggregate-step-line c = sym (length-take-le _ _ (omega (arith, packet-fits (c .before .before .before .before .before .before .before .before .before .before .before .args .image .now) (c .before .before .before .before .before .before .before .before .before .before .before .args .map .now) (c .before .before .before .before .before .before .before .before .before .before .before .args .self) (c .before .before .before .before .before .before .before .before .before .before .before .pre .0) (c .before .before .before .before .before .before .before .before .before .before .before .pre .1) _ _ _ (c .before .before .before .before .before .before .before .before .before .before .before .pre .2) (c .before .before .before .before .send .kept .1 .1 .1 .1 .0) (c .before .before .before .before .send .ensures), c .before .before .before .before .send .kept .1 .1 .1 .1 .0, c .before .before .before .before .before .before .before .before .before .before .before .pre .2)))
+slice-aggregate-step-line c =
+    let s = c .before .before .before .before .before .before .before .before .before .before .before in
+    sym (length-take-le _ _ (omega (arith, packet-fits (s .args .image .now) (s .args .map .now) (s .args .self) (s .pre .0) (s .pre .1) _ _ _ (s .pre .2) (c .before .before .before .before .send .kept .1 .1 .1 .1 .0) (c .before .before .before .before .send .ensures), c .before .before .before .before .send .kept .1 .1 .1 .1 .0, s .pre .2)))
 
 step-line-requires : tie.Need-step-line-requires
-step-line-requires c κs = omega (arith, packet-length (c .before .before .before .before .before .before .before .before .before .before .before .args .image .now) (c .before .before .before .before .before .before .before .before .before .before .before .args .map .now) (c .before .before .before .before .before .before .before .before .before .before .before .args .self) (c .before .before .before .before .before .before .before .before .before .before .before .pre .0) (c .before .before .before .before .before .before .before .before .before .before .before .pre .1) _ _ _ (c .before .before .before .before .before .before .before .before .before .before .before .pre .2) (c .before .before .before .before .send .kept .1 .1 .1 .1 .0) (c .before .before .before .before .send .ensures), c .before .before .before .before .before .before .before .before .before .before .before .pre .3)
+step-line-requires c κs =
+    let s = c .before .before .before .before .before .before .before .before .before .before .before in
+    omega (arith, packet-length (s .args .image .now) (s .args .map .now) (s .args .self) (s .pre .0) (s .pre .1) _ _ _ (s .pre .2) (c .before .before .before .before .send .kept .1 .1 .1 .1 .0) (c .before .before .before .before .send .ensures), s .pre .3)
 
 after-requires : tie.Need-after-requires
-after-requires c κs = (c .before .before .before .before .before .before .before .before .before .before .before .before .before .before .pre .0 .long, listed-start (c .before .before .before .before .before .before .before .before .before .before .before .before .before .before .args .image .now) (c .before .before .before .before .before .before .before .before .before .before .before .before .before .before .args .map .now) (c .before .before .before .before .before .before .before .before .before .before .before .before .before .before .args .self) (c .before .before .before .before .before .before .before .before .before .before .before .before .before .before .pre .0) (c .before .before .before .before .before .before .before .before .before .before .before .before .before .before .pre .1))
+after-requires c κs =
+    let s = c .before .before .before .before .before .before .before .before .before .before .before .before .before .before in
+    (s .pre .0 .long, listed-start (s .args .image .now) (s .args .map .now) (s .args .self) (s .pre .0) (s .pre .1))
 
 same-length : tie.Need-same-length
 same-length c = search needs
@@ -77,7 +87,9 @@ same-length-2 : tie.Need-same-length-2
 same-length-2 c = search needs
 
 returns : tie.Need-returns
-returns c = line-put (c .before .before .before .before .before .before .before .before .before .before .before .before .before .before .before .args .image .now) (c .before .before .before .before .before .before .before .before .before .before .before .before .before .before .before .args .map .now) (c .before .before .before .before .before .before .before .before .before .before .before .before .before .before .before .args .self) (c .before .before .before .before .before .before .before .before .before .before .before .before .before .before .before .pre .0) (c .before .before .before .before .before .before .before .before .before .before .before .before .before .before .before .pre .1) _ _ _ (c .before .before .before .before .before .before .before .before .before .before .before .before .before .before .before .pre .2) (c .before .before .before .before .before .before .before .before .send .kept .1 .1 .1 .1 .0) (c .before .before .before .before .before .before .before .before .send .ensures) _ _ _ _ _ (c .before .before .before .step-line .ensures) (c .after .ensures)
+returns c =
+    let s = c .before .before .before .before .before .before .before .before .before .before .before .before .before .before .before in
+    line-put (s .args .image .now) (s .args .map .now) (s .args .self) (s .pre .0) (s .pre .1) _ _ _ (s .pre .2) (c .before .before .before .before .before .before .before .before .send .kept .1 .1 .1 .1 .0) (c .before .before .before .before .before .before .before .before .send .ensures) _ _ _ _ _ (c .before .before .before .step-line .ensures) (c .after .ensures)
 
 pub line-with-spec : {M : Type 1} → statement M
 line-with-spec =

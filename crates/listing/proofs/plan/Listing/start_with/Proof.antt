@@ -31,7 +31,9 @@ same-length-2 : tie.Need-same-length-2
 same-length-2 c = search needs
 
 returns-2 : tie.Need-returns-2
-returns-2 c = start-refused (c .before .before .before .before .before .before .before .before .before .before .args .image .now) (c .before .before .before .before .before .before .before .before .before .before .args .map .now) _ _ (sym (ap paperStepped (c .before .x .given .1)) ∙ c .before .before .before .before .before .start .ensures .0)
+returns-2 c =
+    let s = c .before .before .before .before .before .before .before .before .before .before in
+    start-refused (s .args .image .now) (s .args .map .now) _ _ (sym (ap paperStepped (c .before .x .given .1)) ∙ c .before .before .before .before .before .start .ensures .0)
 
 pub start-with-spec : {M : Type 1} → statement M
 start-with-spec =
