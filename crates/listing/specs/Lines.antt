@@ -47,6 +47,10 @@ headLine =
 unfoldable pub stepLine : ℕ → List ℕ → List ℕ
 stepLine n p = decimalOf n ++ (0x20 ∷ getD p 3 0 ∷ 0x20 ∷ (spelt p ++ lineEnd))
 
+-- no line above or below the steps is longer: 6 characters, 20 digits and 0A
+abbrev pub totalRoom : ℕ
+totalRoom = 27
+
 -- "TOTAL " and the number of packets
 unfoldable pub totalLine : ℕ → List ℕ
 totalLine n = field (0x54 ∷ 0x4F ∷ 0x54 ∷ 0x41 ∷ 0x4C ∷ 0x20 ∷ []) n ++ lineEnd

@@ -10,7 +10,7 @@ ghost use Rattle.runs.specs.Pieces.{namedCount};
 ghost use Rattle.session.specs.Plan.{plan, total};
 ghost use Rattle.session.specs.Session.{started};
 ghost use Rattle.session.specs.declared.phase.RunKind.{RunKind};
-ghost use Rattle.listing.specs.Lines.{headLine, stepLine, totalLine};
+ghost use Rattle.listing.specs.Lines.{headLine, stepLine, totalRoom, totalLine};
 ghost use Rattle.listing.specs.Plan.{Listed, listingAt, paperBegun, listingBy, packetAt, longestLine, sheetOf};
 use crate::numbers::decimal;
 use crate::numbers::last_field;
@@ -162,7 +162,7 @@ impl Listing {
 
 // The line above the steps.
 pub fn head_line(buffer: &mut [u8]) -> usize
-    requires { ⌜ longestLine ≤ length (now buffer) ⌝ }
+    requires { ⌜ totalRoom ≤ length (now buffer) ⌝ }
     ensures { λ r. ⌜ (r ≡ length headLine) × (now (buffer .exit) ≡ overlay headLine (now (buffer .entry))) ⌝ }
 {
     write(buffer, b"STEP KIND PACKET\n");
@@ -171,7 +171,7 @@ pub fn head_line(buffer: &mut [u8]) -> usize
 
 // The line below them.
 pub fn total_line(buffer: &mut [u8], total: u32) -> usize
-    requires { ⌜ longestLine ≤ length (now buffer) ⌝ }
+    requires { ⌜ totalRoom ≤ length (now buffer) ⌝ }
     ensures { λ r. ⌜
         (r ≡ length (totalLine total))
         × (now (buffer .exit) ≡ overlay (totalLine total) (now (buffer .entry)))
