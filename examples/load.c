@@ -30,7 +30,7 @@ static int next_line(FILE *file, uint8_t line[600], size_t *length) {
 static uint32_t read_file(FILE *file) {
     uint8_t line[600];
     size_t length;
-    gremolunde_read read = gremolunde_hex_start(image, sizeof image, map, sizeof map);
+    gremolunde_hex_read read = gremolunde_hex_start(image, sizeof image, map, sizeof map);
     while (read.number == 0 && next_line(file, line, &length)) {
         read = gremolunde_hex_record(read.reader, line, length, image, sizeof image, map, sizeof map);
     }
@@ -47,7 +47,7 @@ static size_t exchange(size_t length) {
 
 int main(int count, char **words) {
     FILE *file = count == 2 ? fopen(words[1], "rb") : NULL;
-    gremolunde_stepped now;
+    gremolunde_session_stepped now;
     gremolunde_length log;
     uint32_t number;
     if (file == NULL) {

@@ -13,7 +13,7 @@
  * stores. Every value of every field is safe to pass. Where a field is a flag, 0 is false and all else is true; an
  * answer has 0 or 1 there.
  *
- * Lent bytes. A pointer and the length behind it lend so many bytes for the time of the call. With a length of 0 the
+ * Lent bytes. A pointer and the length after it lend so many bytes for the time of the call. With a length of 0 the
  * pointer may be null. Bytes that a function may write (a pointer without const) must not overlap other bytes that
  * the same call lends; those that it only reads may overlap each other. A buffer is written from its start, and its
  * bytes past what is written stay as they were.
@@ -34,7 +34,7 @@ extern "C" {
 #define GREMOLUNDE_MAP 7936
 #define GREMOLUNDE_PACKET 259
 #define GREMOLUNDE_ANSWER 24
-#define GREMOLUNDE_RECORD 44
+#define GREMOLUNDE_HEX_RECORD 44
 #define GREMOLUNDE_LOG 10
 
 /* A loader, without its flash. */
@@ -69,8 +69,8 @@ enum {
 /* How the board goes on after the last packet: the address of R. */
 enum { GREMOLUNDE_JUMP = 0, GREMOLUNDE_RESET = 1 };
 
-/* A session, without its file. One with a phase or an outcome that is not listed came from no start: a step gives 46,
- * its outcome and its log record are 45. */
+/* A session, without its file. One with a phase or an outcome that is not listed, or with a place where its phase has
+ * none, came from no start: a step gives 46, its outcome and its log record are 45. */
 typedef struct gremolunde_session {
     uint32_t run;          /* 0 jump; any other value is reset */
     uint32_t phase;        /* GREMOLUNDE_GREETING to GREMOLUNDE_ENDED */
@@ -103,40 +103,40 @@ typedef struct gremolunde_taken {
 } gremolunde_taken;
 
 /* The next hex reader. */
-typedef struct gremolunde_read {
+typedef struct gremolunde_hex_read {
     uint32_t number;
     gremolunde_hex reader;
-} gremolunde_read;
+} gremolunde_hex_read;
 
 /* The address to go on from, and how many characters were written. */
-typedef struct gremolunde_written {
+typedef struct gremolunde_hex_written {
     uint32_t number;
     uint32_t next;
     size_t length;
-} gremolunde_written;
+} gremolunde_hex_written;
 
 /* The length of the packet to send, 0 at an end, and the next session. */
-typedef struct gremolunde_stepped {
+typedef struct gremolunde_session_stepped {
     uint32_t number;
     size_t length;
     gremolunde_session session;
-} gremolunde_stepped;
+} gremolunde_session_stepped;
 
 /* Whether a byte is marked proved. */
-typedef struct gremolunde_mark {
+typedef struct gremolunde_session_mark {
     uint32_t number;
     uint8_t proved;
-} gremolunde_mark;
+} gremolunde_session_mark;
 
 /* What a log record says. */
-typedef struct gremolunde_record {
+typedef struct gremolunde_log {
     uint32_t number;
     uint8_t version;
     uint8_t outcome;
     uint32_t acknowledged;
     uint32_t total;
     uint32_t bytes;
-} gremolunde_record;
+} gremolunde_log;
 
 /* Loader and session at the end of a rehearsal. */
 typedef struct gremolunde_rehearsal {
@@ -170,35 +170,37 @@ gremolunde_taken gremolunde_loader_take(gremolunde_loader loader, const uint8_t 
                                         uint8_t *flash, size_t flash_length, uint8_t *answer, size_t answer_length);
 
 /* Starts a file: fills image with 0xFF and map with 0. 20 wrong sizes. */
-gremolunde_read gremolunde_hex_start(uint8_t *image, size_t image_length, uint8_t *map, size_t map_length);
+gremolunde_hex_read gremolunde_hex_start(uint8_t *image, size_t image_length, uint8_t *map, size_t map_length);
 
 /* Takes one record, its line end removed. 20 to 30. */
-gremolunde_read gremolunde_hex_record(gremolunde_hex reader, const uint8_t *line, size_t line_length, uint8_t *image,
-                                      size_t image_length, uint8_t *map, size_t map_length);
+gremolunde_hex_read gremolunde_hex_record(gremolunde_hex reader, const uint8_t *line, size_t line_length,
+                                          uint8_t *image, size_t image_length, uint8_t *map, size_t map_length);
 
 /* Closes a file. 31 no end record, 32 no data byte taken. */
-gremolunde_read gremolunde_hex_close(gremolunde_hex reader);
+gremolunde_hex_read gremolunde_hex_close(gremolunde_hex reader);
 
 /* Writes the next record from an address. 20 wrong sizes, 33 buffer under 44; a refusal hands the address back. After
  * the end record `next` is 0xF801, from where nothing more is written. */
-gremolunde_written gremolunde_hex_write(const uint8_t *image, size_t image_length, const uint8_t *map,
-                                        size_t map_length, uint32_t from, uint8_t *buffer, size_t buffer_length);
+gremolunde_hex_written gremolunde_hex_write(const uint8_t *image, size_t image_length, const uint8_t *map,
+                                            size_t map_length, uint32_t from, uint8_t *buffer,
+                                            size_t buffer_length);
 
 /* Starts a session: writes the single byte 08. 20 wrong sizes, 32 nothing named; the session is then all 0. */
-gremolunde_stepped gremolunde_session_start(uint32_t run, const uint8_t *image, size_t image_length,
-                                            const uint8_t *map, size_t map_length, uint8_t *buffer,
-                                            size_t buffer_length);
+gremolunde_session_stepped gremolunde_session_start(uint32_t run, const uint8_t *image, size_t image_length,
+                                                    const uint8_t *map, size_t map_length, uint8_t *buffer,
+                                                    size_t buffer_length);
 
 /* Takes one event: an answer, or silence where the flag `silent` is set, whatever the answer. 20 wrong sizes, 44 after
  * the end, 46 not this file's session. The endings 40 to 43 are no refusals: see gremolunde_session_outcome. */
-gremolunde_stepped gremolunde_session_step(gremolunde_session session, uint8_t silent, const uint8_t *answer,
-                                           size_t answer_length, const uint8_t *image, size_t image_length,
-                                           const uint8_t *map, size_t map_length, uint8_t *buffer,
-                                           size_t buffer_length);
+gremolunde_session_stepped gremolunde_session_step(gremolunde_session session, uint8_t silent,
+                                                   const uint8_t *answer, size_t answer_length,
+                                                   const uint8_t *image, size_t image_length, const uint8_t *map,
+                                                   size_t map_length, uint8_t *buffer, size_t buffer_length);
 
-/* Whether the byte at an address is marked proved. 20 map of another size. */
-gremolunde_mark gremolunde_session_proved(gremolunde_session session, const uint8_t *map, size_t map_length,
-                                          uint32_t address);
+/* Whether the byte at an address is marked proved; ask with the map that the session was started over: of another
+ * file the answer says nothing. 20 map of another size. */
+gremolunde_session_mark gremolunde_session_proved(gremolunde_session session, const uint8_t *map, size_t map_length,
+                                                  uint32_t address);
 
 /* How a session ended: 0 valid, 40 silence, 41 BEL, 42 no greeting, 43 other bytes or none; 45 unfinished. */
 uint32_t gremolunde_session_outcome(gremolunde_session session);
@@ -208,7 +210,7 @@ uint32_t gremolunde_session_outcome(gremolunde_session session);
 gremolunde_length gremolunde_log_write(gremolunde_session session, uint8_t *buffer, size_t buffer_length);
 
 /* Reads a log record. 50 to 53. */
-gremolunde_record gremolunde_log_read(const uint8_t *input, size_t input_length);
+gremolunde_log gremolunde_log_read(const uint8_t *input, size_t input_length);
 
 /* Rehearses a whole load of the file into the flash: the loader is reset, a session started, and exchange follows
  * exchange until the session has ended. Each byte of `losses` tells what befalls one exchange: 0 nothing, 1 the packet
@@ -216,7 +218,8 @@ gremolunde_record gremolunde_log_read(const uint8_t *input, size_t input_length)
  * session is then all 0. */
 gremolunde_rehearsal gremolunde_rehearse(uint32_t run, gremolunde_loader loader, const uint8_t *losses,
                                          size_t losses_length, const uint8_t *image, size_t image_length,
-                                         const uint8_t *map, size_t map_length, uint8_t *flash, size_t flash_length);
+                                         const uint8_t *map, size_t map_length, uint8_t *flash,
+                                         size_t flash_length);
 
 #ifdef __cplusplus
 }

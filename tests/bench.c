@@ -23,7 +23,7 @@
 
 static uint8_t image[GREMOLUNDE_IMAGE], map[GREMOLUNDE_MAP], flash[GREMOLUNDE_FLASH];
 static uint8_t packet[GREMOLUNDE_PACKET], answer[GREMOLUNDE_ANSWER];
-static uint8_t lines[RECORDS][GREMOLUNDE_RECORD];
+static uint8_t lines[RECORDS][GREMOLUNDE_HEX_RECORD];
 static size_t lengths[RECORDS];
 static gremolunde_loader board;
 static gremolunde_session begun;
@@ -54,7 +54,7 @@ static uint64_t summed(const uint8_t *bytes, size_t length) {
 }
 
 static uint64_t write_records(uint64_t k) {
-    gremolunde_written written = {0, 0, 0};
+    gremolunde_hex_written written = {0, 0, 0};
     uint64_t characters = 0;
     size_t i;
     (void)k;
@@ -68,7 +68,7 @@ static uint64_t write_records(uint64_t k) {
 }
 
 static uint64_t read_records(uint64_t k) {
-    gremolunde_read read = gremolunde_hex_start(image, sizeof image, map, sizeof map);
+    gremolunde_hex_read read = gremolunde_hex_start(image, sizeof image, map, sizeof map);
     size_t i;
     (void)k;
     for (i = 0; i < RECORDS; i++) {
@@ -98,14 +98,14 @@ static uint64_t take(uint64_t k) {
     return taken.answered;
 }
 
-static gremolunde_stepped start(void) {
-    gremolunde_stepped now =
+static gremolunde_session_stepped start(void) {
+    gremolunde_session_stepped now =
         gremolunde_session_start(GREMOLUNDE_RESET, image, sizeof image, map, sizeof map, packet, sizeof packet);
     must(now.number == 0, "starting");
     return now;
 }
 
-static gremolunde_stepped step(gremolunde_session session, const uint8_t *heard, size_t length) {
+static gremolunde_session_stepped step(gremolunde_session session, const uint8_t *heard, size_t length) {
     return gremolunde_session_step(session, 0, heard, length, image, sizeof image, map, sizeof map, packet,
                                    sizeof packet);
 }
@@ -123,7 +123,7 @@ static gremolunde_session session_at(uint32_t piece, uint32_t pieces, uint32_t a
 static uint64_t step_spread(uint64_t k, uint32_t pieces, uint32_t apart) {
     static const uint8_t ack[] = {ACK};
     gremolunde_session session = session_at((uint32_t)(k * 12289 % pieces), pieces, apart, (k & 2) != 0);
-    gremolunde_stepped now = step(session, ack, sizeof ack);
+    gremolunde_session_stepped now = step(session, ack, sizeof ack);
     must(now.number == 0, "stepping");
     return now.length;
 }
@@ -132,7 +132,7 @@ static uint64_t step_spread(uint64_t k, uint32_t pieces, uint32_t apart) {
 static uint64_t whole_session(uint64_t k) {
     static const char greeting[] = "ADuC702x   -62 I31    \n\r";
     static const uint8_t ack[] = {ACK};
-    gremolunde_stepped now = start();
+    gremolunde_session_stepped now = start();
     uint64_t bytes = now.length + GREMOLUNDE_ANSWER;
     (void)k;
     now = step(now.session, (const uint8_t *)greeting, GREMOLUNDE_ANSWER);

@@ -270,7 +270,7 @@ static void put_taken(gremolunde_taken r) {
     put_loader(r.loader);
 }
 
-static void put_read(gremolunde_read r) {
+static void put_read(gremolunde_hex_read r) {
     put32(r.number);
     put32(r.reader.linear);
     put32(r.reader.segment);
@@ -278,7 +278,7 @@ static void put_read(gremolunde_read r) {
     put8(r.reader.taken);
 }
 
-static void put_written(gremolunde_written r) {
+static void put_written(gremolunde_hex_written r) {
     put32(r.number);
     put32(r.next);
     put64(r.length);
@@ -293,18 +293,18 @@ static void put_session(gremolunde_session s) {
     put32(s.named);
 }
 
-static void put_stepped(gremolunde_stepped r) {
+static void put_stepped(gremolunde_session_stepped r) {
     put32(r.number);
     put64(r.length);
     put_session(r.session);
 }
 
-static void put_mark(gremolunde_mark r) {
+static void put_mark(gremolunde_session_mark r) {
     put32(r.number);
     put8(r.proved);
 }
 
-static void put_record(gremolunde_record r) {
+static void put_record(gremolunde_log r) {
     put32(r.number);
     put8(r.version);
     put8(r.outcome);

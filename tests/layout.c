@@ -17,7 +17,7 @@ static void hold(int holds, const char *what, int line) {
 #define AT(type, field, offset) HOLD(offsetof(type, field) == (offset))
 
 static uint8_t flash[GREMOLUNDE_FLASH], image[GREMOLUNDE_IMAGE], map[GREMOLUNDE_MAP];
-static uint8_t packet[GREMOLUNDE_PACKET + 1], answer[GREMOLUNDE_ANSWER + 1], text[GREMOLUNDE_RECORD + 1];
+static uint8_t packet[GREMOLUNDE_PACKET + 1], answer[GREMOLUNDE_ANSWER + 1], text[GREMOLUNDE_HEX_RECORD + 1];
 static const uint8_t greeting[] = "ADuC702x   -62 I31    \n\r";
 static const uint8_t ack[] = {0x06}, open[] = {0x08};
 
@@ -78,27 +78,27 @@ static void layout(void) {
     AT(gremolunde_taken, number, 0);
     AT(gremolunde_taken, answered, 8);
     AT(gremolunde_taken, loader, 16);
-    HOLD(sizeof(gremolunde_read) == 16);
-    AT(gremolunde_read, number, 0);
-    AT(gremolunde_read, reader, 4);
-    HOLD(sizeof(gremolunde_written) == 16);
-    AT(gremolunde_written, number, 0);
-    AT(gremolunde_written, next, 4);
-    AT(gremolunde_written, length, 8);
-    HOLD(sizeof(gremolunde_stepped) == 40);
-    AT(gremolunde_stepped, number, 0);
-    AT(gremolunde_stepped, length, 8);
-    AT(gremolunde_stepped, session, 16);
-    HOLD(sizeof(gremolunde_mark) == 8);
-    AT(gremolunde_mark, number, 0);
-    AT(gremolunde_mark, proved, 4);
-    HOLD(sizeof(gremolunde_record) == 20);
-    AT(gremolunde_record, number, 0);
-    AT(gremolunde_record, version, 4);
-    AT(gremolunde_record, outcome, 5);
-    AT(gremolunde_record, acknowledged, 8);
-    AT(gremolunde_record, total, 12);
-    AT(gremolunde_record, bytes, 16);
+    HOLD(sizeof(gremolunde_hex_read) == 16);
+    AT(gremolunde_hex_read, number, 0);
+    AT(gremolunde_hex_read, reader, 4);
+    HOLD(sizeof(gremolunde_hex_written) == 16);
+    AT(gremolunde_hex_written, number, 0);
+    AT(gremolunde_hex_written, next, 4);
+    AT(gremolunde_hex_written, length, 8);
+    HOLD(sizeof(gremolunde_session_stepped) == 40);
+    AT(gremolunde_session_stepped, number, 0);
+    AT(gremolunde_session_stepped, length, 8);
+    AT(gremolunde_session_stepped, session, 16);
+    HOLD(sizeof(gremolunde_session_mark) == 8);
+    AT(gremolunde_session_mark, number, 0);
+    AT(gremolunde_session_mark, proved, 4);
+    HOLD(sizeof(gremolunde_log) == 20);
+    AT(gremolunde_log, number, 0);
+    AT(gremolunde_log, version, 4);
+    AT(gremolunde_log, outcome, 5);
+    AT(gremolunde_log, acknowledged, 8);
+    AT(gremolunde_log, total, 12);
+    AT(gremolunde_log, bytes, 16);
     HOLD(sizeof(gremolunde_rehearsal) == 56);
     AT(gremolunde_rehearsal, number, 0);
     AT(gremolunde_rehearsal, loader, 8);
@@ -204,14 +204,14 @@ static void protection(void) {
     HOLD(same_loader(odd, loader));
 }
 
-static gremolunde_read line(gremolunde_hex reader, const char *record) {
+static gremolunde_hex_read line(gremolunde_hex reader, const char *record) {
     return gremolunde_hex_record(reader, (const uint8_t *)record, strlen(record), image, sizeof image, map, sizeof map);
 }
 
 /* Reads the paper's two records; the file stays in image and map. */
 static void files(void) {
-    gremolunde_read read;
-    gremolunde_written written;
+    gremolunde_hex_read read;
+    gremolunde_hex_written written;
     memset(image, 0, sizeof image);
     memset(map, 0xEE, sizeof map);
     read = gremolunde_hex_start(image, sizeof image, map, sizeof map - 1);
@@ -242,7 +242,7 @@ static void files(void) {
     HOLD(gremolunde_hex_close(read.reader).number == 32);
 
     memset(text, 0xEE, sizeof text);
-    written = gremolunde_hex_write(image, sizeof image, map, sizeof map, 7, text, GREMOLUNDE_RECORD - 1);
+    written = gremolunde_hex_write(image, sizeof image, map, sizeof map, 7, text, GREMOLUNDE_HEX_RECORD - 1);
     HOLD(written.number == 33 && written.next == 7 && written.length == 0 && all(text, 0, sizeof text, 0xEE));
     written = gremolunde_hex_write(image, sizeof image, map, sizeof map, 0, text, sizeof text);
     HOLD(written.number == 0 && written.next == 0x202 && written.length == 16);
@@ -254,21 +254,21 @@ static void files(void) {
     HOLD(written.number == 0 && written.next == 0xF801 && written.length == 0);
 }
 
-static gremolunde_stepped step(gremolunde_session session, int silent, const uint8_t *bytes, size_t length) {
+static gremolunde_session_stepped step(gremolunde_session session, int silent, const uint8_t *bytes, size_t length) {
     return gremolunde_session_step(session, (uint8_t)silent, bytes, length, image, sizeof image, map, sizeof map, packet,
                                    sizeof packet);
 }
 
-static gremolunde_stepped start(uint32_t run) {
+static gremolunde_session_stepped start(uint32_t run) {
     return gremolunde_session_start(run, image, sizeof image, map, sizeof map, packet, sizeof packet);
 }
 
-static int sends(gremolunde_stepped stepped, const uint8_t *bytes, size_t length) {
+static int sends(gremolunde_session_stepped stepped, const uint8_t *bytes, size_t length) {
     return stepped.number == 0 && stepped.length == length && memcmp(packet, bytes, length) == 0;
 }
 
 static int marked(gremolunde_session session, uint32_t address) {
-    gremolunde_mark mark = gremolunde_session_proved(session, map, sizeof map, address);
+    gremolunde_session_mark mark = gremolunde_session_proved(session, map, sizeof map, address);
     HOLD(mark.number == 0);
     return mark.proved;
 }
@@ -280,7 +280,7 @@ static void plan(void) {
     static const uint8_t verify[] = {0x07, 0x0E, 0x07, 0x56, 0, 0, 2, 0, 0x90, 0xA1, 0x70};
     static const uint8_t reset[] = {0x07, 0x0E, 0x05, 0x52, 0, 0, 0, 1, 0xA8};
     gremolunde_session session = start(GREMOLUNDE_RESET).session;
-    gremolunde_stepped stepped;
+    gremolunde_session_stepped stepped;
     HOLD(session.run == 1 && session.phase == GREMOLUNDE_GREETING && session.place == 0);
     HOLD(session.acknowledged == 0 && session.total == 4 && session.named == 2 && packet[0] == 0x08);
     HOLD(gremolunde_session_outcome(session) == 45);
@@ -312,8 +312,8 @@ static void plan(void) {
 static void starts(void) {
     static const uint8_t jump[] = {0x07, 0x0E, 0x05, 0x52, 0, 0, 0, 0, 0xA9};
     static const gremolunde_session none = {0, 0, 0, 0, 0, 0};
-    gremolunde_stepped stepped = start(GREMOLUNDE_JUMP);
-    gremolunde_mark mark;
+    gremolunde_session_stepped stepped = start(GREMOLUNDE_JUMP);
+    gremolunde_session_mark mark;
     HOLD(stepped.session.run == 0 && start(77).session.run == 1);
     stepped = step(stepped.session, 0, greeting, 24);
     stepped = step(stepped.session, 0, ack, 1);
@@ -333,7 +333,7 @@ static void starts(void) {
 static void made_up(void) {
     static const gremolunde_session none = {0, 0, 0, 0, 0, 0};
     gremolunde_session odd = {0, 6, 0, 3, 4, 2};
-    gremolunde_stepped stepped = step(odd, 0, ack, 1);
+    gremolunde_session_stepped stepped = step(odd, 0, ack, 1);
     HOLD(stepped.number == 46 && same_session(stepped.session, odd) && gremolunde_session_outcome(odd) == 45);
     odd.phase = GREMOLUNDE_ENDED;
     odd.place = 39;
@@ -345,7 +345,7 @@ static void records(void) {
     static const uint8_t valid[] = {0x00, 0x08, 0x01, 0x00, 0x00, 0x04, 0x00, 0x04, 0x00, 0x02};
     gremolunde_session session = {1, GREMOLUNDE_ENDED, 0, 4, 4, 2};
     gremolunde_length written;
-    gremolunde_record record;
+    gremolunde_log record;
     uint8_t log[GREMOLUNDE_LOG + 1];
     memset(log, 0xEE, sizeof log);
     written = gremolunde_log_write(session, log, GREMOLUNDE_LOG - 1);
@@ -374,7 +374,7 @@ static void records(void) {
 /* A session and a loader, each answering the other. */
 static void load(void) {
     gremolunde_loader loader = gremolunde_loader_new();
-    gremolunde_stepped stepped = start(GREMOLUNDE_RESET);
+    gremolunde_session_stepped stepped = start(GREMOLUNDE_RESET);
     int events = 0;
     memset(flash, 0, sizeof flash);
     while (stepped.length > 0 && events < 6) {

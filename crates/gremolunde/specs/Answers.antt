@@ -1,23 +1,20 @@
--- The paper's answers as C gets them: 0 and what is given, or the refusal's number; a refusal hands a state back as it came.
+-- The paper's answers as C gets them: 0 and what is given, or the refusal's number; a refusal hands a state back as
+-- it came.
 use Prim.Native.Nat.{ℕ}
 use mathlib.Core.Bool.{Bool}
-use Rattle.basis.specs.Choice.{pick}
 use Rattle.basis.specs.Refusals.{Answer, refused, given}
 use Rattle.image.specs.Writer.{Measured}
 use Rattle.image.specs.declared.hex.Hex.{Hex}
 use Rattle.line.specs.declared.rehearse.Load.{Load}
 use Rattle.loader.specs.declared.state.Loader.{Loader}
 use Rattle.packet.specs.Packet as packet
-use Rattle.service_log.specs.Log.{outcomeIn}
 use Rattle.service_log.specs.declared.read.Record.{Record}
-use Rattle.session.specs.Phases.{ended}
-use Rattle.session.specs.declared.phase.Phase.{Phase}
 use Rattle.session.specs.declared.session.Next.{Next}
 use Rattle.gremolunde.specs.States.{flagOf, loaderShown, hexShown, sessionShown}
+use Rattle.gremolunde.specs.declared.answers.Length.{Length}
 use Rattle.gremolunde.specs.declared.files.HexRead.{HexRead}
 use Rattle.gremolunde.specs.declared.files.HexWritten.{HexWritten}
 use Rattle.gremolunde.specs.declared.loading.Taken.{Taken}
-use Rattle.gremolunde.specs.declared.packets.Length.{Length}
 use Rattle.gremolunde.specs.declared.packets.Parts.{Parts}
 use Rattle.gremolunde.specs.declared.records.LogRecord.{LogRecord}
 use Rattle.gremolunde.specs.declared.rehearsals.Rehearsal.{Rehearsal}
@@ -35,7 +32,8 @@ lengthAnswer (given k) = record { number = 0; length = k }
 -- what a packet says
 abbrev pub partsAnswer : Answer packet.Parts → Parts
 partsAnswer (refused n) = record { number = n; command = 0; address = 0; place = 0; length = 0 }
-partsAnswer (given p) = record { number = 0; command = p .command; address = p .address; place = p .place; length = p .size }
+partsAnswer (given p) =
+    record { number = 0; command = p .command; address = p .address; place = p .place; length = p .size }
 
 -- the loader after an input, with the length of its answer, which a refusal may have too
 abbrev pub takenAnswer : LoaderState → Answer (Unit {0}) → Loader → ℕ → Taken
@@ -66,18 +64,24 @@ steppedAnswer s (given x) = record { number = 0; length = x .len; session = sess
 -- loader and session at the end of a rehearsal
 abbrev pub rehearsedAnswer : LoaderState → Answer Load → Rehearsal
 rehearsedAnswer s (refused n) = record { number = n; loader = s; session = noSession }
-rehearsedAnswer s (given x) = record { number = 0; loader = loaderShown (x .loader); session = sessionShown (x .session) }
+rehearsedAnswer s (given x) =
+    record { number = 0; loader = loaderShown (x .loader); session = sessionShown (x .session) }
 
 -- a byte is marked proved or not
 abbrev pub markAnswer : Answer Bool → SessionMark
 markAnswer (refused n) = record { number = n; proved = 0 }
 markAnswer (given t) = record { number = 0; proved = flagOf t }
 
--- how a session ended: 0 valid, 40 to 43; 45 as the log says of one that is unfinished
-abbrev pub outcomeAnswer : Phase → ℕ
-outcomeAnswer p = pick (ended p) (outcomeIn p) 45
-
 -- what a log record says
 abbrev pub recordAnswer : Answer Record → LogRecord
-recordAnswer (refused n) = record { number = n; version = 0; outcome = 0; acknowledged = 0; total = 0; bytes = 0 }
-recordAnswer (given r) = record { number = 0; version = r .version; outcome = r .outcome; acknowledged = r .acknowledged; total = r .total; bytes = r .bytes }
+recordAnswer (refused n) =
+    record { number = n; version = 0; outcome = 0; acknowledged = 0; total = 0; bytes = 0 }
+recordAnswer (given r) =
+    record {
+      number = 0;
+      version = r .version;
+      outcome = r .outcome;
+      acknowledged = r .acknowledged;
+      total = r .total;
+      bytes = r .bytes;
+    }

@@ -1,4 +1,5 @@
--- What the states that a C caller keeps stand for, and how the library shows them. Every value of every field stands for something.
+-- What the states that a C caller keeps stand for, and how the library shows them. Every value of every field stands
+-- for something.
 use Prim.Native.Nat.{ℕ}
 use mathlib.Core.Bool.{Bool, not}
 use lib.Dec.{eqb}
@@ -37,7 +38,11 @@ abbrev pub loaderMeant : LoaderState → Loader
 loaderMeant s =
     record {
       condition = conditionMeant (s .condition);
-      sequence = record { opened = isSet (s .opened); added = record { groups = s .added; read = isSet (s .«added_read») } };
+      sequence =
+          record {
+            opened = isSet (s .opened);
+            added = record { groups = s .added; read = isSet (s .«added_read») };
+          };
       protection = record { groups = s .groups; read = isSet (s .read) };
       key = s .key;
     }
@@ -55,10 +60,12 @@ loaderShown l =
     }
 
 abbrev pub hexMeant : HexState → Hex
-hexMeant s = record { linear = s .linear; segment = s .segment; ended = isSet (s .ended); taken = isSet (s .taken) }
+hexMeant s =
+    record { linear = s .linear; segment = s .segment; ended = isSet (s .ended); taken = isSet (s .taken) }
 
 abbrev pub hexShown : Hex → HexState
-hexShown h = record { linear = h .linear; segment = h .segment; ended = flagOf (h .ended); taken = flagOf (h .taken) }
+hexShown h =
+    record { linear = h .linear; segment = h .segment; ended = flagOf (h .ended); taken = flagOf (h .taken) }
 
 -- the address of R: 0 jumps, 1 and all else resets
 abbrev pub runMeant : ℕ → RunKind

@@ -36,7 +36,8 @@ pub struct HexWritten {
 #[no_mangle]
 pub extern "C" fn gremolunde_hex_start(image: &mut [u8], map: &mut [u8]) -> HexRead
     ensures { λ r. ⌜
-        (let o = settled (startIn flashSize (now (image .entry)) (now (map .entry))) (now (image .entry)) (now (map .entry)) in
+        (let o = settled (startIn flashSize (now (image .entry)) (now (map .entry))) (now (image .entry))
+        (now (map .entry)) in
         (r ≡ hexAnswer noReader (o .answer)) × (now (image .exit) ≡ o .image) × (now (map .exit) ≡ o .map))
         ⌝ }
 {
@@ -46,7 +47,7 @@ pub extern "C" fn gremolunde_hex_start(image: &mut [u8], map: &mut [u8]) -> HexR
         ended: 0,
         taken: 0,
     };
-    answered(none, Hex::start(image, map))
+    hex_answer(none, Hex::start(image, map))
 }
 
 #[no_mangle]
@@ -57,12 +58,14 @@ pub extern "C" fn gremolunde_hex_record(
     map: &mut [u8],
 ) -> HexRead
     ensures { λ r. ⌜
-        (let o = settled (recordIn flashSize (hexMeant reader) (now (line .entry)) (now (image .entry)) (now (map .entry))) (now (image .entry)) (now (map .entry)) in
+        (let o = settled
+        (recordIn flashSize (hexMeant reader) (now (line .entry)) (now (image .entry)) (now (map .entry)))
+        (now (image .entry)) (now (map .entry)) in
         (r ≡ hexAnswer reader (o .answer)) × (now (image .exit) ≡ o .image) × (now (map .exit) ≡ o .map))
         ⌝ }
 {
     let meant = hex_meant(reader);
-    answered(reader, meant.record(line, image, map))
+    hex_answer(reader, meant.record(line, image, map))
 }
 
 #[no_mangle]
@@ -70,10 +73,10 @@ pub extern "C" fn gremolunde_hex_close(reader: HexState) -> HexRead
     ensures { λ r. ⌜ r ≡ hexAnswer reader (closeOf (hexMeant reader)) ⌝ }
 {
     let meant = hex_meant(reader);
-    answered(reader, meant.close())
+    hex_answer(reader, meant.close())
 }
 
-fn answered(reader: HexState, answer: Read) -> HexRead
+fn hex_answer(reader: HexState, answer: Read) -> HexRead
     ensures { λ r. ⌜ r ≡ hexAnswer reader (paperRead answer) ⌝ }
 {
     match answer {
@@ -96,14 +99,16 @@ pub extern "C" fn gremolunde_hex_write(
     buffer: &mut [u8],
 ) -> HexWritten
     ensures { λ r. ⌜
-        (let a = writeIn flashSize (now (image .entry)) (now (map .entry)) from (length (now (buffer .entry))) in
-        (r ≡ writtenAnswer from (measured a)) × (now (buffer .exit) ≡ overlay (textBytes a) (now (buffer .entry))))
+        (let a = writeIn flashSize (now (image .entry)) (now (map .entry)) from
+        (length (now (buffer .entry))) in
+        (r ≡ writtenAnswer from (measured a))
+        × (now (buffer .exit) ≡ overlay (textBytes a) (now (buffer .entry))))
         ⌝ }
 {
-    told(from, write(image, map, Address(from), buffer))
+    written_answer(from, write(image, map, Address(from), buffer))
 }
 
-fn told(from: u32, answer: Written) -> HexWritten
+fn written_answer(from: u32, answer: Written) -> HexWritten
     ensures { λ r. ⌜ r ≡ writtenAnswer from (paperWritten answer) ⌝ }
 {
     match answer {

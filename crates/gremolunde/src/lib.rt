@@ -1,7 +1,7 @@
 // The product as C programs link it. What C lends is safe at any value, and each answer is the paper's.
+pub mod answers;
 pub mod files;
 pub mod loading;
-pub mod numbers;
 pub mod packets;
 pub mod records;
 pub mod rehearsals;

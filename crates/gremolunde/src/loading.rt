@@ -52,16 +52,17 @@ pub extern "C" fn gremolunde_loader_take(
         let x = takeOf pages l (now (input .entry)) (now (flash .entry)) (length (now (answer .entry))) in
         let e = effectAfter l (now (flash .entry)) x in
         (r ≡ takenAnswer loader (bare x) (e .loader) (length (answerBytes l x)))
-        × (now (flash .exit) ≡ e .flash) × (now (answer .exit) ≡ overlay (answerBytes l x) (now (answer .entry))))
+        × (now (flash .exit) ≡ e .flash)
+        × (now (answer .exit) ≡ overlay (answerBytes l x) (now (answer .entry))))
         ⌝ }
 {
     let taken = take(loader_meant(loader), input, flash, answer);
     let next = taken.loader;
     let verdict = taken.verdict;
-    told(loader, verdict, next, taken.answered)
+    taken_answer(loader, verdict, next, taken.answered)
 }
 
-fn told(loader: LoaderState, verdict: Verdict, next: Loader, answered: usize) -> Taken
+fn taken_answer(loader: LoaderState, verdict: Verdict, next: Loader, answered: usize) -> Taken
     ensures { λ r. ⌜ r ≡ takenAnswer loader (paperVerdict verdict) next answered ⌝ }
 {
     match verdict {

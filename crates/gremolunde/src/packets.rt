@@ -2,11 +2,13 @@
 ghost use mathlib.Core.Path.{_≡_};
 ghost use lib.ListN.{length};
 ghost use Rattle.basis.specs.Lists.{overlay};
-ghost use Rattle.basis.specs.Refusals.{refused, counted, written};
+ghost use Rattle.basis.specs.Refusals.{counted, written};
 ghost use Rattle.gremolunde.specs.Answers.{lengthAnswer, partsAnswer};
 ghost use Rattle.packet.specs.Packet.{buildOf, readOf};
 ghost use Rattle.packet.specs.Paper.{paperBuilt, paperReading};
 ghost use Rattle.packet.specs.Turn.{turnedOf, restoredOf};
+use crate::answers::Length;
+use crate::answers::refused;
 use basis::units::Address;
 use packet::build::Built;
 use packet::build::build;
@@ -14,13 +16,6 @@ use packet::read::Reading;
 use packet::read::read;
 use packet::turn::restored;
 use packet::turn::turned;
-
-// How many bytes were written.
-#[repr(C)]
-pub struct Length {
-    pub number: u32,
-    pub length: usize,
-}
 
 // What a packet says, and where its data stand.
 #[repr(C)]
@@ -58,10 +53,10 @@ pub extern "C" fn gremolunde_packet_build(
         (r ≡ lengthAnswer (counted b)) × (now (buffer .exit) ≡ overlay (written b) (now (buffer .entry))))
         ⌝ }
 {
-    built(build(buffer, command, Address(address), plain))
+    length_answer(build(buffer, command, Address(address), plain))
 }
 
-fn built(answer: Built) -> Length
+fn length_answer(answer: Built) -> Length
     ensures { λ r. ⌜ r ≡ lengthAnswer (paperBuilt answer) ⌝ }
 {
     match answer {
@@ -71,21 +66,14 @@ fn built(answer: Built) -> Length
     }
 }
 
-// Nothing is written.
-pub fn refused(number: u32) -> Length
-    ensures { λ r. ⌜ r ≡ lengthAnswer (refused number) ⌝ }
-{
-    Length { number, length: 0 }
-}
-
 #[no_mangle]
 pub extern "C" fn gremolunde_packet_read(input: &[u8]) -> Parts
     ensures { λ r. ⌜ r ≡ partsAnswer (readOf (now (input .entry))) ⌝ }
 {
-    told(read(input))
+    parts_answer(read(input))
 }
 
-fn told(answer: Reading) -> Parts
+fn parts_answer(answer: Reading) -> Parts
     ensures { λ r. ⌜ r ≡ partsAnswer (paperReading answer) ⌝ }
 {
     match answer {

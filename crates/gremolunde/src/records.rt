@@ -2,15 +2,16 @@
 ghost use mathlib.Core.Path.{_≡_};
 ghost use lib.ListN.{length};
 ghost use Rattle.basis.specs.Lists.{overlay};
-ghost use Rattle.basis.specs.Refusals.{refused, counted, written};
+ghost use Rattle.basis.specs.Refusals.{counted, written};
 ghost use Rattle.gremolunde.specs.Answers.{lengthAnswer, recordAnswer};
 ghost use Rattle.gremolunde.specs.States.{sessionMeant};
 ghost use Rattle.service_log.specs.Log.{writeOf, readOf};
 ghost use Rattle.service_log.specs.Paper.{paperReading, paperWritten};
-use crate::packets::Length;
-use crate::packets::refused;
+use crate::answers::Length;
+use crate::answers::refused;
 use crate::states::SessionState;
 use crate::states::session_meant;
+use service_log::read::RECORD;
 use service_log::read::Reading;
 use service_log::read::read;
 use service_log::write::Written;
@@ -34,19 +35,18 @@ pub extern "C" fn gremolunde_log_write(session: SessionState, buffer: &mut [u8])
         (r ≡ lengthAnswer (counted b)) × (now (buffer .exit) ≡ overlay (written b) (now (buffer .entry))))
         ⌝ }
 {
-    written(write(session_meant(session), buffer))
+    length_answer(write(session_meant(session), buffer))
 }
 
-fn written(answer: Written) -> Length
+fn length_answer(answer: Written) -> Length
     ensures { λ r. ⌜ r ≡ lengthAnswer (paperWritten answer) ⌝ }
 {
     match answer {
         Written::Record => Length {
             number: 0,
-            length: 10,
+            length: RECORD,
         },
-        Written::Unfit => refused(45),
-        Written::NoRoom => refused(20),
+        Written::Refused(why) => refused(why.number()),
     }
 }
 
@@ -54,10 +54,10 @@ fn written(answer: Written) -> Length
 pub extern "C" fn gremolunde_log_read(input: &[u8]) -> LogRecord
     ensures { λ r. ⌜ r ≡ recordAnswer (readOf (now (input .entry))) ⌝ }
 {
-    told(read(input))
+    record_answer(read(input))
 }
 
-fn told(answer: Reading) -> LogRecord
+fn record_answer(answer: Reading) -> LogRecord
     ensures { λ r. ⌜ r ≡ recordAnswer (paperReading answer) ⌝ }
 {
     match answer {
@@ -69,22 +69,13 @@ fn told(answer: Reading) -> LogRecord
             total: said.total,
             bytes: said.bytes,
         },
-        Reading::Short => unread(50),
-        Reading::Length => unread(51),
-        Reading::Version => unread(52),
-        Reading::False => unread(53),
-    }
-}
-
-fn unread(number: u32) -> LogRecord
-    ensures { λ r. ⌜ r ≡ recordAnswer (refused number) ⌝ }
-{
-    LogRecord {
-        number,
-        version: 0,
-        outcome: 0,
-        acknowledged: 0,
-        total: 0,
-        bytes: 0,
+        Reading::Refused(why) => LogRecord {
+            number: why.number(),
+            version: 0,
+            outcome: 0,
+            acknowledged: 0,
+            total: 0,
+            bytes: 0,
+        },
     }
 }

@@ -32,16 +32,17 @@ pub extern "C" fn gremolunde_rehearse(
     flash: &mut [u8],
 ) -> Rehearsal
     ensures { λ r. ⌜
-        (let a = rehearseOf (now (image .entry)) (now (map .entry)) (runMeant run) (loaderMeant loader) (lossAt (now (losses .entry))) (now (flash .entry)) in
+        (let a = rehearseOf (now (image .entry)) (now (map .entry)) (runMeant run) (loaderMeant loader)
+        (lossAt (now (losses .entry))) (now (flash .entry)) in
         (r ≡ rehearsedAnswer loader (loaded a)) × (now (flash .exit) ≡ leftFlash (now (flash .entry)) a))
         ⌝ }
 {
     let kind = run_meant(run);
     let meant = loader_meant(loader);
-    told(loader, rehearse(kind, meant, losses, image, map, flash))
+    rehearsed_answer(loader, rehearse(kind, meant, losses, image, map, flash))
 }
 
-fn told(loader: LoaderState, answer: Rehearsed) -> Rehearsal
+fn rehearsed_answer(loader: LoaderState, answer: Rehearsed) -> Rehearsal
     ensures { λ r. ⌜ r ≡ rehearsedAnswer loader (paperRehearsed answer) ⌝ }
 {
     match answer {

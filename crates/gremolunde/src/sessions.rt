@@ -2,8 +2,9 @@
 ghost use mathlib.Core.Path.{_≡_};
 ghost use lib.ListN.{length};
 ghost use Rattle.basis.specs.Lists.{overlay};
-ghost use Rattle.gremolunde.specs.Answers.{noSession, steppedAnswer, markAnswer, outcomeAnswer};
+ghost use Rattle.gremolunde.specs.Answers.{noSession, steppedAnswer, markAnswer};
 ghost use Rattle.gremolunde.specs.States.{isSet, runMeant, sessionMeant};
+ghost use Rattle.service_log.specs.Log.{outcomeIn};
 ghost use Rattle.session.specs.Events.{classifyOf};
 ghost use Rattle.session.specs.Paper.{paperStepped, paperMark};
 ghost use Rattle.session.specs.Session.{measured, sentBytes, started, stepOf, provedOf};
@@ -12,7 +13,7 @@ use crate::states::run_meant;
 use crate::states::session_meant;
 use crate::states::session_shown;
 use basis::units::Address;
-use session::phase::Phase;
+use service_log::write::outcome_in;
 use session::session::Mark;
 use session::session::Session;
 use session::session::Stepped;
@@ -39,11 +40,13 @@ pub extern "C" fn gremolunde_session_start(
     buffer: &mut [u8],
 ) -> SessionStepped
     ensures { λ r. ⌜
-        (let a = started (now (image .entry)) (now (map .entry)) (length (now (buffer .entry))) (runMeant run) in
-        (r ≡ steppedAnswer noSession (measured a)) × (now (buffer .exit) ≡ overlay (sentBytes a) (now (buffer .entry))))
+        (let a = started (now (image .entry)) (now (map .entry)) (length (now (buffer .entry)))
+        (runMeant run) in
+        (r ≡ steppedAnswer noSession (measured a))
+        × (now (buffer .exit) ≡ overlay (sentBytes a) (now (buffer .entry))))
         ⌝ }
 {
-    answered(
+    stepped_answer(
         no_session(),
         Session::start(run_meant(run), image, map, buffer),
     )
@@ -73,15 +76,17 @@ pub extern "C" fn gremolunde_session_step(
     buffer: &mut [u8],
 ) -> SessionStepped
     ensures { λ r. ⌜
-        (let a = stepOf (now (image .entry)) (now (map .entry)) (length (now (buffer .entry))) (sessionMeant session) (classifyOf (isSet silent) (now (answer .entry))) in
-        (r ≡ steppedAnswer session (measured a)) × (now (buffer .exit) ≡ overlay (sentBytes a) (now (buffer .entry))))
+        (let a = stepOf (now (image .entry)) (now (map .entry)) (length (now (buffer .entry)))
+        (sessionMeant session) (classifyOf (isSet silent) (now (answer .entry))) in
+        (r ≡ steppedAnswer session (measured a))
+        × (now (buffer .exit) ≡ overlay (sentBytes a) (now (buffer .entry))))
         ⌝ }
 {
     let meant = session_meant(session);
-    answered(session, meant.step(silent != 0, answer, image, map, buffer))
+    stepped_answer(session, meant.step(silent != 0, answer, image, map, buffer))
 }
 
-fn answered(session: SessionState, answer: Stepped) -> SessionStepped
+fn stepped_answer(session: SessionState, answer: Stepped) -> SessionStepped
     ensures { λ r. ⌜ r ≡ steppedAnswer session (paperStepped answer) ⌝ }
 {
     match answer {
@@ -110,10 +115,10 @@ pub extern "C" fn gremolunde_session_proved(
     ensures { λ r. ⌜ r ≡ markAnswer (provedOf (now (map .entry)) (sessionMeant session) address) ⌝ }
 {
     let meant = session_meant(session);
-    marked(meant.proved(map, Address(address)))
+    mark_answer(meant.proved(map, Address(address)))
 }
 
-fn marked(answer: Mark) -> SessionMark
+fn mark_answer(answer: Mark) -> SessionMark
     ensures { λ r. ⌜ r ≡ markAnswer (paperMark answer) ⌝ }
 {
     match answer {
@@ -135,22 +140,9 @@ fn marked(answer: Mark) -> SessionMark
 // 0 valid, 40 to 43, or 45 where the session is unfinished.
 #[no_mangle]
 pub extern "C" fn gremolunde_session_outcome(session: SessionState) -> u32
-    ensures { λ r. ⌜ r ≡ outcomeAnswer (sessionMeant session .phase) ⌝ }
+    ensures { λ r. ⌜ r ≡ outcomeIn (sessionMeant session .phase) ⌝ }
 {
     let meant = session_meant(session);
     let phase = meant.phase;
-    outcome(phase)
-}
-
-fn outcome(phase: Phase) -> u32
-    ensures { λ r. ⌜ r ≡ outcomeAnswer phase ⌝ }
-{
-    match phase {
-        Phase::Greeting => 45,
-        Phase::Erase(_) => 45,
-        Phase::Write(_) => 45,
-        Phase::Verify(_) => 45,
-        Phase::Run => 45,
-        Phase::Ended(reached) => reached.number() as u32,
-    }
+    outcome_in(phase) as u32
 }

@@ -1,7 +1,7 @@
 // The states that a C caller keeps, and what each stands for.
 ghost use mathlib.Core.Path.{_≡_};
 ghost use Rattle.gremolunde.specs.States.{conditionMeant, conditionShown, loaderMeant, loaderShown, hexMeant, hexShown, runMeant, runShown, nowhere, endMeant, phaseMeant, placeless, phaseShown, placeShown, sessionMeant, sessionShown};
-use crate::numbers::flag;
+use crate::answers::flag;
 use basis::units::Address;
 use basis::units::Page;
 use image::hex::Hex;

@@ -34,16 +34,16 @@ pub record Fed : Type 0 where
   pub image : List ℕ
   pub map : List ℕ
 
-abbrev pub fed : Progress → List ℕ → List ℕ → List ℕ → Fed
-fed p line image map = record { progress = p; line = line; image = image; map = map }
+abbrev pub state : Progress → List ℕ → List ℕ → List ℕ → Fed
+state p line image map = record { progress = p; line = line; image = image; map = map }
 
 -- a text at its start
 abbrev pub begunBy : Answer Hex → Progress
 begunBy (refused k) = stopped 0 k
 begunBy (given h) = going (record { hex = h; lines = 0; len = 0 })
 
-abbrev pub started : Settled → List ℕ → Fed
-started o line = fed (begunBy (o .answer)) line (o .image) (o .map)
+abbrev pub opened : Settled → List ℕ → Fed
+opened o line = state (begunBy (o .answer)) line (o .image) (o .map)
 
 -- the number of the next line, in 64 bits
 abbrev pub nextLine : Text → ℕ
@@ -55,7 +55,7 @@ tookBy t (refused k) = stopped (nextLine t) k
 tookBy t (given h) = going (record { hex = h; lines = nextLine t; len = 0 })
 
 abbrev pub took : Text → Settled → List ℕ → Fed
-took t o line = fed (tookBy t (o .answer)) line (o .image) (o .map)
+took t o line = state (tookBy t (o .answer)) line (o .image) (o .map)
 
 abbrev pub tookLine : ℕ → Text → List ℕ → List ℕ → List ℕ → List ℕ → Fed
 tookLine size t l line image map = took t (settled (recordIn size (t .hex) l image map) image map) line
@@ -71,10 +71,10 @@ withKept t n = record { hex = t .hex; lines = t .lines; len = n }
 unfoldable pub textByte : ℕ → Text → ℕ → List ℕ → List ℕ → List ℕ → Fed
 textByte size t b line image map =
     pick (eqb b 0x0A) (tookLine size t (trimmedOf (take (t .len) line)) line image map)
-    (fed (going (withKept t (keepOneOf (t .len) line))) (set line (t .len) b) image map)
+    (state (going (withKept t (keepOneOf (t .len) line))) (set line (t .len) b) image map)
 
 abbrev pub progressByte : ℕ → Progress → ℕ → List ℕ → List ℕ → List ℕ → Fed
-progressByte size (stopped n k) b line image map = fed (stopped n k) line image map
+progressByte size (stopped n k) b line image map = state (stopped n k) line image map
 progressByte size (going t) b line image map = textByte size t b line image map
 
 abbrev pub byteOf : ℕ → Fed → ℕ → Fed
@@ -88,12 +88,12 @@ feedOf size s (b ∷ t) = feedOf size (byteOf size s b) t
 -- a stretch of the open line, never the last byte that came: what its bytes one by one leave, which is no matter of image and map
 abbrev pub Keeps : ℕ → Progress → List ℕ → List ℕ → Progress → List ℕ → ℕ → Type 0
 Keeps size p line bytes q kept n =
-    (n ≤ length bytes - 1) × ((image map : List ℕ) → fed q kept image map ≡ feedOf size (fed p line image map) (take n bytes))
+    (n ≤ length bytes - 1) × ((image map : List ℕ) → state q kept image map ≡ feedOf size (state p line image map) (take n bytes))
 
--- the line behind the last 0A, as it stands
+-- the line after the last 0A, as it stands
 unfoldable pub lastOf : ℕ → Text → List ℕ → List ℕ → List ℕ → Fed
 lastOf size t line image map =
-    pick (eqb (t .len) 0) (fed (going t) line image map) (tookLine size t (take (t .len) line) line image map)
+    pick (eqb (t .len) 0) (state (going t) line image map) (tookLine size t (take (t .len) line) line image map)
 
 -- the reader is closed
 abbrev pub shutBy : Text → Answer Hex → Progress
@@ -105,10 +105,10 @@ shutOf (stopped n k) = stopped n k
 shutOf (going t) = shutBy t (closing (t .hex))
 
 abbrev pub shutFed : Fed → Fed
-shutFed s = fed (shutOf (s .progress)) (s .line) (s .image) (s .map)
+shutFed s = state (shutOf (s .progress)) (s .line) (s .image) (s .map)
 
 abbrev pub progressClosed : ℕ → Progress → List ℕ → List ℕ → List ℕ → Fed
-progressClosed size (stopped n k) line image map = fed (stopped n k) line image map
+progressClosed size (stopped n k) line image map = state (stopped n k) line image map
 progressClosed size (going t) line image map = shutFed (lastOf size t line image map)
 
 abbrev pub closeOf : ℕ → Fed → Fed
@@ -119,8 +119,9 @@ abbrev pub endedOf : Progress → Verdict
 endedOf (stopped n k) = refusedAt n k
 endedOf (going t) = whole
 
-abbrev pub resultOf : Progress → List ℕ → List ℕ → Result
-resultOf p image map = result (endedOf p) image map
-
 abbrev pub fedResult : Fed → Result
-fedResult s = resultOf (s .progress) (s .image) (s .map)
+fedResult s = result (endedOf (s .progress)) (s .image) (s .map)
+
+-- what a text comes to from a state on
+abbrev pub cameTo : ℕ → Fed → List ℕ → Result
+cameTo size s text = fedResult (closeOf size (feedOf size s text))

@@ -8,8 +8,8 @@ use Rattle.listing.specs.Numbers.{decimalOf}
 use Rattle.service_log.specs.declared.read.Record.{Record}
 
 -- each line is closed by 0A
-abbrev pub closed : List ℕ
-closed = 0x0A ∷ []
+abbrev pub lineEnd : List ℕ
+lineEnd = 0x0A ∷ []
 
 -- a word and a number
 abbrev pub field : List ℕ → ℕ → List ℕ
@@ -21,11 +21,15 @@ refusedWord = 0x52 ∷ 0x45 ∷ 0x46 ∷ 0x55 ∷ 0x53 ∷ 0x45 ∷ 0x44 ∷ 0x2
 
 -- REFUSED, the line number and the number, with single spaces
 unfoldable pub refusalAt : ℕ → ℕ → List ℕ
-refusalAt line k = field refusedWord line ++ (field (0x20 ∷ []) k ++ closed)
+refusalAt line k = field refusedWord line ++ (field (0x20 ∷ []) k ++ lineEnd)
+
+-- no line of a refusal is longer: 8 characters, 20 digits, a space, 20 digits and 0A
+abbrev pub refusalRoom : ℕ
+refusalRoom = 50
 
 -- REFUSED and the number
 unfoldable pub refusalLine : ℕ → List ℕ
-refusalLine k = field refusedWord k ++ closed
+refusalLine k = field refusedWord k ++ lineEnd
 
 -- ---- the plan
 
@@ -37,15 +41,19 @@ headLine =
     ∷ 0x4B ∷ 0x49 ∷ 0x4E ∷ 0x44
     ∷ 0x20
     ∷ 0x50 ∷ 0x41 ∷ 0x43 ∷ 0x4B ∷ 0x45 ∷ 0x54
-    ∷ closed
+    ∷ lineEnd
 
 -- step number, command letter and whole packet in hex; the command is the packet's fourth byte
 unfoldable pub stepLine : ℕ → List ℕ → List ℕ
-stepLine n p = decimalOf n ++ (0x20 ∷ getD p 3 0 ∷ 0x20 ∷ (spelt p ++ closed))
+stepLine n p = decimalOf n ++ (0x20 ∷ getD p 3 0 ∷ 0x20 ∷ (spelt p ++ lineEnd))
+
+-- no line above or below the steps is longer: 6 characters, 20 digits and 0A
+abbrev pub totalRoom : ℕ
+totalRoom = 27
 
 -- "TOTAL " and the number of packets
 unfoldable pub totalLine : ℕ → List ℕ
-totalLine n = field (0x54 ∷ 0x4F ∷ 0x54 ∷ 0x41 ∷ 0x4C ∷ 0x20 ∷ []) n ++ closed
+totalLine n = field (0x54 ∷ 0x4F ∷ 0x54 ∷ 0x41 ∷ 0x4C ∷ 0x20 ∷ []) n ++ lineEnd
 
 -- ---- the log
 
@@ -57,7 +65,11 @@ recordLine x =
     ++ (field (0x20 ∷ 0x41 ∷ 0x43 ∷ 0x4B ∷ 0x45 ∷ 0x44 ∷ 0x20 ∷ []) (x .acknowledged)
     ++ (field (0x20 ∷ 0x54 ∷ 0x4F ∷ 0x54 ∷ 0x41 ∷ 0x4C ∷ 0x20 ∷ []) (x .total)
     ++ (field (0x20 ∷ 0x42 ∷ 0x59 ∷ 0x54 ∷ 0x45 ∷ 0x53 ∷ 0x20 ∷ []) (x .bytes)
-    ++ closed))))
+    ++ lineEnd))))
+
+-- no line of a record is longer: 38 characters of words, five numbers of 20 digits and 0A
+abbrev pub logRoom : ℕ
+logRoom = 139
 
 -- what a record says, or REFUSED and the number
 abbrev pub logLine : Answer Record → List ℕ

@@ -8,11 +8,11 @@ use Rattle.basis.specs.Choice.{pick}
 abbrev pub digit : ℕ → ℕ
 digit d = 0x30 + d
 
--- the digits of n, where k more than the last one are enough
+-- n in decimal, by at most k divisions
 unfoldable pub decimalIn : ℕ → ℕ → List ℕ
 decimalIn zero n = digit n ∷ []
 decimalIn (suc k) n = pick (ltb n 10) (digit n ∷ []) (decimalIn k (n / 10) ++ (digit (n % 10) ∷ []))
 
--- n digits always are
+-- n divisions are always enough
 unfoldable pub decimalOf : ℕ → List ℕ
 decimalOf n = decimalIn n n

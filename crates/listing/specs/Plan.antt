@@ -1,11 +1,10 @@
--- A plan as text, and its listing page by page.
+-- A plan as text, and its listing sheet by sheet.
 use Prim.Native.Nat.{ℕ, zero, suc, _+_, _-_, _≤_, _<_}
 use mathlib.Core.List.{List, [], _∷_, _++_}
 use mathlib.Core.Path.{_≡_}
 use lib.Dec.{ltb}
 use lib.ListN.{length, drop}
-use Rattle.basis.specs.Board.{flashSize}
-use Rattle.basis.specs.Board.{mapSize as mapRoom}
+use Rattle.basis.specs.Board.{flashSize, mapSize}
 use Rattle.basis.specs.Choice.{pick}
 use Rattle.basis.specs.Refusals.{Answer, refused, given}
 use Rattle.runs.specs.Pieces.{namedCount}
@@ -31,21 +30,21 @@ planText image m = headLine ++ (stepLines 0 (plan image m RunKind.Reset) ++ tota
 
 -- ---- a listing
 
--- the packet behind n listed ones
+-- the packet after n listed ones
 abbrev pub packetAt : List ℕ → List ℕ → ℕ → List ℕ
 packetAt image m n = sessionPacketAt image m RunKind.Reset n
 
--- its phase; behind the last packet the session ends
-abbrev pub phaseBehind : List ℕ → ℕ → Phase
-phaseBehind m n = pick (ltb n (total m)) (phaseAt m n) (Phase.Ended Outcome.Valid)
+-- its phase; after the last packet the session ends
+abbrev pub phaseAfter : List ℕ → ℕ → Phase
+phaseAfter m n = pick (ltb n (total m)) (phaseAt m n) (Phase.Ended Outcome.Valid)
 
 abbrev pub listingAt : List ℕ → ℕ → Listing
-listingAt m n = record { phase = phaseBehind m n; listed = n; total = total m }
+listingAt m n = record { phase = phaseAfter m n; listed = n; total = total m }
 
 -- a listing of this file
 pub record Listed (image m : List ℕ) (l : Listing) : Type 0 where
-  pub imageSize : length image ≡ flashSize
-  pub mapSize : length m ≡ mapRoom
+  pub right : length image ≡ flashSize
+  pub long : length m ≡ mapSize
   pub some : 0 < namedCount m
   pub stands : l ≡ listingAt m (l .listed)
   pub within : l .listed ≤ total m
@@ -54,18 +53,18 @@ abbrev pub paperBegun : Begun → Answer Listing
 paperBegun (Begun.Listing l) = given l
 paperBegun (Begun.Refused x) = refused (paperRefusal x)
 
--- it begins where the session starts
+-- refused as the session's start is, else nothing is listed
 abbrev pub listingBy : List ℕ → Answer Sent → Answer Listing
 listingBy m (refused n) = refused n
 listingBy m (given x) = given (listingAt m 0)
 
--- ---- a page
+-- ---- a sheet
 
 -- 20 digits, a letter, 259 bytes, two spaces and 0A
 abbrev pub longestLine : ℕ
 longestLine = 542
 
--- what is written, and how many packets are listed behind it
+-- what is written, and how many packets are listed after it
 pub record Sheet : Type 0 where
   pub text : List ℕ
   pub listed : ℕ
@@ -73,17 +72,17 @@ pub record Sheet : Type 0 where
 abbrev pub sheet : List ℕ → ℕ → Sheet
 sheet s n = record { text = s; listed = n }
 
-abbrev pub behind : List ℕ → Sheet → Sheet
-behind s g = sheet (s ++ g .text) (g .listed)
+abbrev pub followedBy : List ℕ → Sheet → Sheet
+followedBy s g = sheet (s ++ g .text) (g .listed)
 
 -- whole lines, as long as the longest one has room
 unfoldable pub sheetOf : ℕ → ℕ → List (List ℕ) → Sheet
 sheetOf room n [] = sheet [] n
 sheetOf room n (p ∷ ps) =
     pick (ltb room longestLine) (sheet [] n)
-    (behind (stepLine (n + 1) p) (sheetOf (room - length (stepLine (n + 1) p)) (n + 1) ps))
+    (followedBy (stepLine (n + 1) p) (sheetOf (room - length (stepLine (n + 1) p)) (n + 1) ps))
 
--- k pages one after another, each in a buffer of so many bytes
+-- k sheets one after another, each in a buffer of so many bytes
 unfoldable pub sheets : ℕ → ℕ → ℕ → List (List ℕ) → List ℕ
 sheets zero room n ps = []
 sheets (suc k) room n ps =

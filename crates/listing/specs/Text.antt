@@ -12,7 +12,11 @@ use Rattle.image.specs.declared.hex.Hex.{Hex}
 unfoldable pub trimmedOf : List ℕ → List ℕ
 trimmedOf l = pick (eqb (getD l (length l - 1) 0) 0x0D) (take (length l - 1) l) l
 
--- the lines of a text, behind an open line: a line ends at 0A, and nothing after the last 0A is no line
+-- how much of a line is enough: 521 characters, a 0D, and one more to tell a longer line
+abbrev pub lineRoom : ℕ
+lineRoom = 523
+
+-- the lines of a text that follows an open line: a line ends at 0A, and nothing after the last 0A is no line
 unfoldable pub linesFrom : List ℕ → List ℕ → List (List ℕ)
 linesFrom l [] = pick (eqb (length l) 0) [] (l ∷ [])
 linesFrom l (b ∷ t) = pick (eqb b 0x0A) (trimmedOf l ∷ linesFrom [] t) (linesFrom (l ++ (b ∷ [])) t)
@@ -35,20 +39,20 @@ abbrev pub result : Verdict → List ℕ → List ℕ → Result
 result v image map = record { verdict = v; image = image; map = map }
 
 -- on with the file that a record gives, or refused at line n
-abbrev pub onward : ℕ → List ℕ → List ℕ → Answer File → (File → Result) → Result
-onward n image map (refused k) g = result (refusedAt n k) image map
-onward n image map (given f) g = g f
+abbrev pub unlessRefused : ℕ → List ℕ → List ℕ → Answer File → (File → Result) → Result
+unlessRefused n image map (refused k) g = result (refusedAt n k) image map
+unlessRefused n image map (given f) g = g f
 
-abbrev pub shutBy : Answer Hex → Verdict
-shutBy (refused k) = refusedAt 0 k
-shutBy (given h) = whole
+abbrev pub verdictBy : Answer Hex → Verdict
+verdictBy (refused k) = refusedAt 0 k
+verdictBy (given h) = whole
 
 -- records one after another, n before them; then closing
 unfoldable pub readFrom : ℕ → ℕ → List (List ℕ) → File → Result
-readFrom size n [] f = result (shutBy (closeOf (f .reader))) (f .image) (f .map)
+readFrom size n [] f = result (verdictBy (closeOf (f .reader))) (f .image) (f .map)
 readFrom size n (l ∷ ls) f =
-    onward (n + 1) (f .image) (f .map) (recordIn size (f .reader) l (f .image) (f .map)) (readFrom size (n + 1) ls)
+    unlessRefused (n + 1) (f .image) (f .map) (recordIn size (f .reader) l (f .image) (f .map)) (readFrom size (n + 1) ls)
 
--- a whole text, into an image and a map of the right size
+-- a whole text: 20 where image or map has another size, else line by line
 unfoldable pub readIn : ℕ → List ℕ → List ℕ → List ℕ → Result
-readIn size t image map = onward 0 image map (startIn size image map) (readFrom size 0 (textLines t))
+readIn size t image map = unlessRefused 0 image map (startIn size image map) (readFrom size 0 (textLines t))

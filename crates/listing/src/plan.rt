@@ -10,10 +10,10 @@ ghost use Rattle.runs.specs.Pieces.{namedCount};
 ghost use Rattle.session.specs.Plan.{plan, total};
 ghost use Rattle.session.specs.Session.{started};
 ghost use Rattle.session.specs.declared.phase.RunKind.{RunKind};
-ghost use Rattle.listing.specs.Lines.{headLine, stepLine, totalLine};
+ghost use Rattle.listing.specs.Lines.{headLine, stepLine, totalRoom, totalLine};
 ghost use Rattle.listing.specs.Plan.{Listed, listingAt, paperBegun, listingBy, packetAt, longestLine, sheetOf};
 use crate::numbers::decimal;
-use crate::numbers::field;
+use crate::numbers::last_field;
 use basis::buffers::write;
 use image::writer::spell;
 use packet::build::PACKET;
@@ -40,7 +40,7 @@ pub enum Begun {
     Refused(Refusal),
 }
 
-// The listing behind what was written, and how much that is.
+// The listing after what was written, and how much that is.
 pub struct Sheet {
     pub listing: Listing,
     pub len: usize,
@@ -49,24 +49,35 @@ pub struct Sheet {
 impl Listing {
     // Refused as the session's start is.
     pub fn start(image: &[u8], map: &[u8]) -> Begun
-        ensures { λ r. ⌜ paperBegun r ≡ listingBy (now (map .entry)) (started (now (image .entry)) (now (map .entry)) packetMost RunKind.Reset) ⌝ }
+        ensures { λ r. ⌜
+            paperBegun r
+            ≡ listingBy (now (map .entry))
+            (started (now (image .entry)) (now (map .entry)) packetMost RunKind.Reset)
+            ⌝ }
     {
         let mut packet = [0u8; PACKET];
         Listing::start_with(image, map, &mut packet)
     }
 
+    // The packet's buffer is lent from a function of its own: its 259 bytes would stand in every fact of this one.
     fn start_with(image: &[u8], map: &[u8], packet: &mut [u8]) -> Begun
-        ensures { λ r. ⌜ paperBegun r ≡ listingBy (now (map .entry)) (started (now (image .entry)) (now (map .entry)) (length (now (packet .entry))) RunKind.Reset) ⌝ }
+        ensures { λ r. ⌜
+            paperBegun r
+            ≡ listingBy (now (map .entry))
+            (started (now (image .entry)) (now (map .entry)) (length (now (packet .entry))) RunKind.Reset)
+            ⌝ }
     {
         match Session::start(RunKind::Reset, image, map, packet) {
-            Stepped::Next(next) => Begun::Listing(Listing::first(map, next.session)),
+            Stepped::Next(next) => Begun::Listing(Listing::opening(map, next.session)),
             Stepped::Refused(x) => Begun::Refused(x),
         }
     }
 
     // Nothing is listed; the first packet is the one that follows the greeting.
-    fn first(map: &[u8], session: Session) -> Listing
-        requires { ⌜ (length (now map) ≡ mapSize) × (0 < namedCount (now map)) × (session .total ≡ total (now map)) ⌝ }
+    fn opening(map: &[u8], session: Session) -> Listing
+        requires { ⌜
+            (length (now map) ≡ mapSize) × (0 < namedCount (now map)) × (session .total ≡ total (now map))
+            ⌝ }
         ensures { λ r. ⌜ r ≡ listingAt (now (map .entry)) 0 ⌝ }
     {
         Listing {
@@ -80,8 +91,10 @@ impl Listing {
     pub fn sheet(self, image: &[u8], map: &[u8], buffer: &mut [u8]) -> Sheet
         requires { ⌜ Listed (now image) (now map) self ⌝ }
         ensures { λ r. ⌜
-            (let g = sheetOf (length (now (buffer .entry))) (self .listed) (drop (self .listed) (plan (now (image .entry)) (now (map .entry)) RunKind.Reset)) in
-            (r .listing ≡ listingAt (now (map .entry)) (g .listed)) × (r .len ≡ length (g .text)) × (now (buffer .exit) ≡ overlay (g .text) (now (buffer .entry))))
+            (let g = sheetOf (length (now (buffer .entry))) (self .listed)
+            (drop (self .listed) (plan (now (image .entry)) (now (map .entry)) RunKind.Reset)) in
+            (r .listing ≡ listingAt (now (map .entry)) (g .listed)) × (r .len ≡ length (g .text))
+            × (now (buffer .exit) ≡ overlay (g .text) (now (buffer .entry))))
             ⌝ }
     {
         let mut listing = self;
@@ -99,16 +112,22 @@ impl Listing {
 
     // The next packet's line, from `at` on.
     fn line(self, image: &[u8], map: &[u8], buffer: &mut [u8], at: usize) -> Sheet
-        requires { ⌜ Listed (now image) (now map) self × (self .listed < self .total) × (at + longestLine ≤ length (now buffer)) ⌝ }
+        requires { ⌜
+            Listed (now image) (now map) self × (self .listed < self .total)
+            × (at + longestLine ≤ length (now buffer))
+            ⌝ }
         ensures { λ r. ⌜
-            (let s = stepLine (self .listed + 1) (packetAt (now (image .entry)) (now (map .entry)) (self .listed)) in
-            (r .listing ≡ listingAt (now (map .entry)) (self .listed + 1)) × (r .len ≡ at + length s) × (now (buffer .exit) ≡ copyOf (now (buffer .entry)) at s) × (length s ≤ longestLine))
+            (let s = stepLine (self .listed + 1)
+            (packetAt (now (image .entry)) (now (map .entry)) (self .listed)) in
+            (r .listing ≡ listingAt (now (map .entry)) (self .listed + 1)) × (r .len ≡ at + length s)
+            × (now (buffer .exit) ≡ copyOf (now (buffer .entry)) at s) × (length s ≤ longestLine))
             ⌝ }
     {
         let mut packet = [0u8; PACKET];
         self.line_with(image, map, &mut packet, buffer, at)
     }
 
+    // As `start_with`: the packet's buffer is lent.
     fn line_with(
         self,
         image: &[u8],
@@ -117,10 +136,15 @@ impl Listing {
         buffer: &mut [u8],
         at: usize,
     ) -> Sheet
-        requires { ⌜ Listed (now image) (now map) self × (self .listed < self .total) × (length (now packet) ≡ packetMost) × (at + longestLine ≤ length (now buffer)) ⌝ }
+        requires { ⌜
+            Listed (now image) (now map) self × (self .listed < self .total)
+            × (length (now packet) ≡ packetMost) × (at + longestLine ≤ length (now buffer))
+            ⌝ }
         ensures { λ r. ⌜
-            (let s = stepLine (self .listed + 1) (packetAt (now (image .entry)) (now (map .entry)) (self .listed)) in
-            (r .listing ≡ listingAt (now (map .entry)) (self .listed + 1)) × (r .len ≡ at + length s) × (now (buffer .exit) ≡ copyOf (now (buffer .entry)) at s) × (length s ≤ longestLine))
+            (let s = stepLine (self .listed + 1)
+            (packetAt (now (image .entry)) (now (map .entry)) (self .listed)) in
+            (r .listing ≡ listingAt (now (map .entry)) (self .listed + 1)) × (r .len ≡ at + length s)
+            × (now (buffer .exit) ≡ copyOf (now (buffer .entry)) at s) × (length s ≤ longestLine))
             ⌝ }
     {
         let phase = self.phase;
@@ -138,7 +162,7 @@ impl Listing {
 
 // The line above the steps.
 pub fn head_line(buffer: &mut [u8]) -> usize
-    requires { ⌜ 64 ≤ length (now buffer) ⌝ }
+    requires { ⌜ totalRoom ≤ length (now buffer) ⌝ }
     ensures { λ r. ⌜ (r ≡ length headLine) × (now (buffer .exit) ≡ overlay headLine (now (buffer .entry))) ⌝ }
 {
     write(buffer, b"STEP KIND PACKET\n");
@@ -147,12 +171,13 @@ pub fn head_line(buffer: &mut [u8]) -> usize
 
 // The line below them.
 pub fn total_line(buffer: &mut [u8], total: u32) -> usize
-    requires { ⌜ 64 ≤ length (now buffer) ⌝ }
-    ensures { λ r. ⌜ (r ≡ length (totalLine total)) × (now (buffer .exit) ≡ overlay (totalLine total) (now (buffer .entry))) ⌝ }
+    requires { ⌜ totalRoom ≤ length (now buffer) ⌝ }
+    ensures { λ r. ⌜
+        (r ≡ length (totalLine total))
+        × (now (buffer .exit) ≡ overlay (totalLine total) (now (buffer .entry)))
+        ⌝ }
 {
-    let end = field(buffer, 0, b"TOTAL ", total as u64);
-    buffer[end] = 0x0A;
-    end + 1
+    last_field(buffer, 0, b"TOTAL ", total as u64)
 }
 
 // Step number, command letter and whole packet, from `at` on; gives the place behind them.
@@ -160,21 +185,22 @@ fn step_line(buffer: &mut [u8], at: usize, step: u64, packet: &[u8]) -> usize
     requires { ⌜ at + 2 * length (now packet) + 24 ≤ length (now buffer) ⌝ }
     ensures { λ r. ⌜
         (let s = stepLine step (now (packet .entry)) in
-        (r ≡ at + length s) × (now (buffer .exit) ≡ copyOf (now (buffer .entry)) at s) × (length s ≤ 2 * length (now (packet .entry)) + 24))
+        (r ≡ at + length s) × (now (buffer .exit) ≡ copyOf (now (buffer .entry)) at s)
+        × (length s ≤ 2 * length (now (packet .entry)) + 24))
         ⌝ }
 {
     let end = decimal(buffer, at, step);
     buffer[end] = b' ';
-    buffer[end + 1] = letter(packet);
+    buffer[end + 1] = command_letter(packet);
     buffer[end + 2] = b' ';
     spell(buffer, end + 3, packet);
     let last = end + 3 + 2 * packet.len();
-    buffer[last] = 0x0A;
+    buffer[last] = b'\n';
     last + 1
 }
 
 // The command is the packet's fourth byte.
-fn letter(packet: &[u8]) -> u8
+fn command_letter(packet: &[u8]) -> u8
     ensures { λ r. ⌜ r ≡ getD (now (packet .entry)) 3 0 ⌝ }
 {
     if packet.len() <= 3 {

@@ -4,33 +4,30 @@ ghost use Prim.Native.Nat.{_≤_};
 ghost use lib.ListN.{length};
 ghost use Rattle.basis.specs.Lists.{overlay};
 ghost use Rattle.image.specs.Paper.{paperRefusal};
-ghost use Rattle.listing.specs.Lines.{refusalAt, refusalLine};
+ghost use Rattle.listing.specs.Lines.{refusalRoom, refusalAt, refusalLine};
 use crate::numbers::field;
+use crate::numbers::last_field;
 use image::record::Refusal;
 
 // REFUSED, the line and the number.
 pub fn refusal_at(buffer: &mut [u8], line: u64, refusal: Refusal) -> usize
-    requires { ⌜ 64 ≤ length (now buffer) ⌝ }
+    requires { ⌜ refusalRoom ≤ length (now buffer) ⌝ }
     ensures { λ r. ⌜
         (let s = refusalAt line (paperRefusal refusal) in
         (r ≡ length s) × (now (buffer .exit) ≡ overlay s (now (buffer .entry))))
         ⌝ }
 {
     let first = field(buffer, 0, b"REFUSED ", line);
-    let end = field(buffer, first, b" ", refusal.number() as u64);
-    buffer[end] = 0x0A;
-    end + 1
+    last_field(buffer, first, b" ", refusal.number() as u64)
 }
 
 // REFUSED and the number.
 pub fn refusal_line(buffer: &mut [u8], number: u64) -> usize
-    requires { ⌜ 64 ≤ length (now buffer) ⌝ }
+    requires { ⌜ refusalRoom ≤ length (now buffer) ⌝ }
     ensures { λ r. ⌜
         (let s = refusalLine number in
         (r ≡ length s) × (now (buffer .exit) ≡ overlay s (now (buffer .entry))))
         ⌝ }
 {
-    let end = field(buffer, 0, b"REFUSED ", number);
-    buffer[end] = 0x0A;
-    end + 1
+    last_field(buffer, 0, b"REFUSED ", number)
 }

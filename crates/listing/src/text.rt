@@ -5,7 +5,7 @@ ghost use lib.ListN.{length, set, take};
 ghost use Rattle.basis.specs.Board.{flashSize};
 ghost use Rattle.image.specs.Hex.{settled, startIn, recordIn};
 ghost use Rattle.listing.specs.Text.{result, trimmedOf, readIn};
-ghost use Rattle.listing.specs.Feed.{going, paperReading, paperEnded, endedOf, fed, begunBy, tookBy, keepOneOf, withKept, textByte, byteOf, feedOf, Keeps, lastOf, shutOf, closeOf};
+ghost use Rattle.listing.specs.Feed.{going, paperReading, paperEnded, endedOf, state, begunBy, tookBy, keepOneOf, withKept, textByte, byteOf, feedOf, Keeps, lastOf, shutOf, closeOf};
 use image::hex::Hex;
 use image::hex::Read;
 use image::record::Refusal;
@@ -42,8 +42,10 @@ impl Reading {
     // A text at its start, with image and map as the hex reader starts them.
     pub fn start(image: &mut [u8], map: &mut [u8]) -> Reading
         ensures { λ r. ⌜
-            (let o = settled (startIn flashSize (now (image .entry)) (now (map .entry))) (now (image .entry)) (now (map .entry)) in
-            (paperReading r ≡ begunBy (o .answer)) × (now (image .exit) ≡ o .image) × (now (map .exit) ≡ o .map))
+            (let o = settled (startIn flashSize (now (image .entry)) (now (map .entry))) (now (image .entry))
+            (now (map .entry)) in
+            (paperReading r ≡ begunBy (o .answer)) × (now (image .exit) ≡ o .image)
+            × (now (map .exit) ≡ o .map))
             ⌝ }
     {
         match Hex::start(image, map) {
@@ -58,7 +60,12 @@ impl Reading {
 
     // The next bytes of the text, as many as came. After a refusal they count for nothing.
     pub fn feed(self, bytes: &[u8], line: &mut [u8], image: &mut [u8], map: &mut [u8]) -> Reading
-        ensures { λ r. ⌜ fed (paperReading r) (now (line .exit)) (now (image .exit)) (now (map .exit)) ≡ feedOf flashSize (fed (paperReading self) (now (line .entry)) (now (image .entry)) (now (map .entry))) (now (bytes .entry)) ⌝ }
+        ensures { λ r. ⌜
+            state (paperReading r) (now (line .exit)) (now (image .exit)) (now (map .exit))
+            ≡ feedOf flashSize
+            (state (paperReading self) (now (line .entry)) (now (image .entry)) (now (map .entry)))
+            (now (bytes .entry))
+            ⌝ }
     {
         let mut reading = self;
         let mut i = 0;
@@ -73,7 +80,10 @@ impl Reading {
     }
 
     fn keep(self, bytes: &[u8], line: &mut [u8]) -> Stretch
-        ensures { λ r. ⌜ Keeps flashSize (paperReading self) (now (line .entry)) (now (bytes .entry)) (paperReading (r .reading)) (now (line .exit)) (r .len) ⌝ }
+        ensures { λ r. ⌜
+            Keeps flashSize (paperReading self) (now (line .entry)) (now (bytes .entry))
+            (paperReading (r .reading)) (now (line .exit)) (r .len)
+            ⌝ }
     {
         match self {
             Reading::Open(text) => text.keep(bytes, line),
@@ -85,7 +95,11 @@ impl Reading {
     }
 
     fn byte(self, b: u8, line: &mut [u8], image: &mut [u8], map: &mut [u8]) -> Reading
-        ensures { λ r. ⌜ fed (paperReading r) (now (line .exit)) (now (image .exit)) (now (map .exit)) ≡ byteOf flashSize (fed (paperReading self) (now (line .entry)) (now (image .entry)) (now (map .entry))) b ⌝ }
+        ensures { λ r. ⌜
+            state (paperReading r) (now (line .exit)) (now (image .exit)) (now (map .exit))
+            ≡ byteOf flashSize
+            (state (paperReading self) (now (line .entry)) (now (image .entry)) (now (map .entry))) b
+            ⌝ }
     {
         match self {
             Reading::Open(text) => text.byte(b, line, image, map),
@@ -93,9 +107,13 @@ impl Reading {
         }
     }
 
-    // The text has ended: what stands behind the last 0A is a line as it stands, and the reader is closed.
+    // The text has ended: what stands after the last 0A is a line as it stands, and the reader is closed.
     pub fn close(self, line: &[u8], image: &mut [u8], map: &mut [u8]) -> Reading
-        ensures { λ r. ⌜ fed (paperReading r) (now (line .entry)) (now (image .exit)) (now (map .exit)) ≡ closeOf flashSize (fed (paperReading self) (now (line .entry)) (now (image .entry)) (now (map .entry))) ⌝ }
+        ensures { λ r. ⌜
+            state (paperReading r) (now (line .entry)) (now (image .exit)) (now (map .exit))
+            ≡ closeOf flashSize
+            (state (paperReading self) (now (line .entry)) (now (image .entry)) (now (map .entry)))
+            ⌝ }
     {
         match self {
             Reading::Open(text) => text.last(line, image, map).shut(),
@@ -127,7 +145,10 @@ impl Reading {
 impl Text {
     // A stretch is gone through at once, since a byte at a time carries the whole state along.
     fn keep(self, bytes: &[u8], line: &mut [u8]) -> Stretch
-        ensures { λ r. ⌜ Keeps flashSize (going self) (now (line .entry)) (now (bytes .entry)) (paperReading (r .reading)) (now (line .exit)) (r .len) ⌝ }
+        ensures { λ r. ⌜
+            Keeps flashSize (going self) (now (line .entry)) (now (bytes .entry)) (paperReading (r .reading))
+            (now (line .exit)) (r .len)
+            ⌝ }
     {
         let mut len = self.len;
         let mut i = 0;
@@ -155,7 +176,10 @@ impl Text {
     }
 
     fn byte(self, b: u8, line: &mut [u8], image: &mut [u8], map: &mut [u8]) -> Reading
-        ensures { λ r. ⌜ fed (paperReading r) (now (line .exit)) (now (image .exit)) (now (map .exit)) ≡ textByte flashSize self b (now (line .entry)) (now (image .entry)) (now (map .entry)) ⌝ }
+        ensures { λ r. ⌜
+            state (paperReading r) (now (line .exit)) (now (image .exit)) (now (map .exit))
+            ≡ textByte flashSize self b (now (line .entry)) (now (image .entry)) (now (map .entry))
+            ⌝ }
     {
         let n = self.len;
         if b == 0x0A {
@@ -169,9 +193,12 @@ impl Text {
         })
     }
 
-    // What stands behind the last 0A; nothing is no line.
+    // What stands after the last 0A; nothing is no line.
     fn last(self, line: &[u8], image: &mut [u8], map: &mut [u8]) -> Reading
-        ensures { λ r. ⌜ fed (paperReading r) (now (line .entry)) (now (image .exit)) (now (map .exit)) ≡ lastOf flashSize self (now (line .entry)) (now (image .entry)) (now (map .entry)) ⌝ }
+        ensures { λ r. ⌜
+            state (paperReading r) (now (line .entry)) (now (image .exit)) (now (map .exit))
+            ≡ lastOf flashSize self (now (line .entry)) (now (image .entry)) (now (map .entry))
+            ⌝ }
     {
         let n = self.len;
         if n == 0 {
@@ -183,11 +210,15 @@ impl Text {
     // One line: the next record.
     fn take(self, line: &[u8], image: &mut [u8], map: &mut [u8]) -> Reading
         ensures { λ r. ⌜
-            (let o = settled (recordIn flashSize (self .hex) (now (line .entry)) (now (image .entry)) (now (map .entry))) (now (image .entry)) (now (map .entry)) in
-            (paperReading r ≡ tookBy self (o .answer)) × (now (image .exit) ≡ o .image) × (now (map .exit) ≡ o .map))
+            (let o = settled
+            (recordIn flashSize (self .hex) (now (line .entry)) (now (image .entry)) (now (map .entry)))
+            (now (image .entry)) (now (map .entry)) in
+            (paperReading r ≡ tookBy self (o .answer)) × (now (image .exit) ≡ o .image)
+            × (now (map .exit) ≡ o .map))
             ⌝ }
     {
         let hex = self.hex;
+        // no text has 2^64 lines
         let at = std::num::wrapping_add_u64(self.lines, 1);
         match hex.record(line, image, map) {
             Read::Taken(next) => Reading::Open(Text {
@@ -212,7 +243,10 @@ impl Text {
 
 // A whole text at once.
 pub fn read(text: &[u8], image: &mut [u8], map: &mut [u8]) -> Ended
-    ensures { λ r. ⌜ result (paperEnded r) (now (image .exit)) (now (map .exit)) ≡ readIn flashSize (now (text .entry)) (now (image .entry)) (now (map .entry)) ⌝ }
+    ensures { λ r. ⌜
+        result (paperEnded r) (now (image .exit)) (now (map .exit))
+        ≡ readIn flashSize (now (text .entry)) (now (image .entry)) (now (map .entry))
+        ⌝ }
 {
     let mut line = [0u8; LINE];
     let started = Reading::start(image, map);
@@ -222,7 +256,9 @@ pub fn read(text: &[u8], image: &mut [u8], map: &mut [u8]) -> Ended
 
 // One byte more behind the first `n`, where there is room; how many are kept then.
 fn keep_one(line: &mut [u8], n: usize, b: u8) -> usize
-    ensures { λ r. ⌜ (r ≡ keepOneOf n (now (line .entry))) × (now (line .exit) ≡ set (now (line .entry)) n b) ⌝ }
+    ensures { λ r. ⌜
+        (r ≡ keepOneOf n (now (line .entry))) × (now (line .exit) ≡ set (now (line .entry)) n b)
+        ⌝ }
 {
     if line.len() <= n {
         return n;

@@ -43,7 +43,7 @@ fn run(buffer: &mut [u8], line: &mut [u8], image: &mut [u8], map: &mut [u8])
     }
 }
 
-// To the input's end, or to the first refusal: what comes behind that counts for nothing.
+// To the input's end, or to the first refusal: what comes after that counts for nothing.
 fn read_all(
     start: Reading,
     buffer: &mut [u8],
@@ -52,6 +52,7 @@ fn read_all(
     map: &mut [u8],
 ) -> Chunk {
     let mut reading = start;
+    // every loop ends; no input has so many reads
     let mut turns = u64::MAX;
     while 0 < turns {
         match read_chunk(reading, buffer, line, image, map) {
@@ -113,9 +114,9 @@ fn print(image: &[u8], map: &[u8], buffer: &mut [u8]) -> bool
     }
     let mut listing = first;
     while listing.listed < listing.total {
-        let page = listing.sheet(image, map, buffer);
-        listing = page.listing;
-        if !put(buffer, page.len) {
+        let sheet = listing.sheet(image, map, buffer);
+        listing = sheet.listing;
+        if !put(buffer, sheet.len) {
             return false;
         }
     }
@@ -125,6 +126,7 @@ fn print(image: &[u8], map: &[u8], buffer: &mut [u8]) -> bool
 
 // Writes the first `n` bytes.
 fn put(buffer: &[u8], n: usize) -> bool {
+    // never: what is written lies in the buffer
     if buffer.len() < n {
         return false;
     }

@@ -1,10 +1,13 @@
 // Reads one log record on standard input and prints what it says, or why it is none.
 ghost use Prim.Native.Nat.{_≤_};
 ghost use lib.ListN.{length};
+ghost use Rattle.listing.specs.Lines.{logRoom};
 use libc::STDERR_FILENO;
 use libc::STDIN_FILENO;
 use libc::STDOUT_FILENO;
+use listing::log::ROOM;
 use listing::log::log_line;
+use service_log::read::RECORD;
 
 enum Input {
     Bytes(usize),
@@ -13,22 +16,24 @@ enum Input {
 
 fn main() {
     // one byte more than a record has, to tell a longer input
-    let mut input = [0u8; 11];
-    let mut line = [0u8; 160];
+    let mut input = [0u8; RECORD + 1];
+    let mut line = [0u8; ROOM];
     run(&mut input, &mut line);
 }
 
 fn run(input: &mut [u8], line: &mut [u8])
-    requires { ⌜ 160 ≤ length (now line) ⌝ }
+    requires { ⌜ logRoom ≤ length (now line) ⌝ }
 {
     let Input::Bytes(n) = fill(input) else {
         io::write_all(STDERR_FILENO, b"readlog: standard input cannot be read\n");
         return;
     };
+    // never: what is read lies in the buffer
     if input.len() < n {
         return;
     }
     let len = log_line(&input[..n], line);
+    // never: the line lies in its buffer
     if line.len() < len {
         return;
     }

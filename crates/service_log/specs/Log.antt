@@ -1,4 +1,5 @@
--- The log record: length 0x0008, version 01, outcome, packets acknowledged, packet total, named bytes (two bytes each), big-endian.
+-- The log record, big-endian: length 0x0008, version 01, outcome, packets acknowledged, packet total, named bytes
+-- (two bytes each).
 use Prim.Native.Nat.{ℕ, _+_, _*_, _/_, _%_}
 use mathlib.Core.Bool.{Bool, not}
 use mathlib.Core.List.{List, [], _∷_}
@@ -13,12 +14,17 @@ use Rattle.session.specs.declared.phase.Phase.{Phase}
 use Rattle.session.specs.declared.session.Session.{Session}
 use Rattle.service_log.specs.declared.read.Record.{Record}
 
+-- how many bytes a record has
+abbrev pub recordSize : ℕ
+recordSize = 10
+
 -- 0 valid, else 40 to 43
 abbrev pub known : ℕ → Bool
 known o = either (eqb o 0) (both (leb 40 o) (leb o 43))
 
--- a false record: outcome unknown, total under 4, bytes 0 or above 63,488, acknowledged above total,
--- outcome 0 unless acknowledged equals total and the reverse, outcome 42 with any acknowledged
+-- a false record, of outcome o, with k of t packets acknowledged and n bytes: outcome unknown, total under 4, bytes 0 or
+-- above 63,488, acknowledged above total, outcome 0 unless acknowledged equals total and the reverse (the `pick`),
+-- outcome 42 with any acknowledged
 unfoldable pub isFalseOf : ℕ → ℕ → ℕ → ℕ → Bool
 isFalseOf o k t n =
     either (not (known o))
@@ -30,13 +36,13 @@ isFalseOf o k t n =
     (either (eqb k t)
     (both (eqb o 42) (ltb 0 k))))))))
 
--- the outcome of a session that has ended; no record holds what stands for the others
+-- how a session ended: 0 valid, 40 to 43; 45, which no record holds, for one that is unfinished
 abbrev pub outcomeIn : Phase → ℕ
-outcomeIn Phase.Greeting = 0
-outcomeIn (Phase.Erase p) = 0
-outcomeIn (Phase.Write a) = 0
-outcomeIn (Phase.Verify a) = 0
-outcomeIn Phase.Run = 0
+outcomeIn Phase.Greeting = 45
+outcomeIn (Phase.Erase p) = 45
+outcomeIn (Phase.Write a) = 45
+outcomeIn (Phase.Verify a) = 45
+outcomeIn Phase.Run = 45
 outcomeIn (Phase.Ended o) = paperOutcome o
 
 abbrev pub twoBytes : ℕ → Bool
@@ -45,19 +51,20 @@ twoBytes x = ltb x 65536
 abbrev pub fitTwo : ℕ → ℕ → ℕ → Bool
 fitTwo k t n = both (twoBytes k) (both (twoBytes t) (twoBytes n))
 
--- the ten bytes
+-- the ten bytes of outcome o, with k of t packets acknowledged and n bytes
 abbrev pub recordBytes : ℕ → ℕ → ℕ → ℕ → List ℕ
 recordBytes o k t n =
     0x00 ∷ 0x08 ∷ 0x01 ∷ o ∷ k / 256 % 256 ∷ k % 256 ∷ t / 256 % 256 ∷ t % 256 ∷ n / 256 % 256 ∷ n % 256 ∷ []
 
--- writing a session into a buffer of so many bytes: 45 for one that is unfinished, or whose counts do not fit, or would read as 53; then 20
+-- writing a session into a buffer of so many bytes: 45 for one that is unfinished, or whose counts do not fit, or
+-- would read as 53; then 20
 unfoldable pub writeOf : ℕ → Session → Answer (List ℕ)
 writeOf room s =
     first
     (45 when not (ended (s .phase))
     ∷ 45 when not (fitTwo (s .acknowledged) (s .total) (s .named))
     ∷ 45 when isFalseOf (outcomeIn (s .phase)) (s .acknowledged) (s .total) (s .named)
-    ∷ 20 when ltb room 10 ∷ [])
+    ∷ 20 when ltb room recordSize ∷ [])
     (given (recordBytes (outcomeIn (s .phase)) (s .acknowledged) (s .total) (s .named)))
 
 -- two bytes of an input as one number
@@ -66,15 +73,23 @@ pairAt s i = getD s i 0 * 256 + getD s (i + 1) 0
 
 -- what an input says
 abbrev pub recordAt : List ℕ → Record
-recordAt s = record { version = getD s 2 0; outcome = getD s 3 0; acknowledged = pairAt s 4; total = pairAt s 6; bytes = pairAt s 8 }
+recordAt s =
+    record {
+      version = getD s 2 0;
+      outcome = getD s 3 0;
+      acknowledged = pairAt s 4;
+      total = pairAt s 6;
+      bytes = pairAt s 8;
+    }
 
--- reading: 50 under 10 bytes, 51 length field other than 8 or input longer than 10 bytes, 52 version, 53 a false record
+-- reading: 50 under 10 bytes, 51 length field other than 8 or input longer than 10 bytes, 52 version,
+-- 53 a false record
 unfoldable pub readOf : List ℕ → Answer Record
 readOf s =
     first
-    (50 when ltb (length s) 10
+    (50 when ltb (length s) recordSize
     ∷ 51 when not (eqb (pairAt s 0) 8)
-    ∷ 51 when ltb 10 (length s)
+    ∷ 51 when ltb recordSize (length s)
     ∷ 52 when not (eqb (getD s 2 0) 1)
     ∷ 53 when isFalseOf (getD s 3 0) (pairAt s 4) (pairAt s 6) (pairAt s 8) ∷ [])
     (given (recordAt s))

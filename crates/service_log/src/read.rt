@@ -2,8 +2,11 @@
 ghost use mathlib.Core.Path.{_≡_};
 ghost use Prim.Native.Nat.{_+_, _*_};
 ghost use Rattle.service_log.specs.Log.{readOf};
-ghost use Rattle.service_log.specs.Paper.{paperReading};
+ghost use Rattle.service_log.specs.Paper.{paperUnread, paperReading};
 use crate::truth::is_false;
+
+// How many bytes a record has.
+pub const RECORD: usize = 10;
 
 // What a session came to: `acknowledged` of `total` packets, over a file of so many bytes.
 pub struct Record {
@@ -16,34 +19,53 @@ pub struct Record {
 
 pub enum Reading {
     Record(Record),
+    Refused(Unread),
+}
+
+// Why an input is no record.
+pub enum Unread {
     Short,
     Length,
     Version,
     False,
 }
 
+impl Unread {
+    // The number in the paper's list.
+    pub fn number(self) -> u32
+        ensures { λ r. ⌜ r ≡ paperUnread self ⌝ }
+    {
+        match self {
+            Unread::Short => 50,
+            Unread::Length => 51,
+            Unread::Version => 52,
+            Unread::False => 53,
+        }
+    }
+}
+
 pub fn read(input: &[u8]) -> Reading
     ensures { λ r. ⌜ paperReading r ≡ readOf (now (input .entry)) ⌝ }
 {
-    if input.len() < 10 {
-        return Reading::Short;
+    if input.len() < RECORD {
+        return Reading::Refused(Unread::Short);
     }
     if joined(input[0], input[1]) != 8 {
-        return Reading::Length;
+        return Reading::Refused(Unread::Length);
     }
-    if 10 < input.len() {
-        return Reading::Length;
+    if RECORD < input.len() {
+        return Reading::Refused(Unread::Length);
     }
     let version = input[2];
     if version != 1 {
-        return Reading::Version;
+        return Reading::Refused(Unread::Version);
     }
     let outcome = input[3];
     let acknowledged = joined(input[4], input[5]);
     let total = joined(input[6], input[7]);
     let bytes = joined(input[8], input[9]);
     if is_false(outcome, acknowledged, total, bytes) {
-        return Reading::False;
+        return Reading::Refused(Unread::False);
     }
     Reading::Record(Record {
         version,

@@ -4,7 +4,8 @@ ghost use lib.ListN.{length};
 ghost use Rattle.basis.specs.Lists.{overlay};
 ghost use Rattle.basis.specs.Refusals.{counted, written};
 ghost use Rattle.service_log.specs.Log.{outcomeIn, fitTwo, writeOf};
-ghost use Rattle.service_log.specs.Paper.{paperWritten};
+ghost use Rattle.service_log.specs.Paper.{paperUnwritten, paperWritten};
+use crate::read::RECORD;
 use crate::truth::is_false;
 use basis::buffers::write as put;
 use session::phase::Phase;
@@ -12,10 +13,26 @@ use session::session::Session;
 
 pub enum Written {
     Record,
+    Refused(Unwritten),
+}
+
+// Why a session is not written.
+pub enum Unwritten {
     // The session is unfinished, or its counts make no record.
     Unfit,
-    // The buffer is under ten bytes.
+    // The buffer is shorter than a record.
     NoRoom,
+}
+
+impl Unwritten {
+    pub fn number(self) -> u32
+        ensures { λ r. ⌜ r ≡ paperUnwritten self ⌝ }
+    {
+        match self {
+            Unwritten::Unfit => 45,
+            Unwritten::NoRoom => 20,
+        }
+    }
 }
 
 pub fn write(session: Session, buffer: &mut [u8]) -> Written
@@ -26,20 +43,20 @@ pub fn write(session: Session, buffer: &mut [u8]) -> Written
 {
     let phase = session.phase;
     if !phase.ended() {
-        return Written::Unfit;
+        return Written::Refused(Unwritten::Unfit);
     }
     let outcome = outcome_in(phase);
     let acknowledged = session.acknowledged;
     let total = session.total;
     let bytes = session.named;
     if !fit_two(acknowledged, total, bytes) {
-        return Written::Unfit;
+        return Written::Refused(Unwritten::Unfit);
     }
     if is_false(outcome, acknowledged, total, bytes) {
-        return Written::Unfit;
+        return Written::Refused(Unwritten::Unfit);
     }
-    if buffer.len() < 10 {
-        return Written::NoRoom;
+    if buffer.len() < RECORD {
+        return Written::Refused(Unwritten::NoRoom);
     }
     let record = [
         0x00,
@@ -57,16 +74,16 @@ pub fn write(session: Session, buffer: &mut [u8]) -> Written
     Written::Record
 }
 
-// The outcome's number; 0 where there is none yet.
-fn outcome_in(phase: Phase) -> u8
+// The outcome's number; 45, which no record holds, where there is none yet.
+pub fn outcome_in(phase: Phase) -> u8
     ensures { λ r. ⌜ r ≡ outcomeIn phase ⌝ }
 {
     match phase {
-        Phase::Greeting => 0,
-        Phase::Erase(_) => 0,
-        Phase::Write(_) => 0,
-        Phase::Verify(_) => 0,
-        Phase::Run => 0,
+        Phase::Greeting => 45,
+        Phase::Erase(_) => 45,
+        Phase::Write(_) => 45,
+        Phase::Verify(_) => 45,
+        Phase::Run => 45,
         Phase::Ended(outcome) => outcome.number(),
     }
 }

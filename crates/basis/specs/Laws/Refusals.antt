@@ -7,7 +7,7 @@ use native.Mathlib.Omega.{arith}
 use lib.ListN.{length}
 use Rattle.basis.specs.Choice.{pick}
 use Rattle.basis.specs.Lists.{overlay}
-use Rattle.basis.specs.Refusals.{Answer, refused, given, Rule, _when_, first, andThen, counted, written, bare}
+use Rattle.basis.specs.Refusals.{Answer, refused, given, Rule, _when_, first, andThen, counted, written}
 
 -- what is refused is not given
 pub apart : {A : Type 0} {n : ℕ} {x : A} → refused n ≡ given x → ⊥
@@ -85,14 +85,6 @@ by-table {A} P l r p q = subst P (sym (first-then l r)) (go (first l (given tt))
     go : (a : Answer (Unit {0})) → P (andThen a r)
     go (refused n) = p n
     go (given u) = q
-
--- without its value what it gives is what it says
-pub bare-first : {A : Type 0} (l : List Rule) (x : A) → bare (first l (given x)) ≡ first l (given tt)
-bare-first l x = ap bare (first-then l (given x)) ∙ go (first l (given tt))
-  where
-    go : (a : Answer (Unit {0})) → bare (andThen a (given x)) ≡ a
-    go (refused n) = refl
-    go (given u) = refl
 
 -- an enum is known by what the paper has for it, where that has a way back
 pub back-one : {A B : Type 0} (paper : A → B) (by : B → A)

@@ -1,31 +1,19 @@
 -- Two outcomes that a contract permits are equal: the paper's numbers and values tell all cases apart.
 use Prim.Native.Nat.{ℕ}
-use mathlib.Core.List.{List, []}
+use mathlib.Core.List.{List}
 use mathlib.Core.Path.{_≡_, refl, sym, ap, _∙_}
 use native.Mathlib.Omega.{arith}
 use Rattle.basis.specs.Laws.Refusals.{apart, given-one, refused-one, determined}
-use Rattle.basis.specs.Refusals.{Answer, refused}
-use Rattle.image.specs.Laws.Determined.{close-determined}
-use Rattle.image.specs.Paper.{paperRefusal}
-use Rattle.image.specs.declared.hex.Read.{Read}
-use Rattle.image.specs.declared.record.Refusal.{Refusal}
-use Rattle.session.specs.Laws.Determined.{step-determined}
-use Rattle.session.specs.Paper.{paperRefusal as sessionRefusal}
-use Rattle.session.specs.declared.session.Refusal.{Refusal as SessionRefusal}
-use Rattle.session.specs.declared.session.Stepped.{Stepped}
-use Rattle.listing.specs.Feed.{paperReading, paperEnded, Fed, fed}
+use Rattle.basis.specs.Refusals.{Answer}
+use Rattle.image.specs.Laws.Determined.{refusal-one}
+use Rattle.session.specs.Laws.Determined.{refusal-one as session-one}
+use Rattle.listing.specs.Feed.{paperReading, paperEnded, Fed, state}
 use Rattle.listing.specs.Plan.{paperBegun}
 use Rattle.listing.specs.Text.{Result, result}
 use Rattle.listing.specs.declared.plan.Begun.{Begun}
 use Rattle.listing.specs.declared.plan.Listing.{Listing}
 use Rattle.listing.specs.declared.text.Ended.{Ended}
 use Rattle.listing.specs.declared.text.Reading.{Reading}
-
-refusal-one : (x y : Refusal) → paperRefusal x ≡ paperRefusal y → x ≡ y
-refusal-one x y e = one (close-determined (Read.Refused x) (Read.Refused y) (ap refused e) refl)
-  where
-    one : Read.Refused x ≡ Read.Refused y → x ≡ y
-    one e = cc
 
 -- a text as it comes
 reading-one : (r s : Reading) → paperReading r ≡ paperReading s → r ≡ s
@@ -37,7 +25,8 @@ reading-one (Reading.Refused n x) (Reading.Refused k y) e =
     let g : x ≡ y = refusal-one x y (cc) in
     λ i. Reading.Refused (f i) (g i)
 
-pub feed-determined : {f : Fed} (r s : Reading) (a b i j m n : List ℕ) → fed (paperReading r) a i m ≡ f → fed (paperReading s) b j n ≡ f → (r ≡ s) × (a ≡ b) × (i ≡ j) × (m ≡ n)
+pub feed-determined : {f : Fed} (r s : Reading) (a b i j m n : List ℕ) → state (paperReading r) a i m ≡ f
+    → state (paperReading s) b j n ≡ f → (r ≡ s) × (a ≡ b) × (i ≡ j) × (m ≡ n)
 feed-determined r s a b i j m n p q =
     let e = p ∙ sym q in
     (reading-one r s (ap (λ (x : Fed). x .progress) e), ap (λ (x : Fed). x .line) e, ap (λ (x : Fed). x .image) e, ap (λ (x : Fed). x .map) e)
@@ -52,19 +41,13 @@ ended-one (Ended.Refused n x) (Ended.Refused k y) e =
     let g : x ≡ y = refusal-one x y (cc) in
     λ i. Ended.Refused (f i) (g i)
 
-pub read-determined : {x : Result} (r s : Ended) (i j m n : List ℕ) → result (paperEnded r) i m ≡ x → result (paperEnded s) j n ≡ x → (r ≡ s) × (i ≡ j) × (m ≡ n)
+pub read-determined : {x : Result} (r s : Ended) (i j m n : List ℕ) → result (paperEnded r) i m ≡ x
+    → result (paperEnded s) j n ≡ x → (r ≡ s) × (i ≡ j) × (m ≡ n)
 read-determined r s i j m n p q =
     let e = p ∙ sym q in
     (ended-one r s (ap (λ (y : Result). y .verdict) e), ap (λ (y : Result). y .image) e, ap (λ (y : Result). y .map) e)
 
 -- a listing's start
-session-one : (x y : SessionRefusal) → sessionRefusal x ≡ sessionRefusal y → x ≡ y
-session-one x y e =
-    one (step-determined (refused (sessionRefusal y)) (Stepped.Refused x) (Stepped.Refused y) [] [] [] (ap refused e, refl) (refl, refl) .0)
-  where
-    one : Stepped.Refused x ≡ Stepped.Refused y → x ≡ y
-    one e = cc
-
 begun-one : (r s : Begun) → paperBegun r ≡ paperBegun s → r ≡ s
 begun-one (Begun.Listing l) (Begun.Listing k) e = ap Begun.Listing (given-one e)
 begun-one (Begun.Listing l) (Begun.Refused y) e = absurd (apart (sym e))

@@ -8,7 +8,7 @@ use lib.ListN.{length, getD, set, take, drop, take-append-drop, length-drop, dro
 use lib.Seq.{drop-cons, drop-drop, take-suc, take-all}
 use borrow.Author.Tests.{eq-eqb, ne-eqb, lt-ltb, le-ltb}
 use Rattle.listing.specs.Text.{trimmedOf}
-use Rattle.listing.specs.Feed.{Fed, fed, going, withKept, keepOneOf, tookLine, textByte, byteOf, feedOf}
+use Rattle.listing.specs.Feed.{Fed, state, going, withKept, keepOneOf, tookLine, textByte, byteOf, feedOf}
 use Rattle.listing.specs.declared.text.Text.{Text}
 
 -- what is lent of a text from a place on
@@ -22,8 +22,10 @@ module _ (size : ℕ) where
   feed-append s [] b = refl
   feed-append s (x ∷ a) b = feed-append (byteOf size s x) a b
 
-  -- a stretch of a text and the byte behind it
-  pub feed-next : (s q r : Fed) (t u : List ℕ) (i n : ℕ) → i < length t → u ≡ drop i t → n ≤ length u - 1 → q ≡ feedOf size s (take n u) → r ≡ byteOf size q (getD t (i + n) 0) → feedOf size r (drop (i + n + 1) t) ≡ feedOf size s (drop i t)
+  -- a stretch of a text and the byte after it
+  pub feed-next : (s q r : Fed) (t u : List ℕ) (i n : ℕ) → i < length t → u ≡ drop i t → n ≤ length u - 1
+      → q ≡ feedOf size s (take n u) → r ≡ byteOf size q (getD t (i + n) 0)
+      → feedOf size r (drop (i + n + 1) t) ≡ feedOf size s (drop i t)
   unfolding feedOf
   feed-next s q r t u i n h d k e f =
       ap (λ (x : Fed). feedOf size x (drop (i + n + 1) t)) f
@@ -40,7 +42,8 @@ module _ (size : ℕ) where
       one = rw (add-one, drop-cons t (i + n) 0 inside)
 
   -- one byte of a stretch more
-  pub feed-more : (s q r : Fed) (t : List ℕ) (i : ℕ) → i < length t → q ≡ feedOf size s (take i t) → r ≡ byteOf size q (getD t i 0) → r ≡ feedOf size s (take (i + 1) t)
+  pub feed-more : (s q r : Fed) (t : List ℕ) (i : ℕ) → i < length t → q ≡ feedOf size s (take i t)
+      → r ≡ byteOf size q (getD t i 0) → r ≡ feedOf size s (take (i + 1) t)
   unfolding feedOf
   feed-more s q r t i h e f =
       f ∙ ap (λ (x : Fed). byteOf size x (getD t i 0)) e
@@ -57,11 +60,13 @@ module _ (size : ℕ) where
 
   -- one byte ends the line or is kept
   module _ (t : Text) (b : ℕ) (line image map : List ℕ) where
-    pub byte-ends : b ≡ 0x0A → textByte size t b line image map ≡ tookLine size t (trimmedOf (take (t .len) line)) line image map
+    pub byte-ends : b ≡ 0x0A
+        → textByte size t b line image map ≡ tookLine size t (trimmedOf (take (t .len) line)) line image map
     unfolding textByte
     byte-ends e = rw (eq-eqb b 0x0A e)
 
-    pub byte-kept : (b ≡ 0x0A → ⊥) → textByte size t b line image map ≡ fed (going (withKept t (keepOneOf (t .len) line))) (set line (t .len) b) image map
+    pub byte-kept : (b ≡ 0x0A → ⊥)
+        → textByte size t b line image map ≡ state (going (withKept t (keepOneOf (t .len) line))) (set line (t .len) b) image map
     unfolding textByte
     byte-kept n = rw (ne-eqb b 0x0A n)
 

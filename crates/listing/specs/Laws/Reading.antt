@@ -10,36 +10,37 @@ use borrow.Author.Tests.{eq-eqb, ne-eqb, lt-ltb, le-ltb, eqb-true, eqb-false, lt
 use lib.Dec.{eqb, ltb}
 use lib.ListN.{length, getD, set, take, length-append, length-take, length-set}
 use lib.Seq.{length-take-le, take-all, take-nil, take-append-le, take-suc-set, set-out, getD-take}
-use Rattle.basis.specs.Choice.{pick}
 use Rattle.basis.specs.Laws.Choice.{decide}
-use Rattle.basis.specs.Refusals.{Answer, refused, given, first}
+use Rattle.basis.specs.Refusals.{Answer, refused, given, _when_, first}
 use Rattle.image.specs.Hex.{File, file, settled, sizeWrong, startIn, recordIn}
 use Rattle.image.specs.Hex.{closeOf as closing}
 use Rattle.image.specs.declared.hex.Hex.{Hex}
-use Rattle.listing.specs.Text.{Result, result, trimmedOf, linesFrom, onward, readFrom, readIn}
-use Rattle.listing.specs.Text.{shutBy as verdictBy}
-use Rattle.listing.specs.Feed.{Fed, fed, started, stopped, going, nextLine, took, withKept, keepOneOf, byteOf, feedOf, lastOf, shutBy, shutOf, shutFed, closeOf, endedOf, fedResult}
+use Rattle.listing.specs.Text.{Result, result, lineRoom, trimmedOf, linesFrom, unlessRefused, verdictBy, readFrom, readIn}
+use Rattle.listing.specs.Feed.{Fed, state, opened, stopped, going, nextLine, took, withKept, keepOneOf, byteOf, feedOf, lastOf, shutBy, shutOf, shutFed, endedOf, fedResult, cameTo}
 use Rattle.listing.specs.Laws.Feed.{byte-ends, byte-kept, keep-more, keep-none}
 use Rattle.listing.specs.declared.text.Text.{Text}
 
 -- ---- of a line that is too long, only its first character counts
 
 module _ (size : ℕ) (h : Hex) (image map : List ℕ) where
-  long-record : (l : List ℕ) → 521 < length l → recordIn size h l image map ≡ pick (sizeWrong size image map) (refused 20) (pick (h .ended) (refused 21) (pick (not (eqb (getD l 0 0) 0x3A)) (refused 22) (refused 23)))
+  -- by its first character c
+  abbrev early : ℕ → Answer File
+  early c = first (20 when sizeWrong size image map ∷ 21 when h .ended ∷ 22 when not (eqb c 0x3A) ∷ []) (refused 23)
+
+  long-record : (l : List ℕ) → 521 < length l → recordIn size h l image map ≡ early (getD l 0 0)
   unfolding first recordIn
   long-record l g =
       let some : length l ≡ 0 → ⊥ = λ e. omega arith in
       let least : 11 ≤ length l = omega arith in
       rw (ne-eqb _ _ some, le-ltb _ _ least, lt-ltb _ _ g)
 
-  overlong : (a b : List ℕ) → 521 < length a → 521 < length b → getD a 0 0 ≡ getD b 0 0 → recordIn size h a image map ≡ recordIn size h b image map
-  overlong a b p q e =
-      long-record a p
-      ∙ ap (λ (c : ℕ). pick (sizeWrong size image map) (refused 20) (pick (h .ended) (refused 21) (pick (not (eqb c 0x3A)) (refused 22) (refused 23)))) e
-      ∙ sym (long-record b q)
+  overlong : (a b : List ℕ) → 521 < length a → 521 < length b → getD a 0 0 ≡ getD b 0 0
+      → recordIn size h a image map ≡ recordIn size h b image map
+  overlong a b p q e = long-record a p ∙ ap early e ∙ sym (long-record b q)
 
-  -- 523 characters of a line are enough
-  record-kept : (n : ℕ) (l : List ℕ) → 523 ≤ n → recordIn size h (take n l) image map ≡ recordIn size h l image map
+  -- so many characters of a line are enough
+  record-kept : (n : ℕ) (l : List ℕ) → lineRoom ≤ n
+      → recordIn size h (take n l) image map ≡ recordIn size h l image map
   record-kept n l g =
       decide (ltb n (length l))
       (λ t. let k = ltb-true n (length l) t in
@@ -61,7 +62,8 @@ trimmed-first l h =
     (λ t. rw t)
 
 module _ (size : ℕ) (h : Hex) (image map : List ℕ) where
-  record-trimmed : (n : ℕ) (l : List ℕ) → 523 ≤ n → recordIn size h (trimmedOf (take n l)) image map ≡ recordIn size h (trimmedOf l) image map
+  record-trimmed : (n : ℕ) (l : List ℕ) → lineRoom ≤ n
+      → recordIn size h (trimmedOf (take n l)) image map ≡ recordIn size h (trimmedOf l) image map
   record-trimmed n l g =
       decide (ltb n (length l))
       (λ t. let k = ltb-true n (length l) t in
@@ -112,25 +114,26 @@ verdict-shut t (given h) = refl
 
 module _ (size : ℕ) where
   -- a refusal stays
-  pub feed-stopped : (n k : ℕ) (line image map text : List ℕ) → feedOf size (fed (stopped n k) line image map) text ≡ fed (stopped n k) line image map
+  pub feed-stopped : (n k : ℕ) (line image map text : List ℕ)
+      → feedOf size (state (stopped n k) line image map) text ≡ state (stopped n k) line image map
   unfolding feedOf
   feed-stopped n k line image map [] = refl
   feed-stopped n k line image map (b ∷ text) = feed-stopped n k line image map text
 
-  -- what a text comes to from a state on
-  abbrev pub end : Fed → List ℕ → Result
-  end s text = fedResult (closeOf size (feedOf size s text))
-
   abbrev fresh : Text → Hex → Text
   fresh t h = record { hex = h; lines = nextLine t; len = 0 }
 
-  went : (t : Text) (line image map text : List ℕ) (a : Answer File) (g : File → Result) → nextLine t ≡ t .lines + 1 → ((f : File) → end (fed (going (fresh t (f .reader))) line (f .image) (f .map)) text ≡ g f) → end (took t (settled a image map) line) text ≡ onward (t .lines + 1) image map a g
+  went : (t : Text) (line image map text : List ℕ) (a : Answer File) (g : File → Result)
+      → nextLine t ≡ t .lines + 1
+      → ((f : File) → cameTo size (state (going (fresh t (f .reader))) line (f .image) (f .map)) text ≡ g f)
+      → cameTo size (took t (settled a image map) line) text ≡ unlessRefused (t .lines + 1) image map a g
   went t line image map text (refused k) g e ih = rw (feed-stopped (nextLine t) k line image map text, e)
   went t line image map text (given f) g e ih = ih f
 
-  module _ (line : List ℕ) (room : 523 ≤ length line) where
+  module _ (line : List ℕ) (room : lineRoom ≤ length line) where
     -- the end: the open line is the last one, and nothing is none
-    ends : (l : List ℕ) (t : Text) (image map : List ℕ) → Held l t line → nextLine t ≡ t .lines + 1 → end (fed (going t) line image map) [] ≡ readFrom size (t .lines) (linesFrom l []) (file (t .hex) image map)
+    ends : (l : List ℕ) (t : Text) (image map : List ℕ) → Held l t line → nextLine t ≡ t .lines + 1
+        → cameTo size (state (going t) line image map) [] ≡ readFrom size (t .lines) (linesFrom l []) (file (t .hex) image map)
     unfolding Held feedOf linesFrom readFrom lastOf shutOf
     ends l t image map h e =
         decide (eqb (length l) 0)
@@ -140,7 +143,8 @@ module _ (size : ℕ) where
         rw (z, ne-eqb (t .len) 0 n, h .1, record-kept size (t .hex) image map (length line) l room)
         (last (recordIn size (t .hex) l image map)))
       where
-        last : (a : Answer File) → fedResult (shutFed (took t (settled a image map) line)) ≡ onward (t .lines + 1) image map a (readFrom size (t .lines + 1) [])
+        last : (a : Answer File)
+            → fedResult (shutFed (took t (settled a image map) line)) ≡ unlessRefused (t .lines + 1) image map a (readFrom size (t .lines + 1) [])
         last (refused k) = rw e
         last (given f) = ap (λ v. result v (f .image) (f .map)) (verdict-shut (fresh t (f .reader)) (closing (f .reader)))
 
@@ -157,36 +161,41 @@ module _ (size : ℕ) where
     unfolding linesFrom
     lines-on z = rw z
 
-  fed-on : (s : Fed) (b : ℕ) (text : List ℕ) → end s (b ∷ text) ≡ end (byteOf size s b) text
+  fed-on : (s : Fed) (b : ℕ) (text : List ℕ) → cameTo size s (b ∷ text) ≡ cameTo size (byteOf size s b) text
   unfolding feedOf
   fed-on s b text = refl
 
-  read-on : (n : ℕ) (l : List ℕ) (ls : List (List ℕ)) (f : File) → readFrom size n (l ∷ ls) f ≡ onward (n + 1) (f .image) (f .map) (recordIn size (f .reader) l (f .image) (f .map)) (readFrom size (n + 1) ls)
+  read-on : (n : ℕ) (l : List ℕ) (ls : List (List ℕ)) (f : File)
+      → readFrom size n (l ∷ ls) f ≡ unlessRefused (n + 1) (f .image) (f .map) (recordIn size (f .reader) l (f .image) (f .map)) (readFrom size (n + 1) ls)
   unfolding readFrom
   read-on n l ls f = refl
 
   -- from any state on: the open line and what comes, as lines
-  reads : (text l line image map : List ℕ) (t : Text) → 523 ≤ length line → Held l t line → t .lines + length text + 1 < 2 ^ 64 → end (fed (going t) line image map) text ≡ readFrom size (t .lines) (linesFrom l text) (file (t .hex) image map)
+  reads : (text l line image map : List ℕ) (t : Text) → lineRoom ≤ length line → Held l t line
+      → t .lines + length text + 1 < 2 ^ 64
+      → cameTo size (state (going t) line image map) text ≡ readFrom size (t .lines) (linesFrom l text) (file (t .hex) image map)
   reads [] l line image map t room h few = ends line room l t image map h (numbered (t .lines) 0 (omega arith))
   reads (b ∷ text) l line image map t room h few =
       let next : nextLine t ≡ t .lines + 1 = numbered (t .lines) (length text) (omega arith) in
       let f : File = file (t .hex) image map in
-      fed-on (fed (going t) line image map) b text
+      fed-on (state (going t) line image map) b text
       ∙ decide (eqb b 0x0A)
-      (λ z. ap (λ (s : Fed). end s text) (byte-ends size t b line image map (eqb-true b 0x0A z) ∙ ap (λ (a : Answer File). took t (settled a image map) line) (ap (λ (k : List ℕ). recordIn size (t .hex) (trimmedOf k) image map) (held-is l t line h) ∙ record-trimmed size (t .hex) image map (length line) l room))
+      (λ z. ap (λ (s : Fed). cameTo size s text) (byte-ends size t b line image map (eqb-true b 0x0A z) ∙ ap (λ (a : Answer File). took t (settled a image map) line) (ap (λ (k : List ℕ). recordIn size (t .hex) (trimmedOf k) image map) (held-is l t line h) ∙ record-trimmed size (t .hex) image map (length line) l room))
       ∙ went t line image map text (recordIn size (t .hex) (trimmedOf l) image map) (readFrom size (t .lines + 1) (linesFrom [] text)) next
       (λ g. reads text [] line (g .image) (g .map) (fresh t (g .reader)) room (held-none (fresh t (g .reader)) line refl) (omega (arith, next))
       ∙ ap (λ (n : ℕ). readFrom size n (linesFrom [] text) g) next)
       ∙ sym (ap (λ (ls : List (List ℕ)). readFrom size (t .lines) ls f) (lines-end l text b z) ∙ read-on (t .lines) (trimmedOf l) (linesFrom [] text) f))
-      (λ z. ap (λ (s : Fed). end s text) (byte-kept size t b line image map (eqb-false b 0x0A z))
+      (λ z. ap (λ (s : Fed). cameTo size s text) (byte-kept size t b line image map (eqb-false b 0x0A z))
       ∙ reads text (l ++ (b ∷ [])) (set line (t .len) b) image map (withKept t (keepOneOf (t .len) line)) (simp length-set room) (held-byte l t line h b) (omega arith)
       ∙ sym (ap (λ (ls : List (List ℕ)). readFrom size (t .lines) ls f) (lines-on l text b z)))
 
   -- from the start on, however the text was cut: what the paper says of its lines
-  pub text-reads : (text line image map : List ℕ) → 523 ≤ length line → length text + 1 < 2 ^ 64 → end (started (settled (startIn size image map) image map) line) text ≡ readIn size text image map
+  pub text-reads : (text line image map : List ℕ) → lineRoom ≤ length line → length text + 1 < 2 ^ 64
+      → cameTo size (opened (settled (startIn size image map) image map) line) text ≡ readIn size text image map
   unfolding readIn
   text-reads text line image map room few = go (startIn size image map)
     where
-      go : (a : Answer File) → end (started (settled a image map) line) text ≡ onward 0 image map a (readFrom size 0 (linesFrom [] text))
+      go : (a : Answer File)
+          → cameTo size (opened (settled a image map) line) text ≡ unlessRefused 0 image map a (readFrom size 0 (linesFrom [] text))
       go (refused k) = rw (feed-stopped 0 k line image map text)
       go (given f) = reads text [] line (f .image) (f .map) (record { hex = f .reader; lines = 0; len = 0 }) room (held-none (record { hex = f .reader; lines = 0; len = 0 }) line refl) (omega arith)

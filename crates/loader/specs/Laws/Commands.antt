@@ -1,16 +1,15 @@
 -- Laws of the commands.
 use Prim.Native.Nat.{ℕ, _+_, _*_, _≤_, _<_}
-use mathlib.Core.Bool.{Bool, true, false, not}
+use mathlib.Core.Bool.{true, false, not}
 use mathlib.Core.List.{List, [], _∷_}
-use mathlib.Core.Path.{_≡_, refl, ap, _∙_}
+use mathlib.Core.Path.{_≡_, refl, sym, ap, subst, _∙_}
 use borrow.Author.Tests.{lt-ltb, le-ltb, le-leb, lt-leb, eq-eqb, ne-eqb, ltb-false, leb-false, eqb-false, not-false}
 use lib.Dec.{leb, eqb}
 use lib.ListN.{length, getD}
 use Rattle.basis.specs.Board.{pageSize}
-use Rattle.basis.specs.Choice.{pick}
 use Rattle.basis.specs.Laws.Choice.{either-first, either-second, either-false, either-none}
-use Rattle.basis.specs.Laws.Refusals.{skip, stop, done, passed}
-use Rattle.basis.specs.Refusals.{Answer, refused, given, Rule, _when_, first}
+use Rattle.basis.specs.Laws.Refusals.{skip, stop, done, passed, first-then, by-table}
+use Rattle.basis.specs.Refusals.{Answer, refused, given, Rule, _when_, first, andThen}
 use Rattle.basis.specs.Units.{pageOf, startOf}
 use Rattle.image.specs.Flash.{eraseOf}
 use Rattle.loader.specs.Commands.{Effect, effectAfter, Changes, Does, protectedPages, protectedBytes, massErase, eraseRows, erasing, writeRows, writing, verifyRows, protecting, running, keeping, obeyOf, loaderAfter}
@@ -39,14 +38,7 @@ does l f e v p q = rw e (record { verdict-is = v; loader-is = p; flash-is = q })
 -- what holds of loader and flash as they were, and as the command leaves them, holds whatever its table says
 pub either-way : (P : Effect → Type 0) (l : Loader) (f : List ℕ) (e : Effect) (t : List Rule)
     → P (record { loader = l; flash = f }) → P e → P (effectAfter l f (first t (given e)))
-unfolding first
-either-way P l f e [] p q = q
-either-way P l f e (r ∷ t) p q = go (r .holds) (either-way P l f e t p q)
-  where
-    go : (b : Bool) → P (effectAfter l f (first t (given e)))
-        → P (effectAfter l f (pick b (refused (r .number)) (first t (given e))))
-    go true h = p
-    go false h = h
+either-way P l f e t p q = by-table (λ (x : Answer Effect). P (effectAfter l f x)) t (given e) (λ n. p) q
 
 -- ---- E: 7, 8, or let through
 
@@ -158,15 +150,12 @@ module _ (l : Loader) (f : List ℕ) where
   -- what changes nothing: the table decides
   pub judged-does : (t : List Rule) {v : Answer (Unit {0})} → v ≡ first t (given tt)
       → Does (keeping f (first t (given l))) l f v l f
-  unfolding first
-  judged-does [] e = record { verdict-is = e; loader-is = refl; flash-is = refl }
-  judged-does (r ∷ t) {v} e = go (r .holds) e (judged-does t)
+  judged-does t {v} e =
+      subst (λ (x : Answer Loader). Does (keeping f x) l f v l f) (sym (first-then t (given l))) (go (first t (given tt)) e)
     where
-      go : (b : Bool) → v ≡ pick b (refused (r .number)) (first t (given tt))
-          → (v ≡ first t (given tt) → Does (keeping f (first t (given l))) l f v l f)
-          → Does (keeping f (pick b (refused (r .number)) (first t (given l)))) l f v l f
-      go true e h = record { verdict-is = e; loader-is = refl; flash-is = refl }
-      go false e h = h e
+      go : (a : Answer (Unit {0})) → v ≡ a → Does (keeping f (andThen a (given l))) l f v l f
+      go (refused n) e = record { verdict-is = e; loader-is = refl; flash-is = refl }
+      go (given u) e = record { verdict-is = e; loader-is = refl; flash-is = refl }
 
 -- ---- each command by its byte
 

@@ -1,7 +1,7 @@
 -- Laws of protection: which groups a set has, and when the protection in force changes.
 use Prim.Native.Nat.{ℕ, _+_, _-_, _*_, _≤_, _<_}
 use mathlib.Core.Bool.{Bool, true, false, not}
-use mathlib.Core.List.{List, [], _∷_}
+use mathlib.Core.List.{List, []}
 use mathlib.Core.Path.{_≡_, refl, sym, subst, _∙_}
 use native.Mathlib.Omega.{arith}
 use borrow.Author.Tests.{leb-true, leb-false, eqb-true}
@@ -12,8 +12,8 @@ use Rattle.basis.specs.Board.{groupSize}
 use Rattle.basis.specs.Choice.{pick, either}
 use Rattle.basis.specs.Laws.Bits.{bit-or}
 use Rattle.basis.specs.Laws.Choice.{decide, true-false, either-first, any-none}
-use Rattle.basis.specs.Laws.Refusals.{skip, stop, done}
-use Rattle.basis.specs.Refusals.{refused, given, Rule, first}
+use Rattle.basis.specs.Laws.Refusals.{skip, stop, done, by-table}
+use Rattle.basis.specs.Refusals.{Answer, given, Rule, first}
 use Rattle.basis.specs.Units.{groupOf, pageGroupOf, pageOf, startOf}
 use Rattle.loader.specs.Commands.{Effect, protectedPages, protectedBytes, massErase, eraseRows, erasing, writeRows, writing, verifyRows, opening, addedOf, adding, closing, protecting, running, obeyOf, loaderAfter, effectAfter}
 use Rattle.loader.specs.Laws.Commands.{either-way, erasing-open, erasing-pages, keeping-is}
@@ -61,14 +61,7 @@ join-groups p q g = bit-or (p .groups) (q .groups) g
 -- what a table guards and what it leaves agree on something, so the outcome does
 held : {X : Type 0} (see : Loader → X) (l m : Loader) (t : List Rule) → see m ≡ see l
     → see (loaderAfter l (first t (given m))) ≡ see l
-unfolding first
-held see l m [] e = e
-held see l m (r ∷ t) e = go (r .holds) (held see l m t e)
-  where
-    go : (b : Bool) → see (loaderAfter l (first t (given m))) ≡ see l
-        → see (loaderAfter l (pick b (refused (r .number)) (first t (given m)))) ≡ see l
-    go true h = refl
-    go false h = h
+held see l m t e = by-table (λ (x : Answer Loader). see (loaderAfter l x) ≡ see l) t (given m) (λ n. refl) e
 
 abbrev force : Loader → Protection
 force l = l .protection

@@ -1,10 +1,10 @@
--- `print` meets its contract: each page lists some packets, so fewer are left.
+-- `print` meets its contract: each sheet lists some packets, so fewer are left.
 use Prim.Native.Nat.{_-_}
 use mathlib.Core.Path.{refl, sym, ap, _∙_, _≡_}
 use native.Mathlib.Omega.{arith}
 use borrow.Author.Needs.{needs}
 use lib.ListN.{length}
-use Rattle.listing.specs.Laws.Plan.{begun-listed, sheet-listed, page-falls}
+use Rattle.listing.specs.Laws.Plan.{begun-listed, sheet-listed, sheet-falls}
 use Rattle.listing.specs.Plan.{paperBegun, Listed}
 use Rattle.plan.proofs.print.Statement.{statement}
 use Rattle.plan.proofs.print.Tie as tie
@@ -55,7 +55,7 @@ returns-3 : tie.Need-returns-3 Inv-loop μ-loop
 returns-3 c = search needs
 
 loop-less : tie.Need-loop-less Inv-loop μ-loop
-loop-less c = page-falls _ _ _ (c .before .before .before .before .before .before .before .before .before .before .loop .inv .1) _ _ (c .before .before .before .before .before .before .sheet .ensures .0) (omega (arith, c .before .before .before .before .before .before .before .before .before .before .loop .inv .0, c .before .before .before .before .before .before .before .before .before .before .before .before .before .before .before .before .head-line .kept .0, c .before .before .before .before .before .before .before .before .before .before .before .before .before .before .before .before .before .before .before .before .before .before .before .before .before .pre)) (c .before .before .before .before .before .before .before .before .if2 .taken)
+loop-less c = sheet-falls _ _ _ (c .before .before .before .before .before .before .before .before .before .before .loop .inv .1) _ _ (c .before .before .before .before .before .before .sheet .ensures .0) (omega (arith, c .before .before .before .before .before .before .before .before .before .before .loop .inv .0, c .before .before .before .before .before .before .before .before .before .before .before .before .before .before .before .before .head-line .kept .0, c .before .before .before .before .before .before .before .before .before .before .before .before .before .before .before .before .before .before .before .before .before .before .before .before .before .pre)) (c .before .before .before .before .before .before .before .before .if2 .taken)
 
 loop-again : tie.Need-loop-again Inv-loop μ-loop
 loop-again c = (omega (arith, c .before .before .before .before .before .before .before .before .before .before .loop .inv .0, c .before .before .before .before .before .before .sheet .kept .1 .1 .1 .0), sheet-listed _ _ _ (c .before .before .before .before .before .before .before .before .before .before .loop .inv .1) _ _ (c .before .before .before .before .before .before .sheet .ensures .0))

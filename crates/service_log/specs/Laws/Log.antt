@@ -9,7 +9,7 @@ use Rattle.basis.specs.Laws.Refusals.{skip, stop, done}
 use Rattle.basis.specs.Refusals.{refused, given}
 use Rattle.session.specs.Phases.{ended}
 use Rattle.session.specs.declared.session.Session.{Session}
-use Rattle.service_log.specs.Log.{isFalseOf, outcomeIn, fitTwo, recordBytes, writeOf, pairAt, readOf}
+use Rattle.service_log.specs.Log.{recordSize, isFalseOf, outcomeIn, fitTwo, recordBytes, writeOf, pairAt, readOf}
 
 -- ---- writing
 
@@ -24,16 +24,18 @@ module _ (room : ℕ) (s : Session) where
     write-wide e = skip 45 _ _ _ (ap not e₁) ∙ stop 45 _ _ _ (ap not e)
 
     module _ (e₂ : fitTwo (s .acknowledged) (s .total) (s .named) ≡ true) (o : ℕ) (is : o ≡ outcomeIn (s .phase)) where
-      pub write-false : isFalseOf o (s .acknowledged) (s .total) (s .named) ≡ true → writeOf room s ≡ refused 45
+      pub write-false : isFalseOf o (s .acknowledged) (s .total) (s .named) ≡ true
+          → writeOf room s ≡ refused 45
       unfolding writeOf
       write-false e = skip 45 _ _ _ (ap not e₁) ∙ skip 45 _ _ _ (ap not e₂) ∙ stop 45 _ _ _ (rw is at e)
 
       module _ (e₃ : isFalseOf o (s .acknowledged) (s .total) (s .named) ≡ false) where
-        pub write-small : room < 10 → writeOf room s ≡ refused 20
+        pub write-small : room < recordSize → writeOf room s ≡ refused 20
         unfolding writeOf
         write-small l = skip 45 _ _ _ (ap not e₁) ∙ skip 45 _ _ _ (ap not e₂) ∙ skip 45 _ _ _ (rw is at e₃) ∙ stop 20 _ _ _ (lt-ltb _ _ l)
 
-        pub write-given : 10 ≤ room → writeOf room s ≡ given (recordBytes o (s .acknowledged) (s .total) (s .named))
+        pub write-given : recordSize ≤ room
+            → writeOf room s ≡ given (recordBytes o (s .acknowledged) (s .total) (s .named))
         unfolding writeOf
         write-given l =
             skip 45 _ _ _ (ap not e₁) ∙ skip 45 _ _ _ (ap not e₂) ∙ skip 45 _ _ _ (rw is at e₃) ∙ skip 20 _ _ _ (le-ltb _ _ l) ∙ done _
@@ -42,21 +44,21 @@ module _ (room : ℕ) (s : Session) where
 -- ---- reading
 
 module _ (s : List ℕ) where
-  pub read-short : length s < 10 → readOf s ≡ refused 50
+  pub read-short : length s < recordSize → readOf s ≡ refused 50
   unfolding readOf
   read-short l = stop 50 _ _ _ (lt-ltb _ _ l)
 
-  module _ (l₁ : 10 ≤ length s) where
+  module _ (l₁ : recordSize ≤ length s) where
     pub read-length : (pairAt s 0 ≡ 8 → ⊥) → readOf s ≡ refused 51
     unfolding readOf
     read-length n = skip 50 _ _ _ (le-ltb _ _ l₁) ∙ stop 51 _ _ _ (ap not (ne-eqb _ _ n))
 
     module _ (e₂ : pairAt s 0 ≡ 8) where
-      pub read-long : 10 < length s → readOf s ≡ refused 51
+      pub read-long : recordSize < length s → readOf s ≡ refused 51
       unfolding readOf
       read-long l = skip 50 _ _ _ (le-ltb _ _ l₁) ∙ skip 51 _ _ _ (ap not (eq-eqb _ _ e₂)) ∙ stop 51 _ _ _ (lt-ltb _ _ l)
 
-      module _ (l₃ : length s ≤ 10) where
+      module _ (l₃ : length s ≤ recordSize) where
         pub read-version : (getD s 2 0 ≡ 1 → ⊥) → readOf s ≡ refused 52
         unfolding readOf
         read-version n =

@@ -1,6 +1,6 @@
 -- What is written reads back, a record that reads as valid says that all is acknowledged, and the log of a session tells its file's own counts.
 use Prim.Native.Nat.{ℕ, _+_, _≤_, _<_}
-use mathlib.Core.Bool.{Bool, true, false, not}
+use mathlib.Core.Bool.{true, false, not}
 use mathlib.Core.List.{List}
 use mathlib.Core.Path.{_≡_, refl, sym, ap, _∙_}
 use native.Mathlib.Omega.{arith}
@@ -8,8 +8,8 @@ use borrow.Author.Tests.{eq-eqb, eqb-true, ltb-true, lt-ltb, le-ltb, not-false}
 use lib.Dec.{eqb, ltb}
 use lib.ListN.{length, getD}
 use Rattle.basis.specs.Board.{flashSize, mapSize}
-use Rattle.basis.specs.Choice.{both, either}
-use Rattle.basis.specs.Laws.Choice.{both-true, both-second, true-false}
+use Rattle.basis.specs.Choice.{both}
+use Rattle.basis.specs.Laws.Choice.{both-true, both-second, either-none, true-false}
 use Rattle.basis.specs.Laws.Refusals.{passed, done, given-one}
 use Rattle.basis.specs.Refusals.{refused, given}
 use Rattle.runs.specs.Pieces.{namedCount}
@@ -24,9 +24,9 @@ use Rattle.session.specs.declared.phase.Outcome.{Outcome}
 use Rattle.session.specs.declared.phase.Phase.{Phase}
 use Rattle.session.specs.declared.phase.RunKind.{RunKind}
 use Rattle.session.specs.declared.session.Session.{Session}
-use Rattle.service_log.specs.Laws.FalseRecords.{valid, greeted, ungreeted}
+use Rattle.service_log.specs.Laws.FalseRecords.{false-valid, true-greeted, false-ungreeted}
 use Rattle.service_log.specs.Laws.Log.{write-given, read-given}
-use Rattle.service_log.specs.Log.{known, isFalseOf, outcomeIn, twoBytes, fitTwo, recordBytes, writeOf, recordAt, pairAt, readOf}
+use Rattle.service_log.specs.Log.{recordSize, known, isFalseOf, outcomeIn, twoBytes, fitTwo, recordBytes, writeOf, recordAt, pairAt, readOf}
 use Rattle.service_log.specs.declared.read.Record.{Record}
 use Rattle.session.specs.declared.event.Event.{Event}
 
@@ -35,7 +35,8 @@ use Rattle.session.specs.declared.event.Event.{Event}
 abbrev pub said : ℕ → ℕ → ℕ → ℕ → Record
 said o k t n = record { version = 1; outcome = o; acknowledged = k; total = t; bytes = n }
 
-pub read-back : (o k t n : ℕ) → fitTwo k t n ≡ true → isFalseOf o k t n ≡ false → readOf (recordBytes o k t n) ≡ given (said o k t n)
+pub read-back : (o k t n : ℕ) → fitTwo k t n ≡ true → isFalseOf o k t n ≡ false
+    → readOf (recordBytes o k t n) ≡ given (said o k t n)
 read-back o k t n f e =
     let a = both-true (twoBytes k) (both (twoBytes t) (twoBytes n)) f in
     let b = both-true (twoBytes t) (twoBytes n) (a .1) in
@@ -44,7 +45,8 @@ read-back o k t n f e =
     let ln = ltb-true n 65536 (b .1) in
     read-given (recordBytes o k t n) (omega arith) refl (omega arith) refl (omega arith) (omega arith) (omega arith) e
 
-pub written-reads : (room : ℕ) (s : Session) (w : List ℕ) → writeOf room s ≡ given w → readOf w ≡ given (said (outcomeIn (s .phase)) (s .acknowledged) (s .total) (s .named))
+pub written-reads : (room : ℕ) (s : Session) (w : List ℕ) → writeOf room s ≡ given w
+    → readOf w ≡ given (said (outcomeIn (s .phase)) (s .acknowledged) (s .total) (s .named))
 unfolding writeOf
 written-reads room s w e =
     let p₁ = passed _ _ _ _ e in
@@ -55,10 +57,6 @@ written-reads room s w e =
     ap readOf (sym g) ∙ read-back (outcomeIn (s .phase)) (s .acknowledged) (s .total) (s .named) (not-false _ (p₂ .0)) (p₃ .0)
 
 -- ---- a record that reads as valid says that all is acknowledged
-
-either-none : (a b : Bool) → either a b ≡ false → (a ≡ false) × (b ≡ false)
-either-none true b e = absurd (true-false e)
-either-none false b e = (refl, e)
 
 valid-whole : (k t n : ℕ) → isFalseOf 0 k t n ≡ false → k ≡ t
 unfolding isFalseOf
@@ -90,27 +88,30 @@ module _ (m : List ℕ) (long : length m ≡ mapSize) (some : 0 < namedCount m) 
       let n = named-fits m in
       both-second _ _ (lt-ltb k 65536 (omega arith)) ∙ both-second _ _ (lt-ltb (total m) 65536 (omega arith)) ∙ lt-ltb (namedCount m) 65536 (omega arith)
 
-  failed : (o k : ℕ) → k < total m → known o ≡ true → (o ≡ 0 → ⊥) → (o ≡ 42 → ⊥) → isFalseOf o k (total m) (namedCount m) ≡ false
+  failed : (o k : ℕ) → k < total m → known o ≡ true → (o ≡ 0 → ⊥) → (o ≡ 42 → ⊥)
+      → isFalseOf o k (total m) (namedCount m) ≡ false
   failed o k l q z w =
-      sym (greeted o k (total m) (namedCount m) q (total-least m long some) (λ e. omega arith) (named-fits m) (omega arith) z (λ e. omega arith) w)
+      sym (true-greeted o k (total m) (namedCount m) q (total-least m long some) (λ e. omega arith) (named-fits m) (omega arith) z (λ e. omega arith) w)
 
-  failed-true : (o : Outcome) (k : ℕ) → k < total m → failing o k ≡ true → isFalseOf (paperOutcome o) k (total m) (namedCount m) ≡ false
+  failed-true : (o : Outcome) (k : ℕ) → k < total m → failing o k ≡ true
+      → isFalseOf (paperOutcome o) k (total m) (namedCount m) ≡ false
   failed-true Outcome.Valid k l f = absurd (true-false (sym f))
   failed-true Outcome.Silence k l f = failed 40 k l refl (λ e. omega arith) (λ e. omega arith)
   failed-true Outcome.Bel k l f = failed 41 k l refl (λ e. omega arith) (λ e. omega arith)
   failed-true Outcome.NoGreeting k l f =
       let z : k ≡ 0 = eqb-true k 0 f in
-      sym (ungreeted 42 k (total m) (namedCount m) refl (total-least m long some) (λ e. omega arith) (named-fits m) (omega arith) (λ e. omega arith) (λ e. omega arith) refl) ∙ le-ltb 0 k (omega arith)
+      sym (false-ungreeted 42 k (total m) (namedCount m) refl (total-least m long some) (λ e. omega arith) (named-fits m) (omega arith) (λ e. omega arith) (λ e. omega arith) refl) ∙ le-ltb 0 k (omega arith)
   failed-true Outcome.Other k l f = failed 43 k l refl (λ e. omega arith) (λ e. omega arith)
 
   valid-true : isFalseOf 0 (total m) (total m) (namedCount m) ≡ false
   valid-true =
-      sym (valid 0 (total m) (total m) (namedCount m) refl (total-least m long some) (λ e. omega arith) (named-fits m) (omega arith) refl)
+      sym (false-valid 0 (total m) (total m) (namedCount m) refl (total-least m long some) (λ e. omega arith) (named-fits m) (omega arith) refl)
       ∙ ap not (eq-eqb (total m) (total m) refl)
 
   -- once ended it is never refused 45: its total is e + 2w + 1, and its bytes are the named count
-  module _ (kind : RunKind) (room : ℕ) (l : 10 ≤ room) where
-    pub came-logged : (s : Session) → Came m kind s → ended (s .phase) ≡ true → writeOf room s ≡ given (recordBytes (outcomeIn (s .phase)) (s .acknowledged) (total m) (namedCount m))
+  module _ (kind : RunKind) (room : ℕ) (l : recordSize ≤ room) where
+    pub came-logged : (s : Session) → Came m kind s → ended (s .phase) ≡ true
+        → writeOf room s ≡ given (recordBytes (outcomeIn (s .phase)) (s .acknowledged) (total m) (namedCount m))
     came-logged s (waits e) h = absurd (true-false (sym h ∙ ap (λ (x : Session). ended (x .phase)) e))
     came-logged s (stands k b e) h = absurd (true-false (sym h ∙ ap (λ (x : Session). ended (x .phase)) e ∙ phase-open m k))
     came-logged s (fails o k b f e) h =

@@ -12,12 +12,12 @@ hex-meant-requires c κs = search needs
 close-requires : tie.Need-close-requires
 close-requires c κs = search needs
 
-answered-requires : tie.Need-answered-requires
-answered-requires c κs = search needs
+hex-answer-requires : tie.Need-hex-answer-requires
+hex-answer-requires c κs = search needs
 
 returns : tie.Need-returns
-returns c = c .answered .ensures ∙ ap (hexAnswer (c .before .before .before .args .reader)) (c .before .close .ensures ∙ ap closeOf (c .before .before .hex-meant .ensures))
+returns c = c .hex-answer .ensures ∙ ap (hexAnswer (c .before .before .before .args .reader)) (c .before .close .ensures ∙ ap closeOf (c .before .before .hex-meant .ensures))
 
 pub gremolunde-hex-close-spec : {M : Type 1} → statement M
 gremolunde-hex-close-spec =
-    tie.close (tie.spec hex-meant-requires close-requires answered-requires returns)
+    tie.close (tie.spec hex-meant-requires close-requires hex-answer-requires returns)

@@ -12,8 +12,8 @@ hex-meant-requires c κs = search needs
 record-requires : tie.Need-record-requires
 record-requires c κs = search needs
 
-answered-requires : tie.Need-answered-requires
-answered-requires c κs = search needs
+hex-answer-requires : tie.Need-hex-answer-requires
+hex-answer-requires c κs = search needs
 
 same-length : tie.Need-same-length
 same-length c = search needs
@@ -24,7 +24,7 @@ same-length-2 c = search needs
 returns : tie.Need-returns
 returns c = let o = c .before .before .before .before .before .«record» .ensures in
     rw (sym (c .before .before .before .before .before .before .before .before .hex-meant .ensures))
-    (c .answered .ensures ∙ ap (λ (x : Settled). hexAnswer (c .before .before .before .before .before .before .before .before .before .before .before .before .args .reader) (x .answer)) o, ap (λ (x : Settled). x .image) o, ap (λ (x : Settled). x .map) o)
+    (c .hex-answer .ensures ∙ ap (λ (x : Settled). hexAnswer (c .before .before .before .before .before .before .before .before .before .before .before .before .args .reader) (x .answer)) o, ap (λ (x : Settled). x .image) o, ap (λ (x : Settled). x .map) o)
 
 pub gremolunde-hex-record-spec : {M : Type 1} → statement M
 gremolunde-hex-record-spec =
@@ -32,7 +32,7 @@ gremolunde-hex-record-spec =
     (tie.spec
     hex-meant-requires
     record-requires
-    answered-requires
+    hex-answer-requires
     same-length
     same-length-2
     returns)

@@ -9,8 +9,8 @@ use Rattle.gremolunde.proofs.files.gremolunde_hex_start.Tie as tie
 start-requires : tie.Need-start-requires
 start-requires c κs = search needs
 
-answered-requires : tie.Need-answered-requires
-answered-requires c κs = search needs
+hex-answer-requires : tie.Need-hex-answer-requires
+hex-answer-requires c κs = search needs
 
 same-length : tie.Need-same-length
 same-length c = search needs
@@ -20,8 +20,8 @@ same-length-2 c = search needs
 
 returns : tie.Need-returns
 returns c = let o = c .before .before .before .before .before .start .ensures in
-    (c .answered .ensures ∙ ap (λ (x : Settled). hexAnswer noReader (x .answer)) o, ap (λ (x : Settled). x .image) o, ap (λ (x : Settled). x .map) o)
+    (c .hex-answer .ensures ∙ ap (λ (x : Settled). hexAnswer noReader (x .answer)) o, ap (λ (x : Settled). x .image) o, ap (λ (x : Settled). x .map) o)
 
 pub gremolunde-hex-start-spec : {M : Type 1} → statement M
 gremolunde-hex-start-spec =
-    tie.close (tie.spec start-requires answered-requires same-length same-length-2 returns)
+    tie.close (tie.spec start-requires hex-answer-requires same-length same-length-2 returns)

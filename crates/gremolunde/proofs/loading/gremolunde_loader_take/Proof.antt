@@ -17,7 +17,8 @@ use Rattle.gremolunde.proofs.loading.gremolunde_loader_take.Statement.{
 use Rattle.gremolunde.proofs.loading.gremolunde_loader_take.Tie as tie
 
 -- what the loader l shows of an input, where l is what the state stands for
-told-of : (s : LoaderState) (l m : Loader) → l ≡ m → (input flash old : List ℕ) {v : Answer (Unit {0})} {next : Loader} {k : ℕ} {f a : List ℕ} (r : Taken)
+told-of : (s : LoaderState) (l m : Loader) → l ≡ m
+    → (input flash old : List ℕ) {v : Answer (Unit {0})} {next : Loader} {k : ℕ} {f a : List ℕ} (r : Taken)
     → r ≡ takenAnswer s v next k → Takes (takeOf pages l input flash (length old)) l flash old v next k f a
     → let x = takeOf pages m input flash (length old) in (r ≡ takenAnswer s (bare x) (effectAfter m flash x .loader) (length (answerBytes m x))) × (f ≡ effectAfter m flash x .flash) × (a ≡ overlay (answerBytes m x) old)
 told-of s l m e input flash old r p t =
@@ -30,8 +31,8 @@ loader-meant-requires c κs = search needs
 take-requires : tie.Need-take-requires
 take-requires c κs = search needs
 
-told-requires : tie.Need-told-requires
-told-requires c κs = search needs
+taken-answer-requires : tie.Need-taken-answer-requires
+taken-answer-requires c κs = search needs
 
 same-length : tie.Need-same-length
 same-length c = search needs
@@ -40,9 +41,9 @@ same-length-2 : tie.Need-same-length-2
 same-length-2 c = search needs
 
 returns : tie.Need-returns
-returns c = told-of _ _ _ (c .before .before .before .before .before .before .before .before .before .loader-meant .ensures) _ _ _ _ (c .told .ensures) (c .before .before .before .before .before .before .take .ensures)
+returns c = told-of _ _ _ (c .before .before .before .before .before .before .before .before .before .loader-meant .ensures) _ _ _ _ (c .taken-answer .ensures) (c .before .before .before .before .before .before .take .ensures)
 
 pub gremolunde-loader-take-spec : {M : Type 1} → statement M
 gremolunde-loader-take-spec =
     tie.close
-    (tie.spec loader-meant-requires take-requires told-requires same-length same-length-2 returns)
+    (tie.spec loader-meant-requires take-requires taken-answer-requires same-length same-length-2 returns)

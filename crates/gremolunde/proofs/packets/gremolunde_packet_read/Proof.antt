@@ -8,11 +8,11 @@ use Rattle.gremolunde.proofs.packets.gremolunde_packet_read.Tie as tie
 read-requires : tie.Need-read-requires
 read-requires c κs = search needs
 
-told-requires : tie.Need-told-requires
-told-requires c κs = search needs
+parts-answer-requires : tie.Need-parts-answer-requires
+parts-answer-requires c κs = search needs
 
 returns : tie.Need-returns
-returns c = c .told .ensures ∙ ap partsAnswer (c .before .read .ensures)
+returns c = c .parts-answer .ensures ∙ ap partsAnswer (c .before .read .ensures)
 
 pub gremolunde-packet-read-spec : {M : Type 1} → statement M
-gremolunde-packet-read-spec = tie.close (tie.spec read-requires told-requires returns)
+gremolunde-packet-read-spec = tie.close (tie.spec read-requires parts-answer-requires returns)

@@ -11,15 +11,15 @@ session-meant-requires c κs = search needs
 write-requires : tie.Need-write-requires
 write-requires c κs = search needs
 
-written-requires : tie.Need-written-requires
-written-requires c κs = search needs
+length-answer-requires : tie.Need-length-answer-requires
+length-answer-requires c κs = search needs
 
 same-length : tie.Need-same-length
 same-length c = search needs
 
 returns : tie.Need-returns
-returns c = rw (sym (c .before .before .before .before .before .session-meant .ensures)) (c .written .ensures ∙ ap lengthAnswer (c .before .before .before .write .ensures .0), c .before .before .before .write .ensures .1)
+returns c = rw (sym (c .before .before .before .before .before .session-meant .ensures)) (c .length-answer .ensures ∙ ap lengthAnswer (c .before .before .before .write .ensures .0), c .before .before .before .write .ensures .1)
 
 pub gremolunde-log-write-spec : {M : Type 1} → statement M
 gremolunde-log-write-spec =
-    tie.close (tie.spec session-meant-requires write-requires written-requires same-length returns)
+    tie.close (tie.spec session-meant-requires write-requires length-answer-requires same-length returns)

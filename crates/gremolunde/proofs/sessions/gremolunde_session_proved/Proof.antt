@@ -11,12 +11,12 @@ session-meant-requires c κs = search needs
 proved-requires : tie.Need-proved-requires
 proved-requires c κs = search needs
 
-marked-requires : tie.Need-marked-requires
-marked-requires c κs = search needs
+mark-answer-requires : tie.Need-mark-answer-requires
+mark-answer-requires c κs = search needs
 
 returns : tie.Need-returns
-returns c = rw (sym (c .before .before .session-meant .ensures)) (c .marked .ensures ∙ ap markAnswer (c .before .proved .ensures))
+returns c = rw (sym (c .before .before .session-meant .ensures)) (c .mark-answer .ensures ∙ ap markAnswer (c .before .proved .ensures))
 
 pub gremolunde-session-proved-spec : {M : Type 1} → statement M
 gremolunde-session-proved-spec =
-    tie.close (tie.spec session-meant-requires proved-requires marked-requires returns)
+    tie.close (tie.spec session-meant-requires proved-requires mark-answer-requires returns)

@@ -11,15 +11,15 @@ session-meant-requires c κs = search needs
 step-requires : tie.Need-step-requires
 step-requires c κs = search needs
 
-answered-requires : tie.Need-answered-requires
-answered-requires c κs = search needs
+stepped-answer-requires : tie.Need-stepped-answer-requires
+stepped-answer-requires c κs = search needs
 
 same-length : tie.Need-same-length
 same-length c = search needs
 
 returns : tie.Need-returns
-returns c = rw (sym (c .before .before .before .before .before .session-meant .ensures)) (c .answered .ensures ∙ ap (steppedAnswer (c .before .before .before .before .before .before .before .before .before .before .args .session)) (c .before .before .before .step .ensures .0), c .before .before .before .step .ensures .1)
+returns c = rw (sym (c .before .before .before .before .before .session-meant .ensures)) (c .stepped-answer .ensures ∙ ap (steppedAnswer (c .before .before .before .before .before .before .before .before .before .before .args .session)) (c .before .before .before .step .ensures .0), c .before .before .before .step .ensures .1)
 
 pub gremolunde-session-step-spec : {M : Type 1} → statement M
 gremolunde-session-step-spec =
-    tie.close (tie.spec session-meant-requires step-requires answered-requires same-length returns)
+    tie.close (tie.spec session-meant-requires step-requires stepped-answer-requires same-length returns)

@@ -1,10 +1,22 @@
 -- `log_line` meets its contract: each case of the reading has its line.
-use mathlib.Core.Path.{sym, ap, _∙_}
-use borrow.Author.Needs.{needs}
+use Prim.Native.Nat.{ℕ}
+use mathlib.Core.List.{List}
+use mathlib.Core.Path.{_≡_, sym, ap, _∙_}
+use lib.ListN.{length}
+use Rattle.basis.specs.Lists.{overlay}
+use Rattle.basis.specs.Refusals.{Answer, refused}
 use Rattle.service_log.specs.Paper.{paperReading}
-use Rattle.listing.proofs.Buffers.{log-put}
+use Rattle.service_log.specs.declared.read.Record.{Record}
+use Rattle.listing.specs.Lines.{logLine}
+use borrow.Author.Needs.{needs}
 use Rattle.listing.proofs.log.log_line.Statement.{statement}
 use Rattle.listing.proofs.log.log_line.Tie as tie
+
+-- the line of what was read
+log-put : (a b : Answer Record) (old new : List ℕ) (n : ℕ) → a ≡ b
+    → (n ≡ length (logLine b)) × (new ≡ overlay (logLine b) old)
+    → (n ≡ length (logLine a)) × (new ≡ overlay (logLine a) old)
+log-put a b old new n e f = rw e f
 
 read-requires : tie.Need-read-requires
 read-requires c κs = search needs
@@ -15,29 +27,17 @@ enum-known-x c = search needs
 record-line-requires : tie.Need-record-line-requires
 record-line-requires c κs = search needs
 
-enum-told : tie.Need-enum-told
-enum-told c = search needs
+enum-known-why : tie.Need-enum-known-why
+enum-known-why c = search needs
+
+number-requires : tie.Need-number-requires
+number-requires c κs = search needs
+
+cast-refusal-line : tie.Need-cast-refusal-line
+cast-refusal-line c = search needs
 
 refusal-line-requires : tie.Need-refusal-line-requires
 refusal-line-requires c κs = search needs
-
-enum-told-2 : tie.Need-enum-told-2
-enum-told-2 c = search needs
-
-refusal-line-requires-2 : tie.Need-refusal-line-requires-2
-refusal-line-requires-2 c κs = search needs
-
-enum-told-3 : tie.Need-enum-told-3
-enum-told-3 c = search needs
-
-refusal-line-requires-3 : tie.Need-refusal-line-requires-3
-refusal-line-requires-3 c κs = search needs
-
-enum-told-4 : tie.Need-enum-told-4
-enum-told-4 c = search needs
-
-refusal-line-requires-4 : tie.Need-refusal-line-requires-4
-refusal-line-requires-4 c κs = search needs
 
 same-length : tie.Need-same-length
 same-length c = search needs
@@ -49,25 +49,7 @@ same-length-2 : tie.Need-same-length-2
 same-length-2 c = search needs
 
 returns-2 : tie.Need-returns-2
-returns-2 c = log-put _ _ _ _ _ (sym (c .before .before .before .before .before .before .read .ensures) ∙ ap paperReading (c .before .before .before .before .enum-told .given .1)) (c .before .before .refusal-line .ensures)
-
-same-length-3 : tie.Need-same-length-3
-same-length-3 c = search needs
-
-returns-3 : tie.Need-returns-3
-returns-3 c = log-put _ _ _ _ _ (sym (c .before .before .before .before .before .before .read .ensures) ∙ ap paperReading (c .before .before .before .before .enum-told2 .given .1)) (c .before .before .refusal-line2 .ensures)
-
-same-length-4 : tie.Need-same-length-4
-same-length-4 c = search needs
-
-returns-4 : tie.Need-returns-4
-returns-4 c = log-put _ _ _ _ _ (sym (c .before .before .before .before .before .before .read .ensures) ∙ ap paperReading (c .before .before .before .before .enum-told3 .given .1)) (c .before .before .refusal-line3 .ensures)
-
-same-length-5 : tie.Need-same-length-5
-same-length-5 c = search needs
-
-returns-5 : tie.Need-returns-5
-returns-5 c = log-put _ _ _ _ _ (sym (c .before .before .before .before .before .before .read .ensures) ∙ ap paperReading (c .before .before .before .before .enum-told4 .given .1)) (c .before .before .refusal-line4 .ensures)
+returns-2 c = log-put _ _ _ _ _ (sym (c .before .before .before .before .before .before .before .before .read .ensures) ∙ ap paperReading (c .before .before .before .before .before .before .why .given .1) ∙ ap refused (sym (c .before .before .before .number .ensures))) (c .before .before .refusal-line .ensures)
 
 pub log-line-spec : {M : Type 1} → statement M
 log-line-spec =
@@ -76,21 +58,11 @@ log-line-spec =
     read-requires
     enum-known-x
     record-line-requires
-    enum-told
+    enum-known-why
+    number-requires
+    cast-refusal-line
     refusal-line-requires
-    enum-told-2
-    refusal-line-requires-2
-    enum-told-3
-    refusal-line-requires-3
-    enum-told-4
-    refusal-line-requires-4
     same-length
     returns
     same-length-2
-    returns-2
-    same-length-3
-    returns-3
-    same-length-4
-    returns-4
-    same-length-5
-    returns-5)
+    returns-2)

@@ -1,10 +1,23 @@
 -- `field` meets its contract: the number goes behind the word.
+use Prim.Native.Nat.{ℕ, _+_}
+use mathlib.Core.List.{List, _++_}
+use mathlib.Core.Path.{_≡_, refl, _∙_}
 use native.Mathlib.Omega.{arith}
 use borrow.Author.Needs.{needs}
 use Rattle.listing.specs.Laws.Numbers.{decimal-most}
-use Rattle.listing.proofs.Buffers.{field-put}
+use lib.ListN.{length, length-append}
+use Rattle.image.specs.Flash.{copyOf}
+use Rattle.listing.specs.Numbers.{decimalOf}
+use Rattle.listing.proofs.Buffers.{copy-then, Field}
 use Rattle.listing.proofs.numbers.field.Statement.{statement}
 use Rattle.listing.proofs.numbers.field.Tie as tie
+
+-- a word and a number
+field-put : (b : List ℕ) (at n : ℕ) (w c d : List ℕ) (e : ℕ) → c ≡ copyOf b at w
+    → Field c (at + length w) (decimalOf n) d e (at + length w + 20)
+    → Field b at (w ++ decimalOf n) d e (at + length w + 20)
+field-put b at n w c d e ec f =
+    (omega (arith, length-append w (decimalOf n), f .0), (f .1 .0 ∙ copy-then b at w (decimalOf n) c (at + length w) refl ec, f .1 .1))
 
 copy-requires : tie.Need-copy-requires
 copy-requires c κs = search needs
@@ -13,13 +26,15 @@ add-decimal : tie.Need-add-decimal
 add-decimal c = search needs
 
 decimal-requires : tie.Need-decimal-requires
-decimal-requires c κs = omega (arith, decimal-most (c .before .before .before .before .before .before .before .args .n) (c .before .before .before .before .before .before .before .fits .n .fits), c .before .before .before .copy .kept .0)
+decimal-requires c κs =
+    let s = c .before .before .before .before .before .before .before in
+    omega (arith, decimal-most (s .args .n) (s .fits .n .fits), c .before .before .before .copy .kept .0)
 
 same-length : tie.Need-same-length
 same-length c = search needs
 
 returns : tie.Need-returns
-returns c = field-put _ _ _ _ _ _ _ (c .before .before .before .before .before .before .copy .ensures) (c .before .before .decimal .ensures) (decimal-most (c .before .before .before .before .before .before .before .before .before .before .args .n) (c .before .before .before .before .before .before .before .before .before .before .fits .n .fits))
+returns c = field-put _ _ _ _ _ _ _ (c .before .before .before .before .before .before .copy .ensures) (c .before .before .decimal .ensures)
 
 pub field-spec : {M : Type 1} → statement M
 field-spec = tie.close (tie.spec copy-requires add-decimal decimal-requires same-length returns)

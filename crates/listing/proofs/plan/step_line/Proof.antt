@@ -1,59 +1,97 @@
 -- `step_line` meets its contract: number, letter, packet and 0A are written one behind the other.
+use Prim.Native.Nat.{ℕ, _+_, _*_, _≤_}
+use mathlib.Core.List.{List, _∷_, _++_}
+use mathlib.Core.Path.{_≡_, sym, ap, _∙_}
 use native.Mathlib.Omega.{arith}
 use borrow.Author.Needs.{needs}
-use lib.ListN.{length-set}
+use lib.ListN.{length, getD, set, length-append, length-set}
+use Rattle.image.specs.Flash.{stored, copyOf}
+use Rattle.image.specs.Laws.Writer.{length-spelt}
+use Rattle.image.specs.Writer.{spelt}
+use Rattle.listing.specs.Lines.{lineEnd, stepLine}
 use Rattle.listing.specs.Laws.Numbers.{decimal-most}
-use Rattle.listing.proofs.Buffers.{step-put}
+use Rattle.listing.specs.Numbers.{decimalOf}
+use Rattle.listing.proofs.Buffers.{copy-then, copy-last, Field}
 use Rattle.listing.proofs.plan.step_line.Statement.{statement}
 use Rattle.listing.proofs.plan.step_line.Tie as tie
 
+-- three, and more behind them
+copy-three : (c : List ℕ) (e x y z : ℕ) (s : List ℕ)
+    → copyOf c e (x ∷ y ∷ z ∷ s) ≡ copyOf (set (set (set c e x) (e + 1) y) (e + 2) z) (e + 3) s
+unfolding stored
+copy-three c e x y z s =
+    let p : e + 2 ≡ e + 1 + 1 = omega arith in let q : e + 3 ≡ e + 1 + 1 + 1 = omega arith in rw (p, q)
+
+module _ (b p : List ℕ) (at n : ℕ) where
+  step-length : length (stepLine n p) ≡ length (decimalOf n) + 2 * length p + 4
+  unfolding stepLine
+  step-length = simp (length-append, length-spelt) (omega arith)
+
+  -- the number, a space, the letter, a space, the packet and 0A, one behind the other
+  step-put : (c d : List ℕ) (e k : ℕ) → Field b at (decimalOf n) c e (at + 20) → k ≡ getD p 3 0
+      → d ≡ copyOf (set (set (set c e 0x20) (e + 1) k) (e + 2) 0x20) (e + 3) (spelt p)
+      → (e + 3 + 2 * length p + 1 ≡ at + length (stepLine n p)) × (set d (e + 3 + 2 * length p) 0x0A ≡ copyOf b at (stepLine n p)) × (length (stepLine n p) ≤ 2 * length p + 24)
+  unfolding stepLine
+  step-put c d e k f ek ed =
+      let l = step-length in
+      let t : List ℕ = spelt p ++ lineEnd in
+      let x : List ℕ = set (set (set c e 0x20) (e + 1) k) (e + 2) 0x20 in
+      let q : e + 3 + 2 * length p ≡ e + 3 + length (spelt p) = omega (arith, length-spelt p) in
+      (omega (arith, f .0), copy-last x (e + 3) (spelt p) d (e + 3 + 2 * length p) 0x0A q ed ∙ sym (copy-three c e 0x20 k 0x20 t) ∙ ap (λ (y : ℕ). copyOf c e (0x20 ∷ y ∷ 0x20 ∷ t)) ek ∙ copy-then b at (decimalOf n) (0x20 ∷ getD p 3 0 ∷ 0x20 ∷ t) c e (f .0) (f .1 .0), omega (arith, f .0, f .1 .1))
+
 decimal-requires : tie.Need-decimal-requires
-decimal-requires c κs = omega (arith, decimal-most (c .before .before .before .args .step) (c .before .before .before .fits .step .fits), c .before .before .before .pre)
+decimal-requires c κs =
+    let s = c .before .before .before in omega (arith, decimal-most (s .args .step) (s .fits .step .fits), s .pre)
 
 slice-write-buffer : tie.Need-slice-write-buffer
-slice-write-buffer c = omega (arith, decimal-most (c .before .before .before .before .before .before .args .step) (c .before .before .before .before .before .before .fits .step .fits), c .before .before .decimal .ensures .0, c .before .before .decimal .kept .0, c .before .before .before .before .before .before .pre)
+slice-write-buffer c = search needs
 
-letter-requires : tie.Need-letter-requires
-letter-requires c κs = search needs
+command-letter-requires : tie.Need-command-letter-requires
+command-letter-requires c κs = search needs
 
 add-buffer : tie.Need-add-buffer
-add-buffer c = omega (arith, decimal-most (c .before .before .before .before .before .before .before .args .step) (c .before .before .before .before .before .before .before .fits .step .fits), c .before .before .before .decimal .ensures .0, c .before .before .before .decimal .kept .0, c .before .before .before .before .before .before .before .pre)
+add-buffer c = search needs
 
 slice-write-buffer-2 : tie.Need-slice-write-buffer-2
-slice-write-buffer-2 c = simp length-set (omega (arith, decimal-most (c .before .before .before .before .before .before .before .args .step) (c .before .before .before .before .before .before .before .fits .step .fits), c .before .before .before .decimal .ensures .0, c .before .before .before .decimal .kept .0, c .before .before .before .before .before .before .before .pre))
+slice-write-buffer-2 c =
+    let d = c .before .before .before .decimal in simp length-set (omega (arith, d .ensures .1 .1, d .kept .0, c .before .before .before .before .before .before .before .pre))
 
 add-buffer-2 : tie.Need-add-buffer-2
-add-buffer-2 c = omega (arith, decimal-most (c .before .before .before .before .before .before .before .args .step) (c .before .before .before .before .before .before .before .fits .step .fits), c .before .before .before .decimal .ensures .0, c .before .before .before .decimal .kept .0, c .before .before .before .before .before .before .before .pre)
+add-buffer-2 c = search needs
 
 slice-write-buffer-3 : tie.Need-slice-write-buffer-3
-slice-write-buffer-3 c = simp length-set (omega (arith, decimal-most (c .before .before .before .before .before .before .before .args .step) (c .before .before .before .before .before .before .before .fits .step .fits), c .before .before .before .decimal .ensures .0, c .before .before .before .decimal .kept .0, c .before .before .before .before .before .before .before .pre))
+slice-write-buffer-3 c =
+    let d = c .before .before .before .decimal in simp length-set (omega (arith, d .ensures .1 .1, d .kept .0, c .before .before .before .before .before .before .before .pre))
 
 add-spell : tie.Need-add-spell
-add-spell c = omega (arith, decimal-most (c .before .before .before .before .before .before .before .before .args .step) (c .before .before .before .before .before .before .before .before .fits .step .fits), c .before .before .before .before .decimal .ensures .0, c .before .before .before .before .decimal .kept .0, c .before .before .before .before .before .before .before .before .pre)
+add-spell c = search needs
 
 spell-requires : tie.Need-spell-requires
-spell-requires c κs = simp length-set (omega (arith, decimal-most (c .before .before .before .before .before .before .before .before .args .step) (c .before .before .before .before .before .before .before .before .fits .step .fits), c .before .before .before .before .decimal .ensures .0, c .before .before .before .before .decimal .kept .0, c .before .before .before .before .before .before .before .before .pre))
+spell-requires c κs =
+    let d = c .before .before .before .before .decimal in simp length-set (omega (arith, d .ensures .1 .1, d .kept .0, c .before .before .before .before .before .before .before .before .pre))
 
 add-last : tie.Need-add-last
-add-last c = omega (arith, decimal-most (c .before .before .before .before .before .before .before .before .before .before .before .args .step) (c .before .before .before .before .before .before .before .before .before .before .before .fits .step .fits), c .before .before .before .before .before .before .before .decimal .ensures .0, c .before .before .before .before .before .before .before .decimal .kept .0, c .before .before .before .before .before .before .before .before .before .before .before .pre)
+add-last c = search needs
 
 mul-last : tie.Need-mul-last
 mul-last c = search needs
 
 add-last-2 : tie.Need-add-last-2
-add-last-2 c = omega (arith, decimal-most (c .before .before .before .before .before .before .before .before .before .before .before .args .step) (c .before .before .before .before .before .before .before .before .before .before .before .fits .step .fits), c .before .before .before .before .before .before .before .decimal .ensures .0, c .before .before .before .before .before .before .before .decimal .kept .0, c .before .before .before .before .before .before .before .before .before .before .before .pre)
+add-last-2 c = search needs
 
 slice-write-buffer-4 : tie.Need-slice-write-buffer-4
-slice-write-buffer-4 c = omega (arith, decimal-most (c .before .before .before .before .before .before .before .before .before .before .before .args .step) (c .before .before .before .before .before .before .before .before .before .before .before .fits .step .fits), c .before .before .before .before .before .before .before .decimal .ensures .0, c .before .before .before .before .before .before .before .decimal .kept .0, simp length-set at (c .before .before .spell .kept .0), c .before .before .before .before .before .before .before .before .before .before .before .pre)
+slice-write-buffer-4 c =
+    let d = c .before .before .before .before .before .before .before .decimal in omega (arith, d .ensures .1 .1, d .kept .0, simp length-set at (c .before .before .spell .kept .0), c .before .before .before .before .before .before .before .before .before .before .before .pre)
 
 add-result : tie.Need-add-result
-add-result c = omega (arith, decimal-most (c .before .before .before .before .before .before .before .before .before .before .before .args .step) (c .before .before .before .before .before .before .before .before .before .before .before .fits .step .fits), c .before .before .before .before .before .before .before .decimal .ensures .0, c .before .before .before .before .before .before .before .decimal .kept .0, c .before .before .before .before .before .before .before .before .before .before .before .pre)
+add-result c = search needs
 
 same-length : tie.Need-same-length
-same-length c = simp length-set (omega (arith, decimal-most (c .before .before .before .before .before .before .before .before .before .before .before .args .step) (c .before .before .before .before .before .before .before .before .before .before .before .fits .step .fits), c .before .before .before .before .before .before .before .decimal .ensures .0, c .before .before .before .before .before .before .before .decimal .kept .0, simp length-set at (c .before .before .spell .kept .0), c .before .before .before .before .before .before .before .before .before .before .before .pre))
+same-length c = simp length-set (omega (arith, c .before .before .before .before .before .before .before .decimal .kept .0, simp length-set at (c .before .before .spell .kept .0)))
 
 returns : tie.Need-returns
-returns c = step-put _ _ _ _ (decimal-most (c .before .before .before .before .before .before .before .before .before .before .before .args .step) (c .before .before .before .before .before .before .before .before .before .before .before .fits .step .fits)) _ _ _ _ (c .before .before .before .before .before .before .before .decimal .ensures) (c .before .before .before .before .letter .ensures) (c .before .before .spell .ensures)
+returns c =
+    step-put _ _ _ _ _ _ _ _ (c .before .before .before .before .before .before .before .decimal .ensures) (c .before .before .before .before .command-letter .ensures) (c .before .before .spell .ensures)
 
 pub step-line-spec : {M : Type 1} → statement M
 step-line-spec =
@@ -61,7 +99,7 @@ step-line-spec =
     (tie.spec
     decimal-requires
     slice-write-buffer
-    letter-requires
+    command-letter-requires
     add-buffer
     slice-write-buffer-2
     add-buffer-2

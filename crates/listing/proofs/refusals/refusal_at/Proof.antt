@@ -1,11 +1,26 @@
 -- `refusal_at` meets its contract: two fields, closed by 0A.
-use mathlib.Core.Path.{refl}
+use Prim.Native.Nat.{ℕ, _≤_}
+use mathlib.Core.List.{List, [], _∷_, _++_}
+use mathlib.Core.Path.{_≡_, ap, _∙_}
 use native.Mathlib.Omega.{arith}
+use lib.ListN.{length}
+use Rattle.basis.specs.Lists.{overlay}
+use Rattle.listing.specs.Lines.{lineEnd, field, refusedWord, refusalAt}
+use Rattle.listing.proofs.Buffers.{Field, put-first, put-next, put-over}
 use borrow.Author.Needs.{needs}
-use lib.ListN.{length-set}
-use Rattle.listing.proofs.Buffers.{refused-put}
 use Rattle.listing.proofs.refusals.refusal_at.Statement.{statement}
 use Rattle.listing.proofs.refusals.refusal_at.Tie as tie
+
+-- the line's field and then the number's, which is that of the refusal
+refused-put : (old b c : List ℕ) (d e n k q r s : ℕ) → Field old 0 (field refusedWord n) b d r
+    → Field b d (field (0x20 ∷ []) q ++ lineEnd) c e s → q ≡ k → s ≤ length old
+    → (e ≡ length (refusalAt n k)) × (c ≡ overlay (refusalAt n k) old)
+unfolding refusalAt
+refused-put old b c d e n k q r s f g p h =
+    let t : List ℕ = field (0x20 ∷ []) q ++ lineEnd in
+    let o =
+    put-over old (field refusedWord n ++ t) c e (put-next old (field refusedWord n) t b c d e s (put-first old (field refusedWord n) b d r f) g) (omega (arith, g .1 .1)) in
+    (o .0 ∙ ap (λ (x : ℕ). length (refusalAt n x)) p, o .1 ∙ ap (λ (x : ℕ). overlay (refusalAt n x) old) p)
 
 slice-aggregate-field : tie.Need-slice-aggregate-field
 slice-aggregate-field c = search needs
@@ -13,29 +28,25 @@ slice-aggregate-field c = search needs
 field-requires : tie.Need-field-requires
 field-requires c κs = search needs
 
-slice-aggregate-field-2 : tie.Need-slice-aggregate-field-2
-slice-aggregate-field-2 c = search needs
+slice-aggregate-last-field : tie.Need-slice-aggregate-last-field
+slice-aggregate-last-field c = search needs
 
 number-requires : tie.Need-number-requires
 number-requires c κs = search needs
 
-cast-field : tie.Need-cast-field
-cast-field c = search needs
+cast-last-field : tie.Need-cast-last-field
+cast-last-field c = search needs
 
-field-requires-2 : tie.Need-field-requires-2
-field-requires-2 c κs = search needs
-
-slice-write-buffer : tie.Need-slice-write-buffer
-slice-write-buffer c = search needs
-
-add-result : tie.Need-add-result
-add-result c = search needs
+last-field-requires : tie.Need-last-field-requires
+last-field-requires c κs = search needs
 
 same-length : tie.Need-same-length
-same-length c = simp length-set (omega (arith, c .before .before .before .before .before .before .before .before .field .kept .0, c .before .before .field2 .kept .0))
+same-length c = search needs
 
 returns : tie.Need-returns
-returns c = refused-put _ _ _ _ _ _ _ _ _ (c .before .before .before .before .before .before .before .before .field .ensures) (c .before .before .field2 .ensures) _ _ _ refl refl (c .before .before .before .number .ensures) (omega (arith, c .before .before .before .before .before .before .before .before .field .ensures .1 .1, c .before .before .field2 .ensures .1 .1, c .before .before .before .before .before .before .before .before .before .before .before .before .pre))
+returns c =
+    let f = c .before .before .before .before .before .before .before .before .field .ensures in
+    refused-put _ _ _ _ _ _ _ _ _ _ f (c .before .before .last-field .ensures) (c .before .before .before .number .ensures) (omega (arith, f .1 .1, c .before .before .before .before .before .before .before .before .before .before .before .before .pre))
 
 pub refusal-at-spec : {M : Type 1} → statement M
 refusal-at-spec =
@@ -43,11 +54,9 @@ refusal-at-spec =
     (tie.spec
     slice-aggregate-field
     field-requires
-    slice-aggregate-field-2
+    slice-aggregate-last-field
     number-requires
-    cast-field
-    field-requires-2
-    slice-write-buffer
-    add-result
+    cast-last-field
+    last-field-requires
     same-length
     returns)

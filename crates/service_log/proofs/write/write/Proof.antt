@@ -31,23 +31,23 @@ returns-3 c = leaves _ (write-false _ _ (sym (c .before .before .before .before 
 returns-4 : tie.Need-returns-4
 returns-4 c = leaves _ (write-small _ _ (sym (c .before .before .before .before .before .before .before .ended .ensures) ∙ not-false _ (c .before .before .before .before .before .before .if1 .left)) (sym (c .before .before .before .before .fit-two .ensures) ∙ not-false _ (c .before .before .before .if2 .left)) _ (c .before .before .before .before .before .outcome-in .ensures) (sym (c .before .before .is-false .ensures) ∙ c .before .if3 .left) (c .if4 .taken))
 
-cast-t15 : tie.Need-cast-t15
-cast-t15 c = search needs
+cast-t19 : tie.Need-cast-t19
+cast-t19 c = search needs
 
-cast-t17 : tie.Need-cast-t17
-cast-t17 c = search needs
+cast-t21 : tie.Need-cast-t21
+cast-t21 c = search needs
 
-cast-t20 : tie.Need-cast-t20
-cast-t20 c = search needs
+cast-t24 : tie.Need-cast-t24
+cast-t24 c = search needs
 
-cast-t22 : tie.Need-cast-t22
-cast-t22 c = search needs
+cast-t26 : tie.Need-cast-t26
+cast-t26 c = search needs
 
-cast-t25 : tie.Need-cast-t25
-cast-t25 c = search needs
+cast-t29 : tie.Need-cast-t29
+cast-t29 c = search needs
 
-cast-t27 : tie.Need-cast-t27
-cast-t27 c = search needs
+cast-t31 : tie.Need-cast-t31
+cast-t31 c = search needs
 
 slice-aggregate-write : tie.Need-slice-aggregate-write
 slice-aggregate-write c = search needs
@@ -73,12 +73,12 @@ write-spec =
     is-false-requires
     returns-3
     returns-4
-    cast-t15
-    cast-t17
-    cast-t20
-    cast-t22
-    cast-t25
-    cast-t27
+    cast-t19
+    cast-t21
+    cast-t24
+    cast-t26
+    cast-t29
+    cast-t31
     slice-aggregate-write
     write-requires
     same-length

@@ -1,11 +1,87 @@
--- `page` meets its contract: what is left to write, from here, gives what was to be given.
-use Prim.Native.Nat.{_-_}
+-- `sheet` meets its contract: what is left to write, from here, gives what was to be given.
+use Prim.Native.Nat.{_-_, ℕ, _+_, _≤_, _<_}
 use native.Mathlib.Omega.{arith}
-use lib.ListN.{length}
-use Rattle.listing.specs.Plan.{Listed}
-use Rattle.listing.proofs.Sheets.{writing-falls, left, Writing, writing-start, writing-full, writing-end, writing-next}
+use lib.ListN.{length, drop, length-append}
+use Rattle.listing.specs.Plan.{Listed, packetAt, listingAt, longestLine, Sheet, sheet, sheetOf}
+use mathlib.Core.List.{List, [], _++_}
+use mathlib.Core.Path.{_≡_, refl, sym, ap, _∙_}
+use Rattle.basis.specs.Lists.{overlay}
+use Rattle.image.specs.Flash.{stored, copyOf}
+use Rattle.image.specs.Laws.Flash.{copy-overlay}
+use Rattle.session.specs.Plan.{plan}
+use Rattle.session.specs.declared.phase.RunKind.{RunKind}
+use Rattle.listing.specs.Lines.{stepLine}
+use Rattle.listing.specs.Laws.Plan.{listed-left, listed-end, next-listed, sheet-end, sheet-full, sheet-line}
+use Rattle.listing.specs.declared.plan.Listing.{Listing}
+use Rattle.listing.proofs.Buffers.{copy-then}
 use Rattle.listing.proofs.plan.Listing.sheet.Statement.{statement}
 use Rattle.listing.proofs.plan.Listing.sheet.Tie as tie
+
+-- what is left to write from a listing on
+abbrev left : List ℕ → List ℕ → ℕ → Listing → Sheet
+left image m room l = sheetOf room (l .listed) (drop (l .listed) (plan image m RunKind.Reset))
+
+-- sheet g was to be written into old; the buffer holds it up to `at`, and h is left
+record Writing (g : Sheet) (old buffer : List ℕ) (at : ℕ) (h : Sheet) : Type 0 where
+  same : length buffer ≡ length old
+  inside : at ≤ length buffer
+  text : copyOf buffer at (h .text) ≡ copyOf old 0 (g .text)
+  long : at + length (h .text) ≡ length (g .text)
+  count : h .listed ≡ g .listed
+
+writing-start : (image m old : List ℕ) (l : Listing)
+    → Writing (left image m (length old) l) old old 0 (left image m (length old - 0) l)
+writing-start image m old l =
+    let e : length old - 0 ≡ length old = omega arith in
+    rw e (record { same = refl; inside = omega arith; text = refl; long = omega arith; count = refl })
+
+module _ (image m old : List ℕ) (g : Sheet) (l : Listing) (h : Listed image m l) (buffer : List ℕ) (at : ℕ) (w : Writing g old buffer at (left image m (length buffer - at) l)) where
+  ended : left image m (length buffer - at) l ≡ sheet [] (l .listed)
+      → (l ≡ listingAt m (g .listed)) × (at ≡ length (g .text)) × (buffer ≡ overlay (g .text) old)
+  unfolding stored
+  ended e =
+      let n : l .listed ≡ g .listed = sym (ap (λ (x : Sheet). x .listed) e) ∙ w .count in
+      let k : at ≡ length (g .text) = omega (arith, sym (ap (λ (x : Sheet). at + length (x .text)) e) ∙ w .long) in
+      let t : buffer ≡ copyOf old 0 (g .text) = sym (ap (λ (x : Sheet). copyOf buffer at (x .text)) e) ∙ w .text in
+      (h .stands ∙ ap (listingAt m) n, k, t ∙ copy-overlay [] old (g .text) 0 refl (omega (arith, w .inside, w .same)))
+
+  -- no room for one more, or none is left
+  writing-full : length buffer - at < longestLine
+      → (l ≡ listingAt m (g .listed)) × (at ≡ length (g .text)) × (buffer ≡ overlay (g .text) old)
+  writing-full s = ended (sheet-full (length buffer - at) (l .listed) (drop (l .listed) (plan image m RunKind.Reset)) s)
+
+  writing-end : l .total ≤ l .listed
+      → (l ≡ listingAt m (g .listed)) × (at ≡ length (g .text)) × (buffer ≡ overlay (g .text) old)
+  writing-end s = ended (ap (sheetOf (length buffer - at) (l .listed)) (listed-end image m l h s) ∙ sheet-end (length buffer - at) (l .listed))
+
+  module _ (more : l .listed < l .total) (room : longestLine ≤ length buffer - at) where
+    abbrev line : List ℕ
+    line = stepLine (l .listed + 1) (packetAt image m (l .listed))
+
+    -- and one less is left
+    writing-falls : (x : Listing) → x ≡ listingAt m (l .listed + 1)
+        → x .total - x .listed < l .total - l .listed
+    writing-falls x e =
+        omega (arith, ap (λ (y : Listing). y .listed) e, ap (λ (y : Listing). y .total) e, ap (λ (y : Listing). y .total) (h .stands))
+
+    -- one line more
+    writing-next : (x : Listing) (b : List ℕ) (e : ℕ) → x ≡ listingAt m (l .listed + 1)
+        → length b ≡ length buffer
+        → (e ≡ at + length line) × (b ≡ copyOf buffer at line) × (length line ≤ longestLine)
+        → Listed image m x × Writing g old b e (left image m (length b - e) x)
+    writing-next x b e ex same f =
+        let n : x .listed ≡ l .listed + 1 = ap (λ (y : Listing). y .listed) ex in
+        let rest : Sheet = sheetOf (length buffer - at - length line) (l .listed + 1) (drop (l .listed + 1) (plan image m RunKind.Reset)) in
+        let q : left image m (length buffer - at) l ≡ sheet (line ++ rest .text) (rest .listed) =
+        ap (sheetOf (length buffer - at) (l .listed)) (listed-left image m l h more) ∙ sheet-line (length buffer - at) (l .listed) (packetAt image m (l .listed)) (drop (l .listed + 1) (plan image m RunKind.Reset)) room in
+        let r : length b - e ≡ length buffer - at - length line = omega (arith, f .0) in
+        let y : left image m (length b - e) x ≡ rest = rw (n, r) in
+        (next-listed image m l h more x ex, rw y (record { same = same ∙ w .same; inside = omega (arith, f .0, f .2); text = sym (copy-from b e rest f) ∙ ap (λ (z : Sheet). copyOf buffer at (z .text)) (sym q) ∙ w .text; long = omega (arith, f .0, length-append line (rest .text), sym (ap (λ (z : Sheet). at + length (z .text)) q) ∙ w .long); count = sym (ap (λ (z : Sheet). z .listed) q) ∙ w .count }))
+      where
+        copy-from : (b : List ℕ) (e : ℕ) (rest : Sheet)
+            → (e ≡ at + length line) × (b ≡ copyOf buffer at line) × (length line ≤ longestLine)
+            → copyOf buffer at (line ++ rest .text) ≡ copyOf b e (rest .text)
+        copy-from b e rest f = sym (copy-then buffer at line (rest .text) b e (f .0) (f .1))
 
 abbrev Inv-loop : tie.InvT-loop
 Inv-loop image map buffer₀ listing₀ at₀ buffer listing at = Listed image map listing × Writing (left image map (length buffer₀) listing₀) buffer₀ buffer at (left image map (length buffer - at) listing)

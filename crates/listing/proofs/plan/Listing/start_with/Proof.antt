@@ -13,9 +13,9 @@ start-requires c κs = search needs
 enum-known-next : tie.Need-enum-known-next
 enum-known-next c = search needs
 
-first-requires : tie.Need-first-requires
-first-requires c κs = let a = c .before .before .before .before .before .before .before .before .before .before .args in
-    let s = starts (a .image .now) (a .map .now) _ (c .before .next .given .0 .0) (sym (ap paperStepped (c .before .next .given .1)) ∙ c .before .before .before .before .before .start .ensures .0) in (s .mapSize, s .some, s .counted)
+opening-requires : tie.Need-opening-requires
+opening-requires c κs = let a = c .before .before .before .before .before .before .before .before .before .before .args in
+    let s = starts (a .image .now) (a .map .now) _ (c .before .next .given .0 .0) (sym (ap paperStepped (c .before .next .given .1)) ∙ c .before .before .before .before .before .start .ensures .0) in (s .long, s .some, s .counted)
 
 enum-known-x : tie.Need-enum-known-x
 enum-known-x c = search needs
@@ -25,13 +25,15 @@ same-length c = search needs
 
 returns : tie.Need-returns
 returns c = let a = c .before .before .before .before .before .before .before .before .before .before .before .args in
-    let s = starts (a .image .now) (a .map .now) _ (c .before .before .next .given .0 .0) (sym (ap paperStepped (c .before .before .next .given .1)) ∙ c .before .before .before .before .before .before .start .ensures .0) in ap given (c .first .ensures) ∙ sym (s .begun)
+    let s = starts (a .image .now) (a .map .now) _ (c .before .before .next .given .0 .0) (sym (ap paperStepped (c .before .before .next .given .1)) ∙ c .before .before .before .before .before .before .start .ensures .0) in ap given (c .opening .ensures) ∙ sym (s .begun)
 
 same-length-2 : tie.Need-same-length-2
 same-length-2 c = search needs
 
 returns-2 : tie.Need-returns-2
-returns-2 c = start-refused (c .before .before .before .before .before .before .before .before .before .before .args .image .now) (c .before .before .before .before .before .before .before .before .before .before .args .map .now) _ _ (sym (ap paperStepped (c .before .x .given .1)) ∙ c .before .before .before .before .before .start .ensures .0)
+returns-2 c =
+    let s = c .before .before .before .before .before .before .before .before .before .before in
+    start-refused (s .args .image .now) (s .args .map .now) _ _ (sym (ap paperStepped (c .before .x .given .1)) ∙ c .before .before .before .before .before .start .ensures .0)
 
 pub start-with-spec : {M : Type 1} → statement M
 start-with-spec =
@@ -39,7 +41,7 @@ start-with-spec =
     (tie.spec
     start-requires
     enum-known-next
-    first-requires
+    opening-requires
     enum-known-x
     same-length
     returns

@@ -1,9 +1,24 @@
 -- `byte` meets its contract: an open text takes the byte, a refusal stays.
 use borrow.Author.Needs.{needs}
+use Prim.Native.Nat.{ℕ, _-_}
+use mathlib.Core.List.{List}
+use mathlib.Core.Path.{_≡_}
+use Rattle.image.specs.Paper.{paperRefusal}
+use Rattle.image.specs.declared.record.Refusal.{Refusal}
+use Rattle.listing.specs.Feed.{stopped, Fed, state, paperReading, textByte, progressByte}
 use Rattle.listing.specs.declared.text.Reading.{Reading}
-use Rattle.listing.proofs.Texts.{byte-open, byte-refused}
+use Rattle.listing.specs.declared.text.Text.{Text}
 use Rattle.listing.proofs.text.Reading.byte.Statement.{statement}
 use Rattle.listing.proofs.text.Reading.byte.Tie as tie
+
+module _ (size : ℕ) (r : Reading) (line image map : List ℕ) where
+  byte-open : (t : Text) (b : ℕ) (x : Fed) → r ≡ Reading.Open t → x ≡ textByte size t b line image map
+      → x ≡ progressByte size (paperReading r) b line image map
+  byte-open t b x e f = rw e f
+
+  byte-refused : (n b : ℕ) (x : Refusal) → r ≡ Reading.Refused n x
+      → state (stopped n (paperRefusal x)) line image map ≡ progressByte size (paperReading r) b line image map
+  byte-refused n b x e = rw e
 
 enum-known-self : tie.Need-enum-known-self
 enum-known-self c = search needs

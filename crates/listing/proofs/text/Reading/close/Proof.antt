@@ -1,9 +1,27 @@
 -- `close` meets its contract: the last line is taken, then the reader is closed; a refusal stays.
 use borrow.Author.Needs.{needs}
+use Prim.Native.Nat.{ℕ, _-_}
+use mathlib.Core.List.{List}
+use mathlib.Core.Path.{_≡_, ap}
+use Rattle.image.specs.Hex.{closeOf as closing}
+use Rattle.image.specs.Paper.{paperRefusal}
+use Rattle.image.specs.declared.record.Refusal.{Refusal}
+use Rattle.listing.specs.Feed.{Progress, stopped, state, paperReading, lastOf, shutOf, shutFed, progressClosed}
 use Rattle.listing.specs.declared.text.Reading.{Reading}
-use Rattle.listing.proofs.Texts.{close-open, close-refused}
+use Rattle.listing.specs.declared.text.Text.{Text}
 use Rattle.listing.proofs.text.Reading.close.Statement.{statement}
 use Rattle.listing.proofs.text.Reading.close.Tie as tie
+
+module _ (size : ℕ) (r : Reading) (line image map : List ℕ) where
+  -- the last line, and then closing
+  close-open : (t : Text) (i m : List ℕ) (p q : Progress) → r ≡ Reading.Open t → q ≡ shutOf p
+      → state p line i m ≡ lastOf size t line image map
+      → state q line i m ≡ progressClosed size (paperReading r) line image map
+  close-open t i m p q e f g = rw (e, f) (ap shutFed g)
+
+  close-refused : (n : ℕ) (x : Refusal) → r ≡ Reading.Refused n x
+      → state (stopped n (paperRefusal x)) line image map ≡ progressClosed size (paperReading r) line image map
+  close-refused n x e = rw e
 
 enum-known-self : tie.Need-enum-known-self
 enum-known-self c = search needs

@@ -1,8 +1,18 @@
 -- `ended` meets its contract: an open text is a file, a refusal stays.
 use borrow.Author.Needs.{needs}
-use Rattle.listing.proofs.Texts.{ended-refused}
+use Prim.Native.Nat.{ℕ, _-_}
+use mathlib.Core.Path.{_≡_}
+use Rattle.image.specs.Paper.{paperRefusal}
+use Rattle.image.specs.declared.record.Refusal.{Refusal}
+use Rattle.listing.specs.Text.{refusedAt}
+use Rattle.listing.specs.Feed.{paperReading, endedOf}
+use Rattle.listing.specs.declared.text.Reading.{Reading}
 use Rattle.listing.proofs.text.Reading.ended.Statement.{statement}
 use Rattle.listing.proofs.text.Reading.ended.Tie as tie
+
+ended-refused : (r : Reading) (n : ℕ) (x : Refusal) → r ≡ Reading.Refused n x
+    → refusedAt n (paperRefusal x) ≡ endedOf (paperReading r)
+ended-refused r n x e = rw e
 
 enum-told : tie.Need-enum-told
 enum-told c = search needs

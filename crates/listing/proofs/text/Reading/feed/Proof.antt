@@ -4,13 +4,13 @@ use mathlib.Core.Path.{_≡_, refl, sym, _∙_}
 use borrow.Author.Needs.{needs}
 use lib.ListN.{length, drop}
 use Rattle.basis.specs.Board.{flashSize}
-use Rattle.listing.specs.Feed.{paperReading, fed, feedOf}
+use Rattle.listing.specs.Feed.{paperReading, state, feedOf}
 use Rattle.listing.specs.Laws.Feed.{rest-lent, feed-next, feed-end}
 use Rattle.listing.proofs.text.Reading.feed.Statement.{statement}
 use Rattle.listing.proofs.text.Reading.feed.Tie as tie
 
 abbrev Inv-loop : tie.InvT-loop
-Inv-loop bytes line₀ image₀ map₀ reading₀ i₀ line image map reading i = (i ≤ length bytes) × (length line ≡ length line₀) × (length image ≡ length image₀) × (length map ≡ length map₀) × (feedOf flashSize (fed (paperReading reading) line image map) (drop i bytes) ≡ feedOf flashSize (fed (paperReading reading₀) line₀ image₀ map₀) bytes)
+Inv-loop bytes line₀ image₀ map₀ reading₀ i₀ line image map reading i = (i ≤ length bytes) × (length line ≡ length line₀) × (length image ≡ length image₀) × (length map ≡ length map₀) × (feedOf flashSize (state (paperReading reading) line image map) (drop i bytes) ≡ feedOf flashSize (state (paperReading reading₀) line₀ image₀ map₀) bytes)
 
 abbrev μ-loop : tie.MeasureT-loop
 μ-loop bytes line₀ image₀ map₀ reading₀ i₀ line image map reading i = length bytes - i

@@ -1,8 +1,25 @@
 -- `keep` meets its contract: an open text keeps the stretch, a refusal stays.
-use Rattle.listing.proofs.Texts.{keep-open, keep-refused}
 use borrow.Author.Needs.{needs}
+use Prim.Native.Nat.{ℕ, _-_}
+use mathlib.Core.List.{List, []}
+use mathlib.Core.Path.{_≡_}
+use Rattle.image.specs.Paper.{paperRefusal}
+use Rattle.image.specs.declared.record.Refusal.{Refusal}
+use Rattle.listing.specs.Feed.{Progress, stopped, going, state, paperReading, feedOf, Keeps}
+use Rattle.listing.specs.declared.text.Reading.{Reading}
+use Rattle.listing.specs.declared.text.Text.{Text}
 use Rattle.listing.proofs.text.Reading.keep.Statement.{statement}
 use Rattle.listing.proofs.text.Reading.keep.Tie as tie
+
+module _ (size : ℕ) (r : Reading) (line : List ℕ) where
+  keep-open : (t : Text) (bytes k : List ℕ) (q : Progress) (n : ℕ) → r ≡ Reading.Open t
+      → Keeps size (going t) line bytes q k n → Keeps size (paperReading r) line bytes q k n
+  keep-open t bytes k q n e h = rw e h
+
+  keep-refused : (n : ℕ) (x : Refusal) (image map : List ℕ) → r ≡ Reading.Refused n x
+      → state (stopped n (paperRefusal x)) line image map ≡ feedOf size (state (paperReading r) line image map) []
+  unfolding feedOf
+  keep-refused n x image map e = rw e
 
 enum-known-self : tie.Need-enum-known-self
 enum-known-self c = search needs

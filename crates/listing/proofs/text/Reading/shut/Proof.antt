@@ -1,11 +1,15 @@
 -- `shut` meets its contract: an open text is closed, a refusal stays.
-use mathlib.Core.Path.{sym, ap, _∙_}
+use mathlib.Core.Path.{sym, ap, _∙_, _≡_}
 use borrow.Author.Needs.{needs}
-use Rattle.listing.specs.Feed.{paperReading, shutOf}
+use Rattle.listing.specs.Feed.{paperReading, shutOf, Progress, stopped}
 use Rattle.listing.specs.declared.text.Reading.{Reading}
-use Rattle.listing.proofs.Texts.{shut-stopped}
+use Prim.Native.Nat.{ℕ, _-_}
 use Rattle.listing.proofs.text.Reading.shut.Statement.{statement}
 use Rattle.listing.proofs.text.Reading.shut.Tie as tie
+
+shut-stopped : (n k : ℕ) (p : Progress) → p ≡ stopped n k → stopped n k ≡ shutOf p
+unfolding shutOf
+shut-stopped n k p e = rw e
 
 enum-known-self : tie.Need-enum-known-self
 enum-known-self c = search needs

@@ -1,13 +1,31 @@
 -- `keep` meets its contract: each byte of the stretch is kept, as one by one.
-use Prim.Native.Nat.{_≤_, _-_}
+use Prim.Native.Nat.{_≤_, _-_, ℕ, _+_, _<_}
 use mathlib.Core.Path.{_≡_, refl}
 use borrow.Author.Needs.{needs}
-use lib.ListN.{length}
+use lib.ListN.{length, getD, set, take}
 use Rattle.basis.specs.Board.{flashSize}
-use Rattle.listing.specs.Feed.{feedOf}
-use Rattle.listing.proofs.Texts.{Gone, gone-more, gone-kept}
+use Rattle.listing.specs.Feed.{feedOf, Progress, going, state, withKept, keepOneOf, Keeps}
+use mathlib.Core.List.{List}
+use native.Mathlib.Omega.{arith}
+use Rattle.listing.specs.Laws.Feed.{feed-more}
+use Rattle.listing.specs.declared.text.Text.{Text}
+use Rattle.listing.proofs.Texts.{kept-by}
 use Rattle.listing.proofs.text.Text.keep.Statement.{statement}
 use Rattle.listing.proofs.text.Text.keep.Tie as tie
+
+module _ (size : ℕ) (t : Text) (line bytes : List ℕ) where
+  -- so many bytes are gone through, and n are kept
+  abbrev Gone : ℕ → List ℕ → ℕ → Type 0
+  Gone n k i = (image map : List ℕ) → state (going (withKept t n)) k image map ≡ feedOf size (state (going t) line image map) (take i bytes)
+
+  gone-more : (n m i : ℕ) (k l : List ℕ) → i + 1 < length bytes → (getD bytes i 0 ≡ 0x0A → ⊥)
+      → (m ≡ keepOneOf n k) × (l ≡ set k n (getD bytes i 0)) → Gone n k i → Gone m l (i + 1)
+  gone-more n m i k l h e f g image map =
+      feed-more size (state (going t) line image map) (state (going (withKept t n)) k image map) (state (going (withKept t m)) l image map) bytes i (omega arith) (g image map) (kept-by size (withKept t n) (getD bytes i 0) k image map m l e f)
+
+  gone-kept : (n i j : ℕ) (k : List ℕ) (p : Progress) → (p ≡ going (withKept t n)) × (j ≡ i)
+      → i ≤ length bytes - 1 → Gone n k i → Keeps size (going t) line bytes p k j
+  gone-kept n i j k p e h g = rw (e .0, e .1) (h, g)
 
 abbrev Inv-loop : tie.InvT-loop
 Inv-loop self bytes line₀ len₀ i₀ line len i = (i ≤ length bytes - 1) × (length line ≡ length line₀) × Gone flashSize self line₀ bytes len line i

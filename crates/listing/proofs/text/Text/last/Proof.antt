@@ -1,8 +1,27 @@
 -- `last` meets its contract: nothing behind the last 0A is no line.
 use borrow.Author.Needs.{needs}
-use Rattle.listing.proofs.Texts.{last-none, last-line}
+use Prim.Native.Nat.{ℕ, _-_}
+use mathlib.Core.List.{List}
+use mathlib.Core.Path.{_≡_}
+use borrow.Author.Tests.{eq-eqb, ne-eqb}
+use lib.ListN.{take}
+use Rattle.image.specs.Hex.{settled, recordIn}
+use Rattle.listing.specs.Feed.{Progress, going, state, tookBy, lastOf}
+use Rattle.listing.specs.declared.text.Text.{Text}
+use Rattle.listing.proofs.Texts.{Shown, took-shown}
 use Rattle.listing.proofs.text.Text.last.Statement.{statement}
 use Rattle.listing.proofs.text.Text.last.Tie as tie
+
+module _ (size : ℕ) (t : Text) (line image map : List ℕ) where
+  last-none : t .len ≡ 0 → state (going t) line image map ≡ lastOf size t line image map
+  unfolding lastOf
+  last-none e = rw (eq-eqb _ _ e)
+
+  last-line : (l i m : List ℕ) (p : Progress) → (t .len ≡ 0 → ⊥) → l ≡ take (t .len) line
+      → Shown (tookBy t) p i m (settled (recordIn size (t .hex) l image map) image map)
+      → state p line i m ≡ lastOf size t line image map
+  unfolding lastOf
+  last-line l i m p n el s = rw (ne-eqb _ _ n) (took-shown t p line i m (settled (recordIn size (t .hex) (take (t .len) line) image map) image map) (rw el at s))
 
 returns : tie.Need-returns
 returns c = last-none _ _ _ _ _ (c .if1 .taken)

@@ -1,8 +1,28 @@
 -- `take` meets its contract: the record's outcome, with the line counted.
 use borrow.Author.Needs.{needs}
-use Rattle.listing.proofs.Texts.{took-given, took-refused}
+use Prim.Native.Nat.{ℕ, _-_}
+use mathlib.Core.List.{List}
+use mathlib.Core.Path.{_≡_}
+use lib.ListN.{take}
+use Rattle.image.specs.Hex.{Settled, settledAs}
+use Rattle.image.specs.Paper.{paperRead, paperRefusal}
+use Rattle.image.specs.declared.hex.Hex.{Hex}
+use Rattle.image.specs.declared.hex.Read.{Read}
+use Rattle.image.specs.declared.record.Refusal.{Refusal}
+use Rattle.listing.specs.Feed.{stopped, going, nextLine, tookBy}
+use Rattle.listing.specs.declared.text.Text.{Text}
+use Rattle.listing.proofs.Texts.{Shown, shown}
 use Rattle.listing.proofs.text.Text.take.Statement.{statement}
 use Rattle.listing.proofs.text.Text.take.Tie as tie
+
+module _ (t : Text) (n : ℕ) (e : n ≡ nextLine t) (i m : List ℕ) (o : Settled) (r : Read) where
+  took-given : (h : Hex) → r ≡ Read.Taken h → settledAs (paperRead r) i m ≡ o
+      → Shown (tookBy t) (going (record { hex = h; lines = n; len = 0 })) i m o
+  took-given h f g = rw e (shown (tookBy t) r (Read.Taken h) i m o f g)
+
+  took-refused : (x : Refusal) → r ≡ Read.Refused x → settledAs (paperRead r) i m ≡ o
+      → Shown (tookBy t) (stopped n (paperRefusal x)) i m o
+  took-refused x f g = rw e (shown (tookBy t) r (Read.Refused x) i m o f g)
 
 wrapping-add-u64-requires : tie.Need-wrapping-add-u64-requires
 wrapping-add-u64-requires c κs = search needs

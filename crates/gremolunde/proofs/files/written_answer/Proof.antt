@@ -1,4 +1,4 @@
--- `told` meets its contract: each arm is one case of the writer's answer.
+-- `written_answer` meets its contract: each arm is one case of the writer's answer.
 use Prim.Native.Nat.{ℕ}
 use mathlib.Core.Path.{ap, sym, _∙_}
 use borrow.Author.Needs.{needs}
@@ -6,8 +6,8 @@ use Rattle.basis.specs.Refusals.{refused}
 use Rattle.image.specs.Paper.{paperWritten}
 use Rattle.image.specs.declared.writer.Written.{Written}
 use Rattle.gremolunde.specs.Answers.{writtenAnswer}
-use Rattle.gremolunde.proofs.files.told.Statement.{statement}
-use Rattle.gremolunde.proofs.files.told.Tie as tie
+use Rattle.gremolunde.proofs.files.written_answer.Statement.{statement}
+use Rattle.gremolunde.proofs.files.written_answer.Tie as tie
 
 enum-known-answer : tie.Need-enum-known-answer
 enum-known-answer c = search needs
@@ -33,8 +33,8 @@ returns-2 c =
     ∙ ap (λ (n : ℕ). writtenAnswer from (refused n)) (c .before .number .ensures)
     ∙ ap (λ (x : Written). writtenAnswer from (paperWritten x)) (sym (c .before .before .before .answer2 .given .1))
 
-pub told-spec : {M : Type 1} → statement M
-told-spec =
+pub written-answer-spec : {M : Type 1} → statement M
+written-answer-spec =
     tie.close
     (tie.spec
     enum-known-answer

@@ -1,4 +1,4 @@
--- `built` meets its contract: each arm is one case of the builder's answer.
+-- `length_answer` meets its contract: each arm is one case of the builder's answer.
 use Prim.Native.Nat.{ℕ}
 use mathlib.Core.Path.{ap, sym, _∙_}
 use borrow.Author.Needs.{needs}
@@ -6,8 +6,8 @@ use Rattle.basis.specs.Refusals.{refused}
 use Rattle.packet.specs.Paper.{paperBuilt}
 use Rattle.packet.specs.declared.build.Built.{Built}
 use Rattle.gremolunde.specs.Answers.{lengthAnswer}
-use Rattle.gremolunde.proofs.packets.built.Statement.{statement}
-use Rattle.gremolunde.proofs.packets.built.Tie as tie
+use Rattle.gremolunde.proofs.packets.length_answer.Statement.{statement}
+use Rattle.gremolunde.proofs.packets.length_answer.Tie as tie
 
 enum-known-answer : tie.Need-enum-known-answer
 enum-known-answer c = search needs
@@ -36,8 +36,8 @@ returns-2 c = c .refused .ensures ∙ ap (λ (x : Built). lengthAnswer (paperBui
 returns-3 : tie.Need-returns-3
 returns-3 c = c .refused2 .ensures ∙ ap (λ (n : ℕ). lengthAnswer (refused n)) (c .before .number .ensures) ∙ ap (λ (x : Built). lengthAnswer (paperBuilt x)) (sym (c .before .before .before .answer2 .given .1))
 
-pub built-spec : {M : Type 1} → statement M
-built-spec =
+pub length-answer-spec : {M : Type 1} → statement M
+length-answer-spec =
     tie.close
     (tie.spec
     enum-known-answer

@@ -1,11 +1,11 @@
--- `answered` meets its contract: the next reader is shown, or the refusal's number with the reader as it came.
+-- `hex_answer` meets its contract: the next reader is shown, or the refusal's number with the reader as it came.
 use mathlib.Core.Path.{ap, sym, _∙_}
 use borrow.Author.Needs.{needs}
 use Rattle.image.specs.Paper.{paperRead}
 use Rattle.image.specs.declared.hex.Read.{Read}
 use Rattle.gremolunde.specs.Answers.{hexAnswer}
-use Rattle.gremolunde.proofs.files.answered.Statement.{statement}
-use Rattle.gremolunde.proofs.files.answered.Tie as tie
+use Rattle.gremolunde.proofs.files.hex_answer.Statement.{statement}
+use Rattle.gremolunde.proofs.files.hex_answer.Tie as tie
 
 enum-known-answer : tie.Need-enum-known-answer
 enum-known-answer c = search needs
@@ -25,8 +25,8 @@ returns c = (λ i. record { number = 0; reader = c .hex-shown .ensures i }) ∙ 
 returns-2 : tie.Need-returns-2
 returns-2 c = (λ i. record { number = c .number .ensures i; reader = c .before .before .before .before .args .reader }) ∙ ap (λ (x : Read). hexAnswer (c .before .before .before .before .args .reader) (paperRead x)) (sym (c .before .before .answer2 .given .1))
 
-pub answered-spec : {M : Type 1} → statement M
-answered-spec =
+pub hex-answer-spec : {M : Type 1} → statement M
+hex-answer-spec =
     tie.close
     (tie.spec
     enum-known-answer

@@ -1,11 +1,11 @@
--- `marked` meets its contract: each arm is one case of a mark.
+-- `mark_answer` meets its contract: each arm is one case of a mark.
 use mathlib.Core.Path.{ap, sym}
 use borrow.Author.Needs.{needs}
 use Rattle.session.specs.Paper.{paperMark}
 use Rattle.session.specs.declared.session.Mark.{Mark}
 use Rattle.gremolunde.specs.Answers.{markAnswer}
-use Rattle.gremolunde.proofs.sessions.marked.Statement.{statement}
-use Rattle.gremolunde.proofs.sessions.marked.Tie as tie
+use Rattle.gremolunde.proofs.sessions.mark_answer.Statement.{statement}
+use Rattle.gremolunde.proofs.sessions.mark_answer.Tie as tie
 
 enum-told : tie.Need-enum-told
 enum-told c = search needs
@@ -25,5 +25,5 @@ returns-2 c = ap (λ (x : Mark). markAnswer (paperMark x)) (sym (c .enum-told2 .
 returns-3 : tie.Need-returns-3
 returns-3 c = ap (λ (x : Mark). markAnswer (paperMark x)) (sym (c .enum-told3 .given .1))
 
-pub marked-spec : {M : Type 1} → statement M
-marked-spec = tie.close (tie.spec enum-told enum-told-2 enum-told-3 returns returns-2 returns-3)
+pub mark-answer-spec : {M : Type 1} → statement M
+mark-answer-spec = tie.close (tie.spec enum-told enum-told-2 enum-told-3 returns returns-2 returns-3)

@@ -1,4 +1,4 @@
--- `told` meets its contract: each arm is one case of the reader's answer.
+-- `parts_answer` meets its contract: each arm is one case of the reader's answer.
 use Prim.Native.Nat.{ℕ}
 use mathlib.Core.Path.{ap, sym, _∙_}
 use borrow.Author.Needs.{needs}
@@ -6,8 +6,8 @@ use Rattle.basis.specs.Refusals.{refused}
 use Rattle.packet.specs.Paper.{paperReading}
 use Rattle.packet.specs.declared.read.Reading.{Reading}
 use Rattle.gremolunde.specs.Answers.{partsAnswer}
-use Rattle.gremolunde.proofs.packets.told.Statement.{statement}
-use Rattle.gremolunde.proofs.packets.told.Tie as tie
+use Rattle.gremolunde.proofs.packets.parts_answer.Statement.{statement}
+use Rattle.gremolunde.proofs.packets.parts_answer.Tie as tie
 
 enum-known-answer : tie.Need-enum-known-answer
 enum-known-answer c = search needs
@@ -27,8 +27,8 @@ returns c = let p = c .before .before .before .answer .given .0 .0 in (λ i. rec
 returns-2 : tie.Need-returns-2
 returns-2 c = ap (λ (n : ℕ). partsAnswer (refused n)) (c .number .ensures) ∙ ap (λ (x : Reading). partsAnswer (paperReading x)) (sym (c .before .before .answer2 .given .1))
 
-pub told-spec : {M : Type 1} → statement M
-told-spec =
+pub parts-answer-spec : {M : Type 1} → statement M
+parts-answer-spec =
     tie.close
     (tie.spec
     enum-known-answer

@@ -1,11 +1,11 @@
--- `told` meets its contract: the next loader is shown, or the refusal's number with the loader as it came.
+-- `taken_answer` meets its contract: the next loader is shown, or the refusal's number with the loader as it came.
 use mathlib.Core.Path.{ap, sym, _∙_}
 use borrow.Author.Needs.{needs}
 use Rattle.loader.specs.Paper.{paperVerdict}
 use Rattle.loader.specs.declared.verdict.Verdict.{Verdict}
 use Rattle.gremolunde.specs.Answers.{takenAnswer}
-use Rattle.gremolunde.proofs.loading.told.Statement.{statement}
-use Rattle.gremolunde.proofs.loading.told.Tie as tie
+use Rattle.gremolunde.proofs.loading.taken_answer.Statement.{statement}
+use Rattle.gremolunde.proofs.loading.taken_answer.Tie as tie
 
 enum-told : tie.Need-enum-told
 enum-told c = search needs
@@ -25,8 +25,8 @@ returns c = (λ i. record { number = 0; answered = c .before .before .before .ar
 returns-2 : tie.Need-returns-2
 returns-2 c = (λ i. record { number = c .number .ensures i; answered = c .before .before .before .before .args .answered; loader = c .before .before .before .before .args .loader }) ∙ ap (λ (x : Verdict). takenAnswer (c .before .before .before .before .args .loader) (paperVerdict x) (c .before .before .before .before .args .next) (c .before .before .before .before .args .answered)) (sym (c .before .before .verdict .given .1))
 
-pub told-spec : {M : Type 1} → statement M
-told-spec =
+pub taken-answer-spec : {M : Type 1} → statement M
+taken-answer-spec =
     tie.close
     (tie.spec
     enum-told

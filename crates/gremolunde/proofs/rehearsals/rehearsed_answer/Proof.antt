@@ -1,50 +1,38 @@
-use mathlib.Core.Path.{refl, ap, sym, _∙_}
+-- `rehearsed_answer` meets its contract: loader and session at the end are shown, or the refusal's number with the loader as it came.
+use mathlib.Core.Path.{ap, sym, _∙_}
 use Rattle.gremolunde.specs.Answers.{rehearsedAnswer}
 use Rattle.line.specs.Paper.{paperRehearsed}
 use Rattle.line.specs.declared.rehearse.Rehearsed.{Rehearsed}
 use borrow.Author.Needs.{needs}
-use Rattle.gremolunde.proofs.rehearsals.told.Statement.{statement}
-use Rattle.gremolunde.proofs.rehearsals.told.Tie as tie
-use Rattle.gremolunde.proofs.rehearsals.told.Reads as reads
-use Rattle.gremolunde.proofs.rehearsals.told.Lts as lts
-use Rattle.gremolunde.proofs.sessions.no_session.Reads as no-session-reads
-use Rattle.gremolunde.proofs.states.loader_shown.Reads as loader-shown-reads
-use Rattle.gremolunde.proofs.states.session_shown.Reads as session-shown-reads
+use Rattle.gremolunde.proofs.rehearsals.rehearsed_answer.Statement.{statement}
+use Rattle.gremolunde.proofs.rehearsals.rehearsed_answer.Tie as tie
 
--- src/rehearsals.rt:49:26
 enum-known-answer : tie.Need-enum-known-answer
 enum-known-answer c = search needs
 
--- src/rehearsals.rt:54:25
 loader-shown-requires : tie.Need-loader-shown-requires
 loader-shown-requires c κs = search needs
 
--- src/rehearsals.rt:55:26
 session-shown-requires : tie.Need-session-shown-requires
 session-shown-requires c κs = search needs
 
--- src/rehearsals.rt:58:28
 enum-known-answer-2 : tie.Need-enum-known-answer-2
 enum-known-answer-2 c = search needs
 
--- src/rehearsals.rt:59:21
 number-requires : tie.Need-number-requires
 number-requires c κs = search needs
 
--- src/rehearsals.rt:61:22
 no-session-requires : tie.Need-no-session-requires
 no-session-requires c κs = search needs
 
--- src/rehearsals.rt:45:1
 returns : tie.Need-returns
 returns c = (λ i. record { number = 0; loader = c .before .loader-shown .ensures i; session = c .session-shown .ensures i }) ∙ ap (λ (x : Rehearsed). rehearsedAnswer (c .before .before .before .before .before .before .before .args .loader) (paperRehearsed x)) (sym (c .before .before .before .before .before .answer .given .1))
 
--- src/rehearsals.rt:45:1
 returns-2 : tie.Need-returns-2
 returns-2 c = (λ i. record { number = c .before .number .ensures i; loader = c .before .before .before .before .before .args .loader; session = c .no-session .ensures i }) ∙ ap (λ (x : Rehearsed). rehearsedAnswer (c .before .before .before .before .before .args .loader) (paperRehearsed x)) (sym (c .before .before .before .answer2 .given .1))
 
-pub told-spec : {M : Type 1} → statement M
-told-spec =
+pub rehearsed-answer-spec : {M : Type 1} → statement M
+rehearsed-answer-spec =
     tie.close
     (tie.spec
     enum-known-answer

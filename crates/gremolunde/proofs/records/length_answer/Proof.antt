@@ -1,0 +1,34 @@
+-- `length_answer` meets its contract: each arm is one case of the writer's answer.
+use Prim.Native.Nat.{ℕ}
+use mathlib.Core.Path.{ap, sym, _∙_}
+use borrow.Author.Needs.{needs}
+use Rattle.basis.specs.Refusals.{refused}
+use Rattle.service_log.specs.Paper.{paperWritten}
+use Rattle.service_log.specs.declared.write.Written.{Written}
+use Rattle.gremolunde.specs.Answers.{lengthAnswer}
+use Rattle.gremolunde.proofs.records.length_answer.Statement.{statement}
+use Rattle.gremolunde.proofs.records.length_answer.Tie as tie
+
+enum-told : tie.Need-enum-told
+enum-told c = search needs
+
+enum-known-answer : tie.Need-enum-known-answer
+enum-known-answer c = search needs
+
+number-requires : tie.Need-number-requires
+number-requires c κs = search needs
+
+refused-requires : tie.Need-refused-requires
+refused-requires c κs = search needs
+
+returns : tie.Need-returns
+returns c = ap (λ (x : Written). lengthAnswer (paperWritten x)) (sym (c .enum-told .given .1))
+
+returns-2 : tie.Need-returns-2
+returns-2 c =
+    c .refused .ensures ∙ ap (λ (n : ℕ). lengthAnswer (refused n)) (c .before .number .ensures)
+    ∙ ap (λ (x : Written). lengthAnswer (paperWritten x)) (sym (c .before .before .before .answer .given .1))
+
+pub length-answer-spec : {M : Type 1} → statement M
+length-answer-spec =
+    tie.close (tie.spec enum-told enum-known-answer number-requires refused-requires returns returns-2)
