@@ -36,7 +36,7 @@ module _ (op : ℕ → ℕ → ℕ) where
   stored-below flash a (x ∷ s) j h =
       stored-below (one flash a x) (a + 1) s j (omega arith) ∙ getD-set-other flash a j _ 0 (λ e. omega arith)
 
-  stored-above : (flash : List ℕ) (a : ℕ) (s : List ℕ) (j : ℕ) → a + length s ≤ j
+  pub stored-above : (flash : List ℕ) (a : ℕ) (s : List ℕ) (j : ℕ) → a + length s ≤ j
       → getD (stored op flash a s) j 0 ≡ getD flash j 0
   unfolding stored
   stored-above flash a [] j h = refl
