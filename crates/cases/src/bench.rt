@@ -167,7 +167,7 @@ impl Bench {
         self.number(number).bytes(bytes)
     }
 
-    // A value behind a space; one with no bytes leaves nothing. None has more bytes than the flash.
+    // A value after a space; one with no bytes leaves nothing. None has more bytes than the flash.
     pub fn bytes(self, bytes: &[u8]) -> Bench {
         let n = bytes.len();
         if SIZE < n {

@@ -97,7 +97,7 @@ impl Input {
         len
     }
 
-    // What stands behind the last 0A; nothing is no line.
+    // What stands after the last 0A; nothing is no line.
     fn last(self, len: usize) -> Line {
         let mut line = self.ended(len);
         line.over = true;

@@ -32,7 +32,7 @@ pub fn head(text: &[u8]) -> &[u8] {
     &text[..space(text)]
 }
 
-// What stands behind the first space, or nothing.
+// What stands after the first space, or nothing.
 pub fn rest(text: &[u8]) -> &[u8] {
     let n = text.len();
     let at = space(text);

@@ -1,4 +1,4 @@
--- The loader of 01. Definitions stand here lowest first, what is proved of them under Laws.
+-- The loader. Definitions stand here lowest first, what is proved of them under Laws.
 pub mod Protection
 pub mod State
 pub mod Verify

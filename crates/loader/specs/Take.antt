@@ -33,13 +33,13 @@ abbrev pub opensBoard : List ℕ → Bool
 opensBoard s = both (eqb (length s) 1) (eqb (getD s 0 0) openingByte)
 
 -- the bytes after a packet's address, as they were sent
-abbrev pub dataIn : List ℕ → Parts → List ℕ
-dataIn s p = take (p .size) (drop (p .place) s)
+abbrev pub sentData : List ℕ → Parts → List ℕ
+sentData s p = take (p .size) (drop (p .place) s)
 
 -- serving reads the input and obeys it
 abbrev pub obeyed : ℕ → Loader → List ℕ → List ℕ → Answer Parts → Answer Effect
 obeyed k l s f (refused n) = refused n
-obeyed k l s f (given p) = obeyOf k l (p .command) (p .address) (dataIn s p) f
+obeyed k l s f (given p) = obeyOf k l (p .command) (p .address) (sentData s p) f
 
 unfoldable pub serveOf : ℕ → Loader → List ℕ → List ℕ → Answer Effect
 serveOf k l s f = obeyed k l s f (readOf s)

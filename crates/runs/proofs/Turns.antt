@@ -3,7 +3,7 @@ use Prim.Native.Nat.{ℕ, zero, suc, _+_, _-_, _≤_, _<_}
 use native.Mathlib.Numerals.{add-one}
 use native.Mathlib.Nat.{add-zero, zero-add, sub-zero}
 use native.Mathlib.Omega.{arith}
-use mathlib.Core.Path.{_≡_, refl, ap, ap₂}
+use mathlib.Core.Path.{_≡_, refl, ap, ap₂, subst}
 use mathlib.Core.Bool.{Bool, true, false}
 use Rattle.runs.specs.Runs.{next, len}
 
@@ -53,3 +53,15 @@ module _ (p : ℕ → Bool) (a cap n : ℕ) (inv : len p a cap ≡ n + len p (a 
       let s : suc (a + n) ≡ a + (n + 1) = omega arith in
       let t : cap - n - 1 ≡ cap - (n + 1) = omega arith in
       omega (arith, len-some p (a + n) (cap - n) (omega arith) h, ap₂ (len p) s t)
+
+-- k steps at once
+pub len-step : (p : ℕ → Bool) (a cap n k : ℕ) → len p a cap ≡ n + len p (a + n) (cap - n) → n + k ≤ cap
+    → ((i : ℕ) → i < k → p (a + n + i) ≡ true)
+    → len p a cap ≡ n + k + len p (a + (n + k)) (cap - (n + k))
+len-step p a cap n zero inv l h = rw add-zero inv
+len-step p a cap n (suc k) inv l h =
+    let e : n + k + 1 ≡ n + suc k = omega arith in
+    let q : a + n + k ≡ a + (n + k) = omega arith in
+    subst (λ (j : ℕ). len p a cap ≡ j + len p (a + j) (cap - j)) e
+    (len-go p a cap (n + k) (len-step p a cap n k inv (omega arith) (λ i m. h i (omega arith))) (omega arith)
+    (subst (λ (j : ℕ). p j ≡ true) q (h k (omega arith))))

@@ -1,7 +1,8 @@
 -- The map of named addresses: one bit an address, lowest bit first.
-use Prim.Native.Nat.{ℕ, zero, suc, _+_, _*_, _/_, _%_, _^_}
+use Prim.Native.Nat.{ℕ, zero, suc, _+_, _*_, _/_, _%_, _^_, _≤_, _<_}
 use mathlib.Core.List.{List}
-use mathlib.Core.Bool.{Bool}
+use mathlib.Core.Bool.{Bool, true, false}
+use mathlib.Core.Path.{_≡_}
 use lib.ListN.{getD, set}
 use lib.Bits.{bitOr}
 use Rattle.basis.specs.Bits.{bit}
@@ -18,6 +19,10 @@ nameOf m a = set m (a / 8) (bitOr (getD m (a / 8) 0) (2 ^ (a % 8)))
 -- one of the n places from a on is named
 abbrev pub anyNamed : List ℕ → ℕ → ℕ → Bool
 anyNamed m a n = any (named m) a n
+
+-- a step of r in a row that has room for so many more: each of its places is named, and 0 is the row's end
+abbrev pub Stride : List ℕ → ℕ → ℕ → ℕ → Type 0
+Stride m a most r = (r ≤ most) × ((i : ℕ) → i < r → named m (a + i) ≡ true) × (r ≡ 0 → named m a ≡ false)
 
 -- the map with the n places from a on named
 unfoldable pub nameAllOf : List ℕ → ℕ → ℕ → List ℕ

@@ -3,7 +3,7 @@
 ghost use mathlib.Core.Path.{_≡_};
 ghost use Prim.Native.Nat.{_+_, _-_, _*_, _^_, _<_, _≤_};
 ghost use lib.ListN.{length};
-ghost use Rattle.runs.specs.Map.{named, anyNamed, nameAllOf};
+ghost use Rattle.runs.specs.Map.{named, anyNamed, nameAllOf, Stride};
 ghost use Rattle.runs.specs.Runs.{next, len};
 use crate::map::name;
 use crate::map::named;
@@ -56,14 +56,36 @@ pub fn row_len(map: &[u8], from: Address, cap: u32) -> u32
     let start = from.0;
     let mut n: u32 = 0;
     while n < cap {
-        let at = start + n;
-        if map.len() <= (at / 8) as usize {
+        let more = stride(map, Address(start + n), cap - n);
+        if more == 0 {
             return n;
         }
-        if !named(map, Address(at)) {
-            return n;
-        }
-        n += 1;
+        n += more;
     }
     n
+}
+
+// The next step of a row: eight addresses where a whole byte of the map names them, else one, or 0 at the row's end.
+fn stride(map: &[u8], from: Address, most: u32) -> u32
+    requires { ⌜ 0 < most ⌝ }
+    ensures { λ r. ⌜ Stride (now (map .entry)) (from .0) most r ⌝ }
+{
+    let at = from.0;
+    let byte = (at / 8) as usize;
+    if map.len() <= byte {
+        return 0;
+    }
+    if !named(map, from) {
+        return 0;
+    }
+    if most < 8 {
+        return 1;
+    }
+    if at % 8 != 0 {
+        return 1;
+    }
+    if map[byte] != 0xFF {
+        return 1;
+    }
+    8
 }

@@ -1,4 +1,4 @@
--- The service log of 01. Definitions stand here, what is proved of them under Laws.
+-- The service log. Definitions stand here, what is proved of them under Laws.
 pub mod Log
 pub mod Paper
 pub mod Laws

@@ -1,4 +1,4 @@
--- The host session of 01. Definitions stand here in the paper's order, what is proved of them under Laws.
+-- The host session. Definitions stand here in the paper's order, what is proved of them under Laws.
 pub mod Plan
 pub mod Events
 pub mod Phases

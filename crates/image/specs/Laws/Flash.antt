@@ -72,12 +72,6 @@ copy-overlay w old (x ∷ s) k e h =
 pub length-erase : (flash : List ℕ) (a n : ℕ) → length (eraseOf flash a n) ≡ length flash
 length-erase flash a n = length-stored new flash a (replicate n 0xFF)
 
-pub erase-below : (flash : List ℕ) (a n j : ℕ) → j < a → getD (eraseOf flash a n) j 0 ≡ getD flash j 0
-erase-below flash a n = stored-below new flash a (replicate n 0xFF)
-
-pub erase-above : (flash : List ℕ) (a n j : ℕ) → a + n ≤ j → getD (eraseOf flash a n) j 0 ≡ getD flash j 0
-erase-above flash a n j h = stored-above new flash a (replicate n 0xFF) j (simp length-replicate h)
-
 pub erase-at : (flash : List ℕ) (a n k : ℕ) → k < n → a + n ≤ length flash
     → getD (eraseOf flash a n) (a + k) 0 ≡ 0xFF
 erase-at flash a n k h l =
@@ -88,25 +82,13 @@ erase-at flash a n k h l =
 pub length-store : (flash : List ℕ) (a : ℕ) (s : List ℕ) → length (storeOf flash a s) ≡ length flash
 length-store = length-stored bitAnd
 
-pub store-below : (flash : List ℕ) (a : ℕ) (s : List ℕ) (j : ℕ) → j < a
-    → getD (storeOf flash a s) j 0 ≡ getD flash j 0
-store-below = stored-below bitAnd
-
-pub store-above : (flash : List ℕ) (a : ℕ) (s : List ℕ) (j : ℕ) → a + length s ≤ j
-    → getD (storeOf flash a s) j 0 ≡ getD flash j 0
-store-above = stored-above bitAnd
-
-pub store-at : (flash : List ℕ) (a : ℕ) (s : List ℕ) (k : ℕ) → k < length s → a + length s ≤ length flash
-    → getD (storeOf flash a s) (a + k) 0 ≡ bitAnd (getD flash (a + k) 0) (getD s k 0)
-store-at = stored-at bitAnd
-
 and-blank : (x : ℕ) → x < 256 → bitAnd 0xFF x ≡ x
 and-blank x h = and-comm 0xFF x ∙ and-mask x 8 ∙ mod-eq-of-lt h
 
 module _ (flash : List ℕ) (a : ℕ) (s : List ℕ) (l : a + length s ≤ length flash) (blank : Blank flash a (length s)) (bytes : Bytes s) where
   -- a byte stored over blank flash reads back, and so do all of them
   pub store-blank-at : (k : ℕ) → k < length s → getD (storeOf flash a s) (a + k) 0 ≡ getD s k 0
-  store-blank-at k h = store-at flash a s k h l ∙ rw (blank k h) (and-blank (getD s k 0) (bytes k))
+  store-blank-at k h = stored-at bitAnd flash a s k h l ∙ rw (blank k h) (and-blank (getD s k 0) (bytes k))
 
   pub store-blank : take (length s) (drop a (storeOf flash a s)) ≡ s
   store-blank =

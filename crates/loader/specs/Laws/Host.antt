@@ -14,7 +14,7 @@ use Rattle.loader.specs.Commands.{effectAfter, keeping, erasing, writing
 use Rattle.loader.specs.Laws.Commands.{obey-erase, obey-write, obey-verify, obey-run, keeping-is}
 use Rattle.loader.specs.Laws.Take.{heard-waiting, heard-serving, served-packet, take-heard, any-input}
 use Rattle.loader.specs.State.{withCondition}
-use Rattle.loader.specs.Take.{takeOf, dataIn}
+use Rattle.loader.specs.Take.{takeOf, sentData}
 use Rattle.loader.specs.declared.state.Condition.the-variants.{Waiting, Serving}
 use Rattle.loader.specs.declared.state.Loader.{Loader}
 use Rattle.packet.specs.Laws.Packet.{packet-data, carried-plainly, read-erase, read-write, read-verify, read-run}
@@ -79,4 +79,4 @@ pub flash-by : (k : ℕ) (l : Loader) (s f : List ℕ) (room : ℕ)
     → effectAfter l f (takeOf k l s f room) .flash ≡ f
 flash-by k l s f room h =
     any-input (λ (e : Effect). e .flash ≡ f) k l s f room refl refl
-    (λ p e. let q = h p e in flash-kept k l (p .command) (p .address) (dataIn s p) f (q .0) (q .1))
+    (λ p e. let q = h p e in flash-kept k l (p .command) (p .address) (sentData s p) f (q .0) (q .1))

@@ -20,7 +20,7 @@ use Rattle.loader.specs.Laws.Commands.{either-way, erasing-open, erasing
 use Rattle.loader.specs.Laws.Take.{any-input}
 use Rattle.loader.specs.Protection.{none, joinOf}
 use Rattle.loader.specs.State.{withCondition, withAdded, joinedOf}
-use Rattle.loader.specs.Take.{dataIn, takeOf}
+use Rattle.loader.specs.Take.{sentData, takeOf}
 use Rattle.loader.specs.declared.protection.Protection.{Protection}
 use Rattle.loader.specs.declared.state.Condition.the-variants.{Left}
 use Rattle.loader.specs.declared.state.Loader.{Loader}
@@ -100,13 +100,13 @@ module _ (k : ℕ) (l : Loader) (a : ℕ) where
 -- so of all inputs only a packet of these two changes it
 pub force-by : (k : ℕ) (l : Loader) (s f : List ℕ) (room : ℕ)
     → ((p : Parts) → readOf s ≡ given p
-    → (p .command ≡ 0x45 → massErase (p .address) (getD (dataIn s p) 0 0) ≡ false)
+    → (p .command ≡ 0x45 → massErase (p .address) (getD (sentData s p) 0 0) ≡ false)
     × (p .command ≡ 0x50
-    → either (eqb (getD (dataIn s p) 0 0) 0x00) (eqb (getD (dataIn s p) 0 0) 0x0F) ≡ true))
+    → either (eqb (getD (sentData s p) 0 0) 0x00) (eqb (getD (sentData s p) 0 0) 0x0F) ≡ true))
     → force (effectAfter l f (takeOf k l s f room) .loader) ≡ force l
 force-by k l s f room h =
     any-input (λ (e : Effect). force (e .loader) ≡ force l) k l s f room refl refl
-    (λ p e. let q = h p e in force-kept k l (p .address) (p .command) (dataIn s p) f (q .0) (q .1))
+    (λ p e. let q = h p e in force-kept k l (p .address) (p .command) (sentData s p) f (q .0) (q .1))
 
 -- and by the latter it grows: no group and no read protection is lost
 pub close-grows : (l : Loader) (a g : ℕ) → bit (l .protection .groups) g ≡ true

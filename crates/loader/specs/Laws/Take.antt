@@ -14,7 +14,7 @@ use Rattle.basis.specs.Refusals.{refused, given, Answer, first}
 use Rattle.basis.specs.Units.{startOf}
 use Rattle.loader.specs.Commands.{obeyOf, Effect, effectAfter}
 use Rattle.loader.specs.State.{withCondition}
-use Rattle.loader.specs.Take.{opensBoard, serveOf, hearOf, takeOf, waiting, obeyed, dataIn, unheard, sizesWrong}
+use Rattle.loader.specs.Take.{opensBoard, serveOf, hearOf, takeOf, waiting, obeyed, sentData, unheard, sizesWrong}
 use Rattle.loader.specs.declared.state.Condition.the-variants.{Waiting, Serving, Left}
 use Rattle.loader.specs.declared.state.Loader.{Loader}
 use Rattle.packet.specs.Packet.{Parts, readOf}
@@ -44,7 +44,7 @@ module _ (k : ℕ) (l : Loader) (s f : List ℕ) where
   served-unread e = rw e
 
   pub served-packet : (p : Parts) → readOf s ≡ given p
-      → serveOf k l s f ≡ obeyOf k l (p .command) (p .address) (dataIn s p) f
+      → serveOf k l s f ≡ obeyOf k l (p .command) (p .address) (sentData s p) f
   unfolding serveOf
   served-packet p e = rw e
 
@@ -72,7 +72,7 @@ pub any-input : (P : Effect → Type 0) (k : ℕ) (l : Loader) (s f : List ℕ) 
     → P (record { loader = l; flash = f })
     → P (record { loader = withCondition l Serving; flash = f })
     → ((p : Parts) → readOf s ≡ given p
-    → P (effectAfter l f (obeyOf k l (p .command) (p .address) (dataIn s p) f)))
+    → P (effectAfter l f (obeyOf k l (p .command) (p .address) (sentData s p) f)))
     → P (effectAfter l f (takeOf k l s f room))
 unfolding takeOf hearOf serveOf first
 any-input P k l s f room as-was greeted obeys =
