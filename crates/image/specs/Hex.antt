@@ -7,7 +7,7 @@ use lib.ListN.{length, drop, replicate}
 use Rattle.basis.specs.Choice.{pick, both, either}
 use Rattle.basis.specs.Refusals.{Answer, refused, given, Rule, _when_, first}
 use Rattle.image.specs.Digits.{decoded}
-use Rattle.image.specs.Flash.{copyOf}
+use Rattle.basis.specs.Lists.{copyOf}
 use Rattle.image.specs.Record.{count, address, kind, payload, value, isData, characterRows, byteRows, shapeRows}
 use Rattle.image.specs.declared.hex.Hex.{Hex}
 use Rattle.runs.specs.Map.{anyNamed, nameAllOf}

@@ -1,9 +1,8 @@
-// Flash and images as their bytes: a range is erased, bytes are stored or copied in.
-// All go upward, one byte after another.
+// Flash as its bytes: a range is erased, bytes are stored. Both go upward, one byte after another.
 ghost use mathlib.Core.Path.{_≡_};
 ghost use Prim.Native.Nat.{_+_, _≤_};
 ghost use lib.ListN.{length};
-ghost use Rattle.image.specs.Flash.{eraseOf, storeOf, copyOf};
+ghost use Rattle.image.specs.Flash.{eraseOf, storeOf};
 use basis::units::Address;
 
 pub fn erase(flash: &mut [u8], from: Address, count: usize)
@@ -25,18 +24,6 @@ pub fn store(flash: &mut [u8], from: Address, bytes: &[u8])
     let mut i = 0;
     while i < bytes.len() {
         flash[at + i] = flash[at + i] & bytes[i];
-        i += 1;
-    }
-}
-
-// An image takes its bytes whatever stood there.
-pub fn copy(image: &mut [u8], at: usize, bytes: &[u8])
-    requires { ⌜ at + length (now bytes) ≤ length (now image) ⌝ }
-    ensures { λ _. ⌜ now (image .exit) ≡ copyOf (now (image .entry)) at (now (bytes .entry)) ⌝ }
-{
-    let mut i = 0;
-    while i < bytes.len() {
-        image[at + i] = bytes[i];
         i += 1;
     }
 }

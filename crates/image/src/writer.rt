@@ -2,9 +2,8 @@
 ghost use mathlib.Core.Path.{_≡_};
 ghost use Prim.Native.Nat.{_+_, _*_, _<_, _≤_};
 ghost use lib.ListN.{length};
-ghost use Rattle.basis.specs.Lists.{overlay};
+ghost use Rattle.basis.specs.Lists.{overlay, copyOf};
 ghost use Rattle.basis.specs.Board.{flashSize};
-ghost use Rattle.image.specs.Flash.{copyOf};
 ghost use Rattle.image.specs.Paper.{paperWritten};
 ghost use Rattle.image.specs.Writer.{letterOf, spelt, text, measured, textBytes, writeIn};
 use crate::record::Refusal;

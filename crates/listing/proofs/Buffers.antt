@@ -4,9 +4,8 @@ use mathlib.Core.List.{List, [], _∷_, _++_}
 use mathlib.Core.Path.{_≡_, refl, sym, _∙_}
 use native.Mathlib.Omega.{arith}
 use lib.ListN.{length, set, length-append}
-use Rattle.basis.specs.Lists.{overlay}
-use Rattle.image.specs.Flash.{stored, new, copyOf}
-use Rattle.image.specs.Laws.Flash.{stored-append, copy-overlay}
+use Rattle.basis.specs.Lists.{overlay, stored, new, copyOf}
+use Rattle.basis.specs.Laws.Lists.{stored-append, copy-overlay}
 
 -- one character
 pub copy-one : (b : List ℕ) (at x : ℕ) → copyOf b at (x ∷ []) ≡ set b at x

@@ -3,10 +3,10 @@ ghost use mathlib.Core.Path.{_≡_};
 ghost use mathlib.Core.List.{_++_};
 ghost use Prim.Native.Nat.{_+_, _≤_};
 ghost use lib.ListN.{length};
-ghost use Rattle.image.specs.Flash.{copyOf};
+ghost use Rattle.basis.specs.Lists.{copyOf};
 ghost use Rattle.listing.specs.Lines.{lineEnd};
 ghost use Rattle.listing.specs.Numbers.{decimalOf};
-use image::flash::copy;
+use basis::buffers::copy;
 
 // The number in decimal, from `at` on; gives the place behind it.
 pub fn decimal(buffer: &mut [u8], at: usize, n: u64) -> usize

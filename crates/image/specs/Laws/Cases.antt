@@ -9,7 +9,7 @@ use Rattle.basis.specs.Choice.{both, all, any}
 use Rattle.basis.specs.Refusals.{Answer, refused, given, first}
 use Rattle.basis.specs.Sums.{plainSum, sumOf}
 use Rattle.image.specs.Digits.{digitOf, allDigits, decoded}
-use Rattle.image.specs.Flash.{stored}
+use Rattle.basis.specs.Lists.{stored}
 use Rattle.image.specs.Hex.{File, fresh, recordIn}
 use Rattle.image.specs.Writer.{letterOf, spelt}
 use Rattle.runs.specs.Map.{named, nameOf, nameAllOf}

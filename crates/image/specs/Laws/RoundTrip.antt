@@ -8,21 +8,19 @@ use lib.Dec.{ltb, leb, lit<}
 use lib.ListN.{length, getD, take, drop, length-append, length-drop, length-replicate}
 use lib.Seq.{take-at, length-take-le, getD-take, getD-drop}
 use borrow.Author.Tests.{lt-ltb, le-ltb, ltb-true, ltb-false, leb-true, leb-false, le-leb, lt-leb}
-use Rattle.basis.specs.Lists.{Bytes}
+use Rattle.basis.specs.Lists.{Bytes, copyOf, new}
 use Rattle.basis.specs.Refusals.{given, first}
 use Rattle.basis.specs.Sums.{checksumOf}
 use Rattle.basis.specs.Laws.Choice.{decide, true-false, any-none}
-use Rattle.basis.specs.Laws.Lists.{bytes-drop, bytes-take, zero-at}
+use Rattle.basis.specs.Laws.Lists.{length-stored, stored-below, stored-at, bytes-drop, bytes-take, zero-at}
 use Rattle.basis.specs.Laws.Sums.{sum-closed}
 use Rattle.runs.specs.Map.{named, nameAllOf}
 use Rattle.runs.specs.Laws.Map.{named-past, named-none, named-only, name-all-length, name-all-bytes, name-all-below, name-all-above, name-all-in}
 use Rattle.runs.specs.Laws.Runs.{next-ge, next-pass, next-skip, len-le, len-ge, len-in}
-use Rattle.image.specs.Flash.{copyOf, new}
 use Rattle.image.specs.Hex.{File, hex, file, started, fed, place, placed, recordIn, closeOf}
 use Rattle.image.specs.declared.hex.Hex.{Hex}
 use Rattle.image.specs.Writer.{content, line, text, step, recordLength, recordFrom, lowest, stepFrom}
 use Rattle.image.specs.RoundTrip.{unended, lines, addressAfter, readLines, Returned}
-use Rattle.image.specs.Laws.Flash.{length-stored, stored-below, stored-at}
 use Rattle.image.specs.Laws.Hex.{size-right, data-taken, end-taken}
 
 -- ---- one record

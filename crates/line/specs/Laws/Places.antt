@@ -9,9 +9,10 @@ use lib.Dec.{leb, ltb}
 use lib.ListN.{length, getD, take, drop, replicate, length-drop, length-replicate}
 use lib.Seq.{getD-take, getD-drop, ext-getD, length-take-le}
 use Rattle.basis.specs.Laws.Choice.{decide}
+use Rattle.basis.specs.Lists.{stored, new}
+use Rattle.basis.specs.Laws.Lists.{stored-below, stored-above}
 use Rattle.basis.specs.Units.{pageOf, startOf}
-use Rattle.image.specs.Flash.{stored, eraseOf, storeOf, new}
-use Rattle.image.specs.Laws.Flash.{stored-below, stored-above}
+use Rattle.image.specs.Flash.{eraseOf, storeOf}
 
 -- a page starts in itself
 pub page-start : (q : ℕ) → pageOf (startOf q) ≡ q

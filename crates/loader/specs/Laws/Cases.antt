@@ -9,7 +9,7 @@ use Rattle.basis.specs.Board.{pages}
 use Rattle.basis.specs.Choice.{all, any}
 use Rattle.basis.specs.Refusals.{Answer, refused, given, first}
 use Rattle.basis.specs.Sums.{plainSum, sumOf}
-use Rattle.image.specs.Flash.{stored}
+use Rattle.basis.specs.Lists.{stored}
 use Rattle.loader.specs.Commands.{Effect, eraseRows, erasing, writeRows, writing, verifyRows, obeyOf}
 use Rattle.loader.specs.State.{factoryOf, withCondition}
 use Rattle.loader.specs.Verify.{equalsOf}

@@ -6,7 +6,7 @@ use native.Mathlib.Omega.{arith}
 use borrow.Author.Needs.{needs}
 use lib.ListN.{length, drop, length-set}
 use Rattle.image.specs.Flash.{storeOf}
-use Rattle.image.proofs.FlashTurns.{turn, ended}
+use Rattle.basis.specs.Laws.Lists.{stored-turn, stored-ended}
 use Rattle.image.proofs.flash.store.Statement.{statement}
 use Rattle.image.proofs.flash.store.Tie as tie
 
@@ -46,13 +46,13 @@ loop-less c = search needs
 
 loop-again : tie.Need-loop-again Inv-loop μ-loop
 loop-again c =
-    (omega arith, simp length-set (omega arith), turn _ _ _ _ _ (omega arith) ∙ c .before .before .before .loop .inv .2)
+    (omega arith, simp length-set (omega arith), stored-turn _ _ _ _ _ (omega arith) ∙ c .before .before .before .loop .inv .2)
 
 same-length : tie.Need-same-length Inv-loop μ-loop
 same-length c = search needs
 
 returns : tie.Need-returns Inv-loop μ-loop
-returns c = sym (ended _ _ _ _ _ (c .loop-test .left)) ∙ c .before .loop .inv .2
+returns c = sym (stored-ended _ _ _ _ _ (c .loop-test .left)) ∙ c .before .loop .inv .2
 
 pub store-spec : {M : Type 1} → statement M
 store-spec =

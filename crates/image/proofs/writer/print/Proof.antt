@@ -4,13 +4,11 @@ use mathlib.Core.Path.{_≡_, refl, sym, ap, _∙_}
 use mathlib.Core.List.{List, [], _∷_, _++_}
 use native.Mathlib.Omega.{arith}
 use lib.ListN.{length, set, length-append, length-set}
-use Rattle.basis.specs.Lists.{overlay}
+use Rattle.basis.specs.Lists.{overlay, copyOf}
 use Rattle.basis.specs.Sums.{sumOf, checksumOf}
-use Rattle.basis.specs.Laws.Lists.{overlay-next}
+use Rattle.basis.specs.Laws.Lists.{overlay-next, copy-overlay}
 use Rattle.basis.specs.Laws.Sums.{sum-append}
-use Rattle.image.specs.Flash.{copyOf}
 use Rattle.image.specs.Writer.{spelt, content, text}
-use Rattle.image.specs.Laws.Flash.{copy-overlay}
 use Rattle.image.specs.Laws.Writer.{length-spelt, spelt-append}
 use borrow.Author.Needs.{needs}
 use Rattle.image.proofs.writer.print.Statement.{statement}

@@ -7,7 +7,7 @@ use native.Mathlib.Omega.{arith}
 use lib.ListN.{length, drop, set, getD, drop-of-length-le, length-set}
 use Rattle.basis.specs.Refusals.{given}
 use lib.Seq.{drop-cons}
-use Rattle.image.specs.Flash.{stored, copyOf}
+use Rattle.basis.specs.Lists.{stored, copyOf}
 use Rattle.image.specs.Writer.{letterOf, spelt}
 use native.Mathlib.Nat.{add-zero}
 use borrow.Author.Needs.{needs}

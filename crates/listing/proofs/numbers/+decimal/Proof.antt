@@ -7,7 +7,7 @@ use borrow.Author.Needs.{needs}
 use borrow.Fn.Kinds.{In}
 use borrow.Fn.PlainCycle.{Measures, is, falls, and}
 use lib.ListN.{length, set, length-append}
-use Rattle.image.specs.Flash.{copyOf}
+use Rattle.basis.specs.Lists.{copyOf}
 use Rattle.listing.specs.Numbers.{digit, decimalOf}
 use Rattle.listing.specs.Laws.Numbers.{decimal-one, decimal-more, decimal-most}
 use Rattle.listing.proofs.Buffers.{copy-one, copy-last, Field}

@@ -6,7 +6,7 @@ use native.Mathlib.Omega.{arith}
 use borrow.Author.Needs.{needs}
 use Rattle.listing.specs.Laws.Numbers.{decimal-most}
 use lib.ListN.{length, length-append}
-use Rattle.image.specs.Flash.{copyOf}
+use Rattle.basis.specs.Lists.{copyOf}
 use Rattle.listing.specs.Numbers.{decimalOf}
 use Rattle.listing.proofs.Buffers.{copy-then, Field}
 use Rattle.listing.proofs.numbers.field.Statement.{statement}

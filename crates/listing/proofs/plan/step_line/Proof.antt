@@ -5,7 +5,7 @@ use mathlib.Core.Path.{_≡_, sym, ap, _∙_}
 use native.Mathlib.Omega.{arith}
 use borrow.Author.Needs.{needs}
 use lib.ListN.{length, getD, set, length-append, length-set}
-use Rattle.image.specs.Flash.{stored, copyOf}
+use Rattle.basis.specs.Lists.{stored, copyOf}
 use Rattle.image.specs.Laws.Writer.{length-spelt}
 use Rattle.image.specs.Writer.{spelt}
 use Rattle.listing.specs.Lines.{lineEnd, stepLine}

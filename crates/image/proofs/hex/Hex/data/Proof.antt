@@ -6,7 +6,7 @@ use mathlib.Core.List.{List}
 use borrow.Author.Tests.{lt-ltb, le-ltb}
 use Rattle.basis.specs.Refusals.{refused, given, first}
 use Rattle.image.specs.Record.{count, payload}
-use Rattle.image.specs.Flash.{stored, copyOf}
+use Rattle.basis.specs.Lists.{stored, copyOf}
 use Rattle.runs.specs.Map.{nameAllOf}
 use Rattle.basis.specs.Choice.{any}
 use Rattle.image.specs.Hex.{hex, settledAs, settled, place, namedBefore, dataIn}

@@ -7,8 +7,7 @@ use Rattle.listing.specs.Laws.Plan.{listed-start, listed-phase, listed-n
 use Prim.Native.Nat.{ℕ, _+_, _-_, _*_, _≤_, _<_}
 use mathlib.Core.List.{List}
 use lib.ListN.{length, take, drop, length-append, length-take, length-drop}
-use Rattle.basis.specs.Lists.{overlay}
-use Rattle.image.specs.Flash.{copyOf}
+use Rattle.basis.specs.Lists.{overlay, copyOf}
 use Rattle.session.specs.Phases.{packetOut, afterOf}
 use Rattle.session.specs.Plan.{plan}
 use Rattle.session.specs.declared.phase.Phase.{Phase}

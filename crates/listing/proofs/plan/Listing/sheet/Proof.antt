@@ -5,9 +5,8 @@ use lib.ListN.{length, drop, length-append}
 use Rattle.listing.specs.Plan.{Listed, packetAt, listingAt, longestLine, Sheet, sheet, sheetOf}
 use mathlib.Core.List.{List, [], _++_}
 use mathlib.Core.Path.{_≡_, refl, sym, ap, _∙_}
-use Rattle.basis.specs.Lists.{overlay}
-use Rattle.image.specs.Flash.{stored, copyOf}
-use Rattle.image.specs.Laws.Flash.{copy-overlay}
+use Rattle.basis.specs.Lists.{overlay, stored, copyOf}
+use Rattle.basis.specs.Laws.Lists.{copy-overlay}
 use Rattle.session.specs.Plan.{plan}
 use Rattle.session.specs.declared.phase.RunKind.{RunKind}
 use Rattle.listing.specs.Lines.{stepLine}

@@ -5,29 +5,29 @@ use native.Mathlib.Nat.{add-zero}
 use native.Mathlib.Omega.{arith}
 use borrow.Author.Needs.{needs}
 use lib.ListN.{length, drop, length-set}
-use Rattle.image.specs.Flash.{new, copyOf}
-use Rattle.image.proofs.FlashTurns.{turn, ended}
-use Rattle.image.proofs.flash.copy.Statement.{statement}
-use Rattle.image.proofs.flash.copy.Tie as tie
+use Rattle.basis.specs.Lists.{new, copyOf}
+use Rattle.basis.specs.Laws.Lists.{stored-turn, stored-ended}
+use Rattle.basis.proofs.buffers.copy.Statement.{statement}
+use Rattle.basis.proofs.buffers.copy.Tie as tie
 
 abbrev Inv-loop : tie.InvT-loop
-Inv-loop image₀ at bytes i₀ image i =
-    (i ≤ length bytes) × (length image ≡ length image₀) × (copyOf image (at + i) (drop i bytes) ≡ copyOf image₀ at bytes)
+Inv-loop buffer₀ at bytes i₀ buffer i =
+    (i ≤ length bytes) × (length buffer ≡ length buffer₀) × (copyOf buffer (at + i) (drop i bytes) ≡ copyOf buffer₀ at bytes)
 
 abbrev μ-loop : tie.MeasureT-loop
-μ-loop image₀ at bytes i₀ image i = length bytes - i
+μ-loop buffer₀ at bytes i₀ buffer i = length bytes - i
 
 loop-holds : tie.Need-loop-holds Inv-loop μ-loop
 loop-holds c = (search needs, refl, rw add-zero)
 
-shared-slice-read-image : tie.Need-shared-slice-read-image Inv-loop μ-loop
-shared-slice-read-image c = search needs
+shared-slice-read-buffer : tie.Need-shared-slice-read-buffer Inv-loop μ-loop
+shared-slice-read-buffer c = search needs
 
-add-image : tie.Need-add-image Inv-loop μ-loop
-add-image c = search needs
+add-buffer : tie.Need-add-buffer Inv-loop μ-loop
+add-buffer c = search needs
 
-slice-write-image : tie.Need-slice-write-image Inv-loop μ-loop
-slice-write-image c = search needs
+slice-write-buffer : tie.Need-slice-write-buffer Inv-loop μ-loop
+slice-write-buffer c = search needs
 
 add-i : tie.Need-add-i Inv-loop μ-loop
 add-i c = search needs
@@ -39,14 +39,14 @@ loop-again : tie.Need-loop-again Inv-loop μ-loop
 loop-again c = (
   omega arith,
   simp length-set (omega arith),
-  turn new _ _ _ _ (omega arith) ∙ c .before .before .loop .inv .2,
+  stored-turn new _ _ _ _ (omega arith) ∙ c .before .before .loop .inv .2,
 )
 
 same-length : tie.Need-same-length Inv-loop μ-loop
 same-length c = search needs
 
 returns : tie.Need-returns Inv-loop μ-loop
-returns c = sym (ended new _ _ _ _ (c .loop-test .left)) ∙ c .before .loop .inv .2
+returns c = sym (stored-ended new _ _ _ _ (c .loop-test .left)) ∙ c .before .loop .inv .2
 
 pub copy-spec : {M : Type 1} → statement M
 copy-spec =
@@ -55,9 +55,9 @@ copy-spec =
     Inv-loop
     μ-loop
     loop-holds
-    shared-slice-read-image
-    add-image
-    slice-write-image
+    shared-slice-read-buffer
+    add-buffer
+    slice-write-buffer
     add-i
     loop-less
     loop-again
