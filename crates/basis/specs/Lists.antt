@@ -1,11 +1,15 @@
 -- Lists of bytes and lent buffers.
-use Prim.Native.Nat.{ℕ, _+_, _<_}
+use Prim.Native.Nat.{ℕ, _+_, _*_, _<_}
 use mathlib.Core.List.{List, [], _∷_, _++_}
 use lib.ListN.{length, getD, set, drop}
 
 -- every element is a byte
 abbrev pub Bytes : List ℕ → Type 0
 Bytes s = (k : ℕ) → getD s k 0 < 256
+
+-- two bytes as one number, the higher first
+abbrev pub pairAt : List ℕ → ℕ → ℕ
+pairAt s i = getD s i 0 * 256 + getD s (i + 1) 0
 
 -- a buffer after writing: what was written at its start, then the old rest
 abbrev pub overlay : {A : Type 0} → List A → List A → List A

@@ -1,8 +1,8 @@
-// Lent buffers: bytes written at a place or at the start, the rest as it was.
+// Lent buffers: bytes written at a place or at the start, the rest as it was; and bytes read from a place.
 ghost use mathlib.Core.Path.{_≡_};
-ghost use Prim.Native.Nat.{_+_, _≤_};
+ghost use Prim.Native.Nat.{_+_, _*_, _<_, _≤_};
 ghost use lib.ListN.{length, getD};
-ghost use Rattle.basis.specs.Lists.{overlay, copyOf};
+ghost use Rattle.basis.specs.Lists.{overlay, copyOf, pairAt};
 
 // The bytes from place `at` on, whatever stood there.
 pub fn copy(buffer: &mut [u8], at: usize, bytes: &[u8])
@@ -31,4 +31,19 @@ pub fn first_byte(bytes: &[u8]) -> u8
         return 0;
     }
     bytes[0]
+}
+
+// Two bytes as one number, the higher first.
+pub fn pair_at(bytes: &[u8], at: usize) -> u16
+    requires { ⌜ at + 1 < length (now bytes) ⌝ }
+    ensures { λ r. ⌜ r ≡ pairAt (now (bytes .entry)) at ⌝ }
+{
+    pair(bytes[at], bytes[at + 1])
+}
+
+// Bytes by value are known to be at most 255.
+fn pair(high: u8, low: u8) -> u16
+    ensures { λ r. ⌜ r ≡ high * 256 + low ⌝ }
+{
+    (high as u16) * 256 + (low as u16)
 }

@@ -5,6 +5,7 @@ use mathlib.Core.Bool.{Bool, false, not}
 use lib.Dec.{eqb, ltb}
 use lib.ListN.{length, getD, take, drop}
 use Rattle.basis.specs.Choice.{pick, either}
+use Rattle.basis.specs.Lists.{pairAt}
 use Rattle.basis.specs.Refusals.{Answer, given, Rule, _when_, first}
 use Rattle.basis.specs.Sums.{sumOf}
 use Rattle.image.specs.Digits.{allDigits}
@@ -17,7 +18,7 @@ count b = getD b 0 0
 
 -- AAAA
 abbrev pub address : List ℕ → ℕ
-address b = 256 * getD b 1 0 + getD b 2 0
+address b = pairAt b 1
 
 -- TT
 abbrev pub kind : List ℕ → ℕ
@@ -29,7 +30,7 @@ payload b = take (count b) (drop 4 b)
 
 -- the value of the two bytes of types 02 to 05
 abbrev pub value : List ℕ → ℕ
-value b = 256 * getD b 4 0 + getD b 5 0
+value b = pairAt b 4
 
 -- ---- the tests
 

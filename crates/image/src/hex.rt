@@ -14,11 +14,11 @@ use crate::record::characters;
 use crate::record::framing;
 use crate::record::shape;
 use crate::record::wide;
-use crate::record::word;
 use basis::board::END;
 use basis::board::MAP;
 use basis::board::SIZE;
 use basis::buffers::copy;
+use basis::buffers::pair_at;
 use basis::units::Address;
 use runs::places::any_named;
 use runs::places::name_all;
@@ -151,7 +151,7 @@ impl Hex {
         if count == 0 {
             return Read::Taken(self);
         }
-        let place = self.linear as u64 + self.segment as u64 + word(bytes[1], bytes[2]) as u64;
+        let place = self.linear as u64 + self.segment as u64 + pair_at(bytes, 1) as u64;
         if (END as u64) < place + count as u64 {
             return Read::Refused(Refusal::Place);
         }
@@ -184,7 +184,7 @@ impl Hex {
             self.ended = true;
             return self;
         }
-        let value = word(bytes[4], bytes[5]) as u32;
+        let value = pair_at(bytes, 4) as u32;
         if kind == 2 {
             self.segment = 16 * value;
             return self;

@@ -1,12 +1,13 @@
 // A record by itself, judged in the order of the paper: its characters, its bytes, its type and shape.
 ghost use mathlib.Core.Path.{_≡_};
-ghost use Prim.Native.Nat.{_+_, _*_, _/_, _≤_};
+ghost use Prim.Native.Nat.{_/_, _≤_};
 ghost use lib.ListN.{length, take, drop};
 ghost use Rattle.basis.specs.Refusals.{given};
 ghost use Rattle.image.specs.Digits.{decoded};
 ghost use Rattle.image.specs.Paper.{paperRefusal, paperCheck};
 ghost use Rattle.image.specs.Record.{count, charactersOf, framingOf, shapeOf};
 use crate::digits::decode;
+use basis::buffers::pair_at;
 use basis::sums::sum;
 
 pub enum Refusal {
@@ -106,7 +107,7 @@ pub fn shape(bytes: &[u8]) -> Check
     ensures { λ r. ⌜ paperCheck r ≡ shapeOf (now (bytes .entry)) ⌝ }
 {
     let count = bytes[0];
-    let address = word(bytes[1], bytes[2]);
+    let address = pair_at(bytes, 1);
     let kind = bytes[3];
     if 5 < kind {
         return Check::Refused(Refusal::Kind);
@@ -134,11 +135,4 @@ pub fn wide(x: u8) -> usize
     ensures { λ r. ⌜ (r ≡ x) × (r ≤ 255) ⌝ }
 {
     x as usize
-}
-
-// Two bytes as one number, the higher first.
-pub fn word(high: u8, low: u8) -> u16
-    ensures { λ r. ⌜ r ≡ 256 * high + low ⌝ }
-{
-    256 * (high as u16) + (low as u16)
 }

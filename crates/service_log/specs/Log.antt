@@ -1,12 +1,13 @@
 -- The log record, big-endian: length 0x0008, version 01, outcome, packets acknowledged, packet total, named bytes
 -- (two bytes each).
-use Prim.Native.Nat.{ℕ, _+_, _*_, _/_, _%_}
+use Prim.Native.Nat.{ℕ, _/_, _%_}
 use mathlib.Core.Bool.{Bool, not}
 use mathlib.Core.List.{List, [], _∷_}
 use lib.Dec.{eqb, leb, ltb}
 use lib.ListN.{length, getD}
 use Rattle.basis.specs.Board.{flashSize}
 use Rattle.basis.specs.Choice.{pick, both, either}
+use Rattle.basis.specs.Lists.{pairAt}
 use Rattle.basis.specs.Refusals.{Answer, given, _when_, first}
 use Rattle.session.specs.Paper.{paperOutcome}
 use Rattle.session.specs.Phases.{ended}
@@ -66,10 +67,6 @@ writeOf room s =
     ∷ 45 when isFalseOf (outcomeIn (s .phase)) (s .acknowledged) (s .total) (s .named)
     ∷ 20 when ltb room recordSize ∷ [])
     (given (recordBytes (outcomeIn (s .phase)) (s .acknowledged) (s .total) (s .named)))
-
--- two bytes of an input as one number
-abbrev pub pairAt : List ℕ → ℕ → ℕ
-pairAt s i = getD s i 0 * 256 + getD s (i + 1) 0
 
 -- what an input says
 abbrev pub recordAt : List ℕ → Record

@@ -1,9 +1,9 @@
 // The reader: what a record says, or why it is none.
 ghost use mathlib.Core.Path.{_≡_};
-ghost use Prim.Native.Nat.{_+_, _*_};
 ghost use Rattle.service_log.specs.Log.{readOf};
 ghost use Rattle.service_log.specs.Paper.{paperUnread, paperReading};
 use crate::truth::is_false;
+use basis::buffers::pair_at;
 
 // How many bytes a record has.
 pub const RECORD: usize = 10;
@@ -50,7 +50,7 @@ pub fn read(input: &[u8]) -> Reading
     if input.len() < RECORD {
         return Reading::Refused(Unread::Short);
     }
-    if joined(input[0], input[1]) != 8 {
+    if pair_at(input, 0) != 8 {
         return Reading::Refused(Unread::Length);
     }
     if RECORD < input.len() {
@@ -61,9 +61,9 @@ pub fn read(input: &[u8]) -> Reading
         return Reading::Refused(Unread::Version);
     }
     let outcome = input[3];
-    let acknowledged = joined(input[4], input[5]);
-    let total = joined(input[6], input[7]);
-    let bytes = joined(input[8], input[9]);
+    let acknowledged = pair_at(input, 4) as u32;
+    let total = pair_at(input, 6) as u32;
+    let bytes = pair_at(input, 8) as u32;
     if is_false(outcome, acknowledged, total, bytes) {
         return Reading::Refused(Unread::False);
     }
@@ -74,11 +74,4 @@ pub fn read(input: &[u8]) -> Reading
         total,
         bytes,
     })
-}
-
-// Two bytes as one number, the more significant first.
-fn joined(high: u8, low: u8) -> u32
-    ensures { λ r. ⌜ r ≡ high * 256 + low ⌝ }
-{
-    (high as u32) * 256 + (low as u32)
 }

@@ -6,10 +6,11 @@ use mathlib.Core.Path.{_≡_, sym, ap, _∙_}
 use borrow.Author.Tests.{eq-eqb, ne-eqb, lt-ltb, le-ltb}
 use lib.ListN.{length, getD}
 use Rattle.basis.specs.Laws.Refusals.{skip, stop, done}
+use Rattle.basis.specs.Lists.{pairAt}
 use Rattle.basis.specs.Refusals.{refused, given}
 use Rattle.session.specs.Phases.{ended}
 use Rattle.session.specs.declared.session.Session.{Session}
-use Rattle.service_log.specs.Log.{recordSize, isFalseOf, outcomeIn, fitTwo, recordBytes, writeOf, pairAt, readOf}
+use Rattle.service_log.specs.Log.{recordSize, isFalseOf, outcomeIn, fitTwo, recordBytes, writeOf, readOf}
 
 -- ---- writing
 

@@ -11,6 +11,7 @@ use Rattle.basis.specs.Board.{flashSize, mapSize}
 use Rattle.basis.specs.Choice.{both}
 use Rattle.basis.specs.Laws.Choice.{both-true, both-second, either-none, true-false}
 use Rattle.basis.specs.Laws.Refusals.{passed, done, given-one}
+use Rattle.basis.specs.Lists.{pairAt}
 use Rattle.basis.specs.Refusals.{refused, given}
 use Rattle.runs.specs.Pieces.{namedCount}
 use Rattle.session.specs.Laws.Series.{came}
@@ -26,7 +27,7 @@ use Rattle.session.specs.declared.phase.RunKind.{RunKind}
 use Rattle.session.specs.declared.session.Session.{Session}
 use Rattle.service_log.specs.Laws.FalseRecords.{false-valid, true-greeted, false-ungreeted}
 use Rattle.service_log.specs.Laws.Log.{write-given, read-given}
-use Rattle.service_log.specs.Log.{recordSize, known, isFalseOf, outcomeIn, twoBytes, fitTwo, recordBytes, writeOf, recordAt, pairAt, readOf}
+use Rattle.service_log.specs.Log.{recordSize, known, isFalseOf, outcomeIn, twoBytes, fitTwo, recordBytes, writeOf, recordAt, readOf}
 use Rattle.service_log.specs.declared.read.Record.{Record}
 use Rattle.session.specs.declared.event.Event.{Event}
 

@@ -10,14 +10,8 @@ use Rattle.image.proofs.record.shape.Tie as tie
 shared-slice-read-count : tie.Need-shared-slice-read-count
 shared-slice-read-count c = search needs
 
-shared-slice-read-word : tie.Need-shared-slice-read-word
-shared-slice-read-word c = search needs
-
-shared-slice-read-word-2 : tie.Need-shared-slice-read-word-2
-shared-slice-read-word-2 c = search needs
-
-word-requires : tie.Need-word-requires
-word-requires c κs = search needs
+pair-at-requires : tie.Need-pair-at-requires
+pair-at-requires c κs = search needs
 
 shared-slice-read-kind : tie.Need-shared-slice-read-kind
 shared-slice-read-kind c = search needs
@@ -36,17 +30,17 @@ returns-3 c =
     simp (
       le-ltb _ _ (c .before .before .if1 .left),
       ne-eqb _ _ (c .before .if2 .left),
-      ne-eqb _ _ (λ e. c .if3 .taken (c .before .before .before .before .word .ensures ∙ e)),
+      ne-eqb _ _ (λ e. c .if3 .taken (c .before .before .before .before .pair-at .ensures ∙ e)),
     )
 
 returns-4 : tie.Need-returns-4
 unfolding first shapeOf
 returns-4 c =
-    let word = c .before .before .before .before .before .before .word in
+    let pair = c .before .before .before .before .before .before .pair-at in
     simp (
       le-ltb _ _ (c .before .before .before .before .if1 .left),
       ne-eqb _ _ (c .before .before .before .if2 .left),
-      eq-eqb _ _ (sym (word .ensures) ∙ c .before .before .if3 .left),
+      eq-eqb _ _ (sym (pair .ensures) ∙ c .before .before .if3 .left),
       eq-eqb _ _ (c .before .if4 .taken),
       ne-eqb _ _ (c .if5 .taken),
     )
@@ -54,11 +48,11 @@ returns-4 c =
 returns-5 : tie.Need-returns-5
 unfolding first shapeOf
 returns-5 c =
-    let word = c .before .before .before .before .before .before .word in
+    let pair = c .before .before .before .before .before .before .pair-at in
     simp (
       le-ltb _ _ (c .before .before .before .before .if1 .left),
       ne-eqb _ _ (c .before .before .before .if2 .left),
-      eq-eqb _ _ (sym (word .ensures) ∙ c .before .before .if3 .left),
+      eq-eqb _ _ (sym (pair .ensures) ∙ c .before .before .if3 .left),
       eq-eqb _ _ (c .before .if4 .taken),
       eq-eqb _ _ (c .if5 .left),
     )
@@ -66,11 +60,11 @@ returns-5 c =
 returns-6 : tie.Need-returns-6
 unfolding first shapeOf
 returns-6 c =
-    let word = c .before .before .before .before .before .before .word in
+    let pair = c .before .before .before .before .before .before .pair-at in
     simp (
       le-ltb _ _ (c .before .before .before .before .if1 .left),
       ne-eqb _ _ (c .before .before .before .if2 .left),
-      eq-eqb _ _ (sym (word .ensures) ∙ c .before .before .if3 .left),
+      eq-eqb _ _ (sym (pair .ensures) ∙ c .before .before .if3 .left),
       ne-eqb _ _ (c .before .if4 .left),
       ne-eqb _ _ (c .if6 .taken),
     )
@@ -78,11 +72,11 @@ returns-6 c =
 returns-7 : tie.Need-returns-7
 unfolding first shapeOf
 returns-7 c =
-    let word = c .before .before .before .before .before .before .word in
+    let pair = c .before .before .before .before .before .before .pair-at in
     simp (
       le-ltb _ _ (c .before .before .before .before .if1 .left),
       ne-eqb _ _ (c .before .before .before .if2 .left),
-      eq-eqb _ _ (sym (word .ensures) ∙ c .before .before .if3 .left),
+      eq-eqb _ _ (sym (pair .ensures) ∙ c .before .before .if3 .left),
       ne-eqb _ _ (c .before .if4 .left),
       eq-eqb _ _ (c .if6 .left),
     )
@@ -92,9 +86,7 @@ shape-spec =
     tie.close
     (tie.spec
     shared-slice-read-count
-    shared-slice-read-word
-    shared-slice-read-word-2
-    word-requires
+    pair-at-requires
     shared-slice-read-kind
     returns
     returns-2

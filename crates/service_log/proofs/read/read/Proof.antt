@@ -8,88 +8,68 @@ use Rattle.service_log.proofs.read.read.Tie as tie
 returns : tie.Need-returns
 returns c = sym (read-short _ (c .if1 .taken))
 
-shared-slice-read-joined : tie.Need-shared-slice-read-joined
-shared-slice-read-joined c = search needs
-
-shared-slice-read-joined-2 : tie.Need-shared-slice-read-joined-2
-shared-slice-read-joined-2 c = search needs
-
-joined-requires : tie.Need-joined-requires
-joined-requires c κs = search needs
+pair-at-requires : tie.Need-pair-at-requires
+pair-at-requires c κs = search needs
 
 returns-2 : tie.Need-returns-2
-returns-2 c = sym (read-length _ (c .before .before .before .before .if1 .left) (λ q. c .if2 .taken (c .before .joined .ensures ∙ q)))
+returns-2 c = sym (read-length _ (c .before .before .if1 .left) (λ q. c .if2 .taken (c .before .pair-at .ensures ∙ q)))
 
 returns-3 : tie.Need-returns-3
-returns-3 c = sym (read-long _ (c .before .before .before .before .before .if1 .left) (sym (c .before .before .joined .ensures) ∙ c .before .if2 .left) (c .if3 .taken))
+returns-3 c = sym (read-long _ (c .before .before .before .if1 .left) (sym (c .before .before .pair-at .ensures) ∙ c .before .if2 .left) (c .if3 .taken))
 
 shared-slice-read-version : tie.Need-shared-slice-read-version
 shared-slice-read-version c = search needs
 
 returns-4 : tie.Need-returns-4
-returns-4 c = sym (read-version _ (c .before .before .before .before .before .before .before .if1 .left) (sym (c .before .before .before .before .joined .ensures) ∙ c .before .before .before .if2 .left) (c .before .before .if3 .left) (c .if4 .taken))
+returns-4 c = sym (read-version _ (c .before .before .before .before .before .if1 .left) (sym (c .before .before .before .before .pair-at .ensures) ∙ c .before .before .before .if2 .left) (c .before .before .if3 .left) (c .if4 .taken))
 
 shared-slice-read-outcome : tie.Need-shared-slice-read-outcome
 shared-slice-read-outcome c = search needs
 
-shared-slice-read-joined-3 : tie.Need-shared-slice-read-joined-3
-shared-slice-read-joined-3 c = search needs
+pair-at-requires-2 : tie.Need-pair-at-requires-2
+pair-at-requires-2 c κs = search needs
 
-shared-slice-read-joined-4 : tie.Need-shared-slice-read-joined-4
-shared-slice-read-joined-4 c = search needs
+cast-acknowledged : tie.Need-cast-acknowledged
+cast-acknowledged c = search needs
 
-joined-requires-2 : tie.Need-joined-requires-2
-joined-requires-2 c κs = search needs
+pair-at-requires-3 : tie.Need-pair-at-requires-3
+pair-at-requires-3 c κs = search needs
 
-shared-slice-read-joined-5 : tie.Need-shared-slice-read-joined-5
-shared-slice-read-joined-5 c = search needs
+cast-total : tie.Need-cast-total
+cast-total c = search needs
 
-shared-slice-read-joined-6 : tie.Need-shared-slice-read-joined-6
-shared-slice-read-joined-6 c = search needs
+pair-at-requires-4 : tie.Need-pair-at-requires-4
+pair-at-requires-4 c κs = search needs
 
-joined-requires-3 : tie.Need-joined-requires-3
-joined-requires-3 c κs = search needs
-
-shared-slice-read-joined-7 : tie.Need-shared-slice-read-joined-7
-shared-slice-read-joined-7 c = search needs
-
-shared-slice-read-joined-8 : tie.Need-shared-slice-read-joined-8
-shared-slice-read-joined-8 c = search needs
-
-joined-requires-4 : tie.Need-joined-requires-4
-joined-requires-4 c κs = search needs
+cast-bytes : tie.Need-cast-bytes
+cast-bytes c = search needs
 
 is-false-requires : tie.Need-is-false-requires
 is-false-requires c κs = search needs
 
 returns-5 : tie.Need-returns-5
-returns-5 c = sym (read-false _ (c .before .before .before .before .before .before .before .before .before .before .before .before .before .before .before .before .before .before .before .if1 .left) (sym (c .before .before .before .before .before .before .before .before .before .before .before .before .before .before .before .before .joined .ensures) ∙ c .before .before .before .before .before .before .before .before .before .before .before .before .before .before .before .if2 .left) (c .before .before .before .before .before .before .before .before .before .before .before .before .before .before .if3 .left) (c .before .before .before .before .before .before .before .before .before .before .before .before .if4 .left) (c .before .before .before .before .before .before .before .before .joined2 .ensures) (c .before .before .before .before .before .joined3 .ensures) (c .before .before .joined4 .ensures) (sym (c .before .is-false .ensures) ∙ c .if5 .taken))
+returns-5 c = sym (read-false _ (c .before .before .before .before .before .before .before .before .before .before .before .if1 .left) (sym (c .before .before .before .before .before .before .before .before .before .before .pair-at .ensures) ∙ c .before .before .before .before .before .before .before .before .before .if2 .left) (c .before .before .before .before .before .before .before .before .if3 .left) (c .before .before .before .before .before .before .if4 .left) (c .before .before .before .before .pair-at2 .ensures) (c .before .before .before .pair-at3 .ensures) (c .before .before .pair-at4 .ensures) (sym (c .before .is-false .ensures) ∙ c .if5 .taken))
 
 returns-6 : tie.Need-returns-6
-returns-6 c = sym (read-given _ (c .before .before .before .before .before .before .before .before .before .before .before .before .before .before .before .before .before .before .before .if1 .left) (sym (c .before .before .before .before .before .before .before .before .before .before .before .before .before .before .before .before .joined .ensures) ∙ c .before .before .before .before .before .before .before .before .before .before .before .before .before .before .before .if2 .left) (c .before .before .before .before .before .before .before .before .before .before .before .before .before .before .if3 .left) (c .before .before .before .before .before .before .before .before .before .before .before .before .if4 .left) (c .before .before .before .before .before .before .before .before .joined2 .ensures) (c .before .before .before .before .before .joined3 .ensures) (c .before .before .joined4 .ensures) (sym (c .before .is-false .ensures) ∙ c .if5 .left))
+returns-6 c = sym (read-given _ (c .before .before .before .before .before .before .before .before .before .before .before .if1 .left) (sym (c .before .before .before .before .before .before .before .before .before .before .pair-at .ensures) ∙ c .before .before .before .before .before .before .before .before .before .if2 .left) (c .before .before .before .before .before .before .before .before .if3 .left) (c .before .before .before .before .before .before .if4 .left) (c .before .before .before .before .pair-at2 .ensures) (c .before .before .before .pair-at3 .ensures) (c .before .before .pair-at4 .ensures) (sym (c .before .is-false .ensures) ∙ c .if5 .left))
 
 pub read-spec : {M : Type 1} → statement M
 read-spec =
     tie.close
     (tie.spec
     returns
-    shared-slice-read-joined
-    shared-slice-read-joined-2
-    joined-requires
+    pair-at-requires
     returns-2
     returns-3
     shared-slice-read-version
     returns-4
     shared-slice-read-outcome
-    shared-slice-read-joined-3
-    shared-slice-read-joined-4
-    joined-requires-2
-    shared-slice-read-joined-5
-    shared-slice-read-joined-6
-    joined-requires-3
-    shared-slice-read-joined-7
-    shared-slice-read-joined-8
-    joined-requires-4
+    pair-at-requires-2
+    cast-acknowledged
+    pair-at-requires-3
+    cast-total
+    pair-at-requires-4
+    cast-bytes
     is-false-requires
     returns-5
     returns-6)

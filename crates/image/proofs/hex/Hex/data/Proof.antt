@@ -60,14 +60,8 @@ cast-place-2 c = search needs
 add-place : tie.Need-add-place
 add-place c = search needs
 
-shared-slice-read-word : tie.Need-shared-slice-read-word
-shared-slice-read-word c = search needs
-
-shared-slice-read-word-2 : tie.Need-shared-slice-read-word-2
-shared-slice-read-word-2 c = search needs
-
-word-requires : tie.Need-word-requires
-word-requires c κs = search needs
+pair-at-requires : tie.Need-pair-at-requires
+pair-at-requires c κs = search needs
 
 cast-place-3 : tie.Need-cast-place-3
 cast-place-3 c = search needs
@@ -83,13 +77,13 @@ add-if2 c = search needs
 
 returns-2 : tie.Need-returns-2
 returns-2 c =
-    let if1 = c .before .before .before .before .before .before .if1 in
-    let wide = c .before .before .before .before .before .before .before .wide in
-    let p = c .before .before .before .before .before .before .before .before .before .before .before .before in
+    let if1 = c .before .before .before .before .if1 in
+    let wide = c .before .before .before .before .before .wide in
+    let p = c .before .before .before .before .before .before .before .before .before .before in
     let args = p .args in
     let b = args .bytes .now in
     data-high flashSize _ b _ _ (omega (arith, wide .ensures .0, if1 .left))
-    (omega (arith, wide .ensures .0, c .before .word .ensures, c .if2 .taken))
+    (omega (arith, wide .ensures .0, c .before .pair-at .ensures, c .if2 .taken))
 
 cast-any-named : tie.Need-cast-any-named
 cast-any-named c = search needs
@@ -105,15 +99,15 @@ same-length c = search needs
 
 returns-3 : tie.Need-returns-3
 returns-3 c =
-    let word = c .before .before .before .before .word in
-    let p = c .before .before .before .before .before .before .before .before .before in
+    let pair = c .before .before .before .before .pair-at in
+    let p = c .before .before .before .before .before .before .before in
     let if1 = p .if1 in
     let wide = p .before .wide in
     let args = p .before .before .before .before .before .before .args in
     let b = args .bytes .now in
     data-twice flashSize _ b _ _ (omega (arith, wide .ensures .0, if1 .left))
-    (omega (arith, wide .ensures .0, word .ensures, c .before .before .before .if2 .left))
-    (rw (← wide .ensures .0, ← word .ensures) (sym (c .before .any-named .ensures) ∙ c .if3 .taken))
+    (omega (arith, wide .ensures .0, pair .ensures, c .before .before .before .if2 .left))
+    (rw (← wide .ensures .0, ← pair .ensures) (sym (c .before .any-named .ensures) ∙ c .if3 .taken))
 
 add-end : tie.Need-add-end
 add-end c = search needs
@@ -149,18 +143,18 @@ returns-4 c =
     let if3 = p .if3 in
     let any-named = p .before .any-named in
     let if2 = p .before .before .before .if2 in
-    let word = p .before .before .before .before .word in
-    let q = p .before .before .before .before .before .before .before .before .before in
+    let pair = p .before .before .before .before .pair-at in
+    let q = p .before .before .before .before .before .before .before in
     let if1 = q .if1 in
     let wide = q .before .wide in
     let args = q .before .before .before .before .before .before .args in
     let b = args .bytes .now in
     let size : 4 + wide .result - 4 ≡ count b = omega (arith, wide .ensures .0) in
     data-given flashSize _ b _ _ (omega (arith, wide .ensures .0, if1 .left))
-    (omega (arith, wide .ensures .0, word .ensures, if2 .left)) _ _
-    (rw (← wide .ensures .0, ← word .ensures) (sym (any-named .ensures) ∙ if3 .left))
-    (copy .ensures ∙ rw (size, word .ensures))
-    (c .before .before .name-all .ensures ∙ rw (wide .ensures .0, word .ensures))
+    (omega (arith, wide .ensures .0, pair .ensures, if2 .left)) _ _
+    (rw (← wide .ensures .0, ← pair .ensures) (sym (any-named .ensures) ∙ if3 .left))
+    (copy .ensures ∙ rw (size, pair .ensures))
+    (c .before .before .name-all .ensures ∙ rw (wide .ensures .0, pair .ensures))
 
 pub data-spec : {M : Type 1} → statement M
 data-spec =
@@ -172,9 +166,7 @@ data-spec =
     cast-place
     cast-place-2
     add-place
-    shared-slice-read-word
-    shared-slice-read-word-2
-    word-requires
+    pair-at-requires
     cast-place-3
     add-place-2
     cast-if2

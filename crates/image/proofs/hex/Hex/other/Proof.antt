@@ -12,19 +12,13 @@ shared-slice-read-kind c = search needs
 returns : tie.Need-returns
 returns c = simp (eq-eqb _ _ (c .if1 .taken))
 
-shared-slice-read-word : tie.Need-shared-slice-read-word
-shared-slice-read-word c = search needs
-
-shared-slice-read-word-2 : tie.Need-shared-slice-read-word-2
-shared-slice-read-word-2 c =
+pair-at-requires : tie.Need-pair-at-requires
+pair-at-requires c κs =
     omega (
       arith,
-      shape-count (c .before .before .before .before .before .args .bytes .now) (c .before .before .before .before .before .pre .1) (c .before .before .before .before .before .pre .2) (c .before .before .if1 .left),
-      c .before .before .before .before .before .pre .0,
+      shape-count (c .before .before .before .args .bytes .now) (c .before .before .before .pre .1) (c .before .before .before .pre .2) (c .if1 .left),
+      c .before .before .before .pre .0,
     )
-
-word-requires : tie.Need-word-requires
-word-requires c κs = search needs
 
 cast-value : tie.Need-cast-value
 cast-value c = search needs
@@ -35,9 +29,9 @@ mul-self c = search needs
 returns-2 : tie.Need-returns-2
 returns-2 c =
     simp (
-      ne-eqb _ _ (c .before .before .before .before .if1 .left),
+      ne-eqb _ _ (c .before .before .if1 .left),
       eq-eqb _ _ (c .if2 .taken),
-      c .before .word .ensures,
+      c .before .pair-at .ensures,
     )
 
 mul-self-2 : tie.Need-mul-self-2
@@ -46,16 +40,16 @@ mul-self-2 c = search needs
 returns-3 : tie.Need-returns-3
 returns-3 c =
     simp (
-      ne-eqb _ _ (c .before .before .before .before .before .if1 .left),
+      ne-eqb _ _ (c .before .before .before .if1 .left),
       ne-eqb _ _ (c .before .if2 .left),
       eq-eqb _ _ (c .if3 .taken),
-      c .before .before .word .ensures,
+      c .before .before .pair-at .ensures,
     )
 
 returns-4 : tie.Need-returns-4
 returns-4 c =
     simp (
-      ne-eqb _ _ (c .before .before .before .before .before .if1 .left),
+      ne-eqb _ _ (c .before .before .before .if1 .left),
       ne-eqb _ _ (c .before .if2 .left),
       ne-eqb _ _ (c .if3 .left),
     )
@@ -66,9 +60,7 @@ other-spec =
     (tie.spec
     shared-slice-read-kind
     returns
-    shared-slice-read-word
-    shared-slice-read-word-2
-    word-requires
+    pair-at-requires
     cast-value
     mul-self
     returns-2
