@@ -35,9 +35,9 @@ abbrev pub settled : Answer File → List ℕ → List ℕ → Settled
 settled (refused n) image map = settledAs (refused n) image map
 settled (given f) image map = settledAs (given (f .reader)) (f .image) (f .map)
 
--- an image that is not the board's size, or a map that has not one bit an address
-abbrev pub sizeWrong : ℕ → List ℕ → List ℕ → Bool
-sizeWrong size image map = not (both (eqb (length image) size) (eqb (length map) (size / 8)))
+-- an image as long as the board, and a map of one bit an address
+abbrev pub rightSizesIn : ℕ → ℕ → ℕ → Bool
+rightSizesIn size image map = both (eqb image size) (eqb map (size / 8))
 
 -- both bases, whether the end record came, and whether a data byte was taken
 abbrev pub hex : ℕ → ℕ → Bool → Bool → Hex
@@ -52,7 +52,7 @@ started size = file fresh (replicate size 0xFF) (replicate (size / 8) 0)
 
 -- start: 20, else image and map filled
 unfoldable pub startIn : ℕ → List ℕ → List ℕ → Answer File
-startIn size image map = first (20 when sizeWrong size image map ∷ []) (given (started size))
+startIn size image map = first (20 when not (rightSizesIn size (length image) (length map)) ∷ []) (given (started size))
 
 -- the place of the first data byte: linear base + segment base + AAAA, a whole number with no wrap
 abbrev pub place : Hex → List ℕ → ℕ
@@ -99,7 +99,7 @@ unfoldable pub recordIn : ℕ → Hex → List ℕ → List ℕ → List ℕ →
 recordIn size h line image map =
     let b = decoded (drop 1 line) in
     first
-    (20 when sizeWrong size image map
+    (20 when not (rightSizesIn size (length image) (length map))
     ∷ 21 when h .ended
     ∷ characterRows line ++ applyRows size h (length line) b map)
     (given (effect h b image map))

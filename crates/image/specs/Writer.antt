@@ -1,5 +1,6 @@
 -- The hex writer: the next record from an address, on a board of `size` bytes.
 use Prim.Native.Nat.{ℕ, _+_, _-_, _/_, _%_}
+use mathlib.Core.Bool.{not}
 use mathlib.Core.List.{List, [], _∷_, _++_}
 use lib.Dec.{ltb, leb}
 use lib.ListN.{length, take, drop}
@@ -8,7 +9,7 @@ use Rattle.basis.specs.Refusals.{Answer, refused, given, _when_, first}
 use Rattle.basis.specs.Sums.{checksumOf}
 use Rattle.runs.specs.Map.{named}
 use Rattle.runs.specs.Runs.{len, next}
-use Rattle.image.specs.Hex.{sizeWrong}
+use Rattle.image.specs.Hex.{rightSizesIn}
 
 -- the upper case character of a digit
 unfoldable pub letterOf : ℕ → ℕ
@@ -62,7 +63,10 @@ stepFrom size image map a =
 -- writing into a buffer of n bytes: 20, 33, else the next record
 unfoldable pub writeIn : ℕ → List ℕ → List ℕ → ℕ → ℕ → Answer Step
 writeIn size image map a n =
-    first (20 when sizeWrong size image map ∷ 33 when ltb n 44 ∷ []) (given (stepFrom size image map a))
+    first
+    (20 when not (rightSizesIn size (length image) (length map))
+    ∷ 33 when ltb n 44 ∷ [])
+    (given (stepFrom size image map a))
 
 -- the length of what is written, and the address to go on from
 pub record Measured : Type 0 where

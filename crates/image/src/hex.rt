@@ -7,7 +7,7 @@ ghost use Rattle.basis.specs.Refusals.{given};
 ghost use Rattle.basis.specs.Board.{flashSize, mapSize};
 ghost use Rattle.image.specs.Record.{count, kind, shapeOf};
 ghost use Rattle.image.specs.Paper.{paperRead, Reads};
-ghost use Rattle.image.specs.Hex.{startIn, recordIn, applyIn, dataIn, otherOf, closeOf};
+ghost use Rattle.image.specs.Hex.{rightSizesIn, startIn, recordIn, applyIn, dataIn, otherOf, closeOf};
 use crate::record::Check;
 use crate::record::Refusal;
 use crate::record::characters;
@@ -46,10 +46,7 @@ impl Hex {
             Reads r (now (image .exit)) (now (map .exit)) (startIn flashSize i m) i m)
             ⌝ }
     {
-        if image.len() != SIZE {
-            return Read::Refused(Refusal::Size);
-        }
-        if map.len() != MAP {
+        if !right_sizes(image.len(), map.len()) {
             return Read::Refused(Refusal::Size);
         }
         fill(image, 0xFF);
@@ -71,10 +68,7 @@ impl Hex {
             (recordIn flashSize self (now (line .entry)) i m) i m)
             ⌝ }
     {
-        if image.len() != SIZE {
-            return Read::Refused(Refusal::Size);
-        }
-        if map.len() != MAP {
+        if !right_sizes(image.len(), map.len()) {
             return Read::Refused(Refusal::Size);
         }
         if self.ended {
@@ -208,6 +202,15 @@ impl Hex {
         }
         Read::Taken(self)
     }
+}
+
+pub fn right_sizes(image: usize, map: usize) -> bool
+    ensures { λ r. ⌜ r ≡ rightSizesIn flashSize image map ⌝ }
+{
+    if image != SIZE {
+        return false;
+    }
+    map == MAP
 }
 
 fn fill(bytes: &mut [u8], x: u8)

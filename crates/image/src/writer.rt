@@ -6,10 +6,9 @@ ghost use Rattle.basis.specs.Lists.{overlay, copyOf};
 ghost use Rattle.basis.specs.Board.{flashSize};
 ghost use Rattle.image.specs.Paper.{paperWritten};
 ghost use Rattle.image.specs.Writer.{letterOf, spelt, text, measured, textBytes, writeIn};
+use crate::hex::right_sizes;
 use crate::record::Refusal;
 use basis::board::END;
-use basis::board::MAP;
-use basis::board::SIZE;
 use basis::sums::complement;
 use basis::sums::sum;
 use basis::units::Address;
@@ -30,10 +29,7 @@ pub fn write(image: &[u8], map: &[u8], from: Address, buffer: &mut [u8]) -> Writ
         (paperWritten r ≡ measured w) × (now (buffer .exit) ≡ overlay (textBytes w) (now (buffer .entry))))
         ⌝ }
 {
-    if image.len() != SIZE {
-        return Written::Refused(Refusal::Size);
-    }
-    if map.len() != MAP {
+    if !right_sizes(image.len(), map.len()) {
         return Written::Refused(Refusal::Size);
     }
     if buffer.len() < 44 {

@@ -15,9 +15,9 @@ use Rattle.basis.specs.Sums.{plainSum, sumOf}
 use Rattle.image.specs.Digits.{digitOf, allDigits, decoded}
 use Rattle.image.specs.Writer.{letterOf, spelt, line}
 use Rattle.image.specs.Laws.Writer.{length-spelt, spelt-digits, spelt-bytes}
-use Rattle.basis.specs.Laws.Choice.{pick-second, both-none, either-none}
+use Rattle.basis.specs.Laws.Choice.{pick-second, both-true, both-none, either-none}
 use Rattle.image.specs.Record.{count, kind, address, noColon, lengthWrong, countWrong, isData, kindWrong, shapeWrong, characterRows, byteRows, shapeRows, charactersOf, framingOf, shapeOf}
-use Rattle.image.specs.Hex.{hex, file, place, placeRows, namedBefore, placed, otherOf, sizeWrong, recordIn, applyIn, dataIn}
+use Rattle.image.specs.Hex.{hex, file, place, placeRows, namedBefore, placed, otherOf, rightSizesIn, recordIn, applyIn, dataIn}
 use Rattle.image.specs.declared.hex.Hex.{Hex}
 
 -- types 02 to 05 have BB 2
@@ -53,22 +53,24 @@ characters-length line e =
     one : (x : ℕ) → (x ≡ 0 → ⊥) → x < 2 → x ≡ 1
     one x z l = omega arith
 
-pub size-right : (size : ℕ) (image map : List ℕ)
-    → length image ≡ size
-    → length map ≡ size / 8
-    → sizeWrong size image map ≡ false
-size-right size image map p q = simp (eq-eqb _ _ p, eq-eqb _ _ q)
+-- what right sizes are
+pub sizes-right : (size i m : ℕ) → rightSizesIn size i m ≡ true → (i ≡ size) × (m ≡ size / 8)
+sizes-right size i m e =
+    let a = both-true (eqb i size) (eqb m (size / 8)) e in (eqb-true _ _ (a .0), eqb-true _ _ (a .1))
+
+pub right-sizes : (size i m : ℕ) → i ≡ size → m ≡ size / 8 → rightSizesIn size i m ≡ true
+right-sizes size i m p q = simp (eq-eqb _ _ p, eq-eqb _ _ q)
 
 module _ (size : ℕ) (h : Hex) (image map : List ℕ) where
   -- the table after 20 and 21: the characters, then the bytes
   pub record-cut : (line : List ℕ)
-      → sizeWrong size image map ≡ false
+      → rightSizesIn size (length image) (length map) ≡ true
       → h .ended ≡ false
       → recordIn size h line image map
       ≡ andThen (charactersOf line) (applyIn size h (length line) (decoded (drop 1 line)) image map)
   unfolding first recordIn charactersOf applyIn
   record-cut line s e =
-      pick-second (sizeWrong size image map) _ _ s
+      pick-second (not (rightSizesIn size (length image) (length map))) _ _ (ap not s)
       ∙ pick-second (h .ended) _ _ e
       ∙ first-then (characterRows line) (applyIn size h (length line) (decoded (drop 1 line)) image map)
 
@@ -136,7 +138,7 @@ end-read : (size : ℕ) (h : Hex) (image map : List ℕ)
 unfolding first charactersOf applyIn digitOf allDigits decoded sumOf plainSum letterOf spelt
 end-read size h image map = refl
 
-module _ (size : ℕ) (h : Hex) (image map : List ℕ) (right : sizeWrong size image map ≡ false) (going : h .ended ≡ false) where
+module _ (size : ℕ) (h : Hex) (image map : List ℕ) (right : rightSizesIn size (length image) (length map) ≡ true) (going : h .ended ≡ false) where
   -- a data record that finds its places free and on the board
   pub data-taken : (b : List ℕ)
       → Bytes b

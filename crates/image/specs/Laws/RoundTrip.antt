@@ -21,7 +21,7 @@ use Rattle.image.specs.Hex.{File, hex, file, started, fed, place, placed
 use Rattle.image.specs.declared.hex.Hex.{Hex}
 use Rattle.image.specs.Writer.{content, line, text, step, recordLength, recordFrom, lowest, stepFrom}
 use Rattle.image.specs.RoundTrip.{unended, lines, addressAfter, readLines, Returned}
-use Rattle.image.specs.Laws.Hex.{size-right, data-taken, end-taken}
+use Rattle.image.specs.Laws.Hex.{right-sizes, data-taken, end-taken}
 
 -- ---- one record
 
@@ -201,7 +201,7 @@ module _ (size : ℕ) (image map : List ℕ) where
 
       run-read : recordIn size (f .reader) (line a 0 part) (f .image) (f .map) ≡ given more
       run-read =
-          data-taken size (f .reader) (f .image) (f .map) (size-right size (f .image) (f .map) (u .imageLength) (u .mapLength)) (u .going) (closed a part)
+          data-taken size (f .reader) (f .image) (f .map) (right-sizes size _ _ (u .imageLength) (u .mapLength)) (u .going) (closed a part)
           (closed-bytes a part (omega arith) (omega (arith, part-length)) part-bytes)
           (omega (arith, length-append part (checksumOf (content a 0 part) ∷ [])))
           (sum-closed (content a 0 part))
@@ -272,7 +272,7 @@ module _ (size : ℕ) (image map : List ℕ) where
                 result = last;
                 read =
                     ap (λ (s : List (List ℕ)). readLines size s f) (lines-step a k 0 1 (size + 1) [] l (step-end a l h))
-                    ∙ read-step (line 0 1 []) (lines size image map (size + 1) k) f last (end-taken size (f .reader) (f .image) (f .map) (size-right size (f .image) (f .map) (u .imageLength) (u .mapLength)) (u .going))
+                    ∙ read-step (line 0 1 []) (lines size image map (size + 1) k) f last (end-taken size (f .reader) (f .image) (f .map) (right-sizes size _ _ (u .imageLength) (u .mapLength)) (u .going))
                     ∙ ap (λ (s : List (List ℕ)). readLines size s last) (lines-past k)
                     ∙ read-none last;
                 back =

@@ -12,7 +12,7 @@ use lib.ListN.{length, getD, set, take, length-append, length-take, length-set}
 use lib.Seq.{length-take-le, take-all, take-nil, take-append-le, take-suc-set, set-out, getD-take}
 use Rattle.basis.specs.Laws.Choice.{decide}
 use Rattle.basis.specs.Refusals.{Answer, refused, given, _when_, first}
-use Rattle.image.specs.Hex.{File, file, settled, sizeWrong, startIn, recordIn}
+use Rattle.image.specs.Hex.{File, file, settled, rightSizesIn, startIn, recordIn}
 use Rattle.image.specs.Hex.{closeOf as closing}
 use Rattle.image.specs.declared.hex.Hex.{Hex}
 use Rattle.listing.specs.Text.{Result, result, lineRoom, trimmedOf, linesFrom, unlessRefused, verdictBy, readFrom, readIn}
@@ -25,7 +25,12 @@ use Rattle.listing.specs.declared.text.Text.{Text}
 module _ (size : ℕ) (h : Hex) (image map : List ℕ) where
   -- by its first character c
   abbrev early : ℕ → Answer File
-  early c = first (20 when sizeWrong size image map ∷ 21 when h .ended ∷ 22 when not (eqb c 0x3A) ∷ []) (refused 23)
+  early c =
+      first
+      (20 when not (rightSizesIn size (length image) (length map))
+      ∷ 21 when h .ended
+      ∷ 22 when not (eqb c 0x3A) ∷ [])
+      (refused 23)
 
   long-record : (l : List ℕ) → 521 < length l → recordIn size h l image map ≡ early (getD l 0 0)
   unfolding first recordIn

@@ -1,24 +1,37 @@
 -- `write` meets its contract: one lemma for each way out.
 use Prim.Native.Nat.{ℕ, _+_, _-_, _/_, _%_, _<_, _≤_}
+use mathlib.Core.Bool.{true, false}
 use mathlib.Core.Path.{_≡_, sym, ap, _∙_}
 use mathlib.Core.List.{List, []}
 use native.Mathlib.Omega.{arith}
 use lib.ListN.{length, take, drop, length-take, length-drop}
-use borrow.Author.Tests.{eq-eqb, lt-ltb, le-ltb, le-leb, lt-leb, ne-eqb}
-use Rattle.basis.specs.Refusals.{given, first}
+use borrow.Author.Tests.{not-true, not-false, lt-ltb, le-ltb, le-leb, lt-leb}
+use Rattle.basis.specs.Refusals.{refused, given, first}
+use Rattle.image.specs.Hex.{rightSizesIn}
+use Rattle.image.specs.Laws.Hex.{sizes-right}
 use Rattle.image.specs.Writer.{text, step, recordLength, recordFrom, lowest, stepFrom, writeIn}
 use Rattle.runs.specs.Map.{named}
 use Rattle.runs.specs.Laws.Runs.{len-le}
 use borrow.Author.Needs.{needs}
-use Rattle.basis.specs.Board.{flashSize}
+use Rattle.basis.specs.Board.{flashSize, mapSize}
 use Rattle.image.proofs.writer.write.Statement.{statement}
 use Rattle.image.proofs.writer.write.Tie as tie
 
--- what is given once size and buffer are right
-module _ (size : ℕ) (image map : List ℕ) (a n : ℕ) (p : length image ≡ size) (q : length map ≡ size / 8) (room : 44 ≤ n) where
+-- what is refused
+module _ (size : ℕ) (image map : List ℕ) (a n : ℕ) where
+  write-size : rightSizesIn size (length image) (length map) ≡ false → writeIn size image map a n ≡ refused 20
+  unfolding first writeIn
+  write-size e = simp e
+
+  write-short : rightSizesIn size (length image) (length map) ≡ true → n < 44 → writeIn size image map a n ≡ refused 33
+  unfolding first writeIn
+  write-short e h = simp (e, lt-ltb _ _ h)
+
+-- what is given once sizes and buffer are right
+module _ (size : ℕ) (image map : List ℕ) (a n : ℕ) (e : rightSizesIn size (length image) (length map) ≡ true) (room : 44 ≤ n) where
   write-step : writeIn size image map a n ≡ given (stepFrom size image map a)
   unfolding first writeIn
-  write-step = simp (eq-eqb _ _ p, eq-eqb _ _ q, le-ltb _ _ room)
+  write-step = simp (e, le-ltb _ _ room)
 
   write-above : size < a → writeIn size image map a n ≡ given (step [] a)
   unfolding stepFrom
@@ -36,37 +49,41 @@ module _ (size : ℕ) (image map : List ℕ) (a n : ℕ) (p : length image ≡ s
         write-step
         ∙ ap given ((simp (le-ltb _ _ low, lt-leb _ _ (rw ek at h))) ∙ ap (recordFrom image map) (sym ek) ∙ ap (λ (l : ℕ). step (text k 0 (take l (drop k image))) (k + l)) (sym ec) ∙ ap (λ (l : ℕ). step (text k 0 (take l (drop k image))) (k + c)) (sym em))
 
+-- what the first test says of the entry
+sized : (c : tie.Else1) → let a = c .before .before .before .before .before .args in
+    rightSizesIn flashSize (length (a .image .now)) (length (a .map .now)) ≡ true
+sized c = sym (c .before .right-sizes .ensures) ∙ not-false _ (c .if1 .left)
+
+right : (c : tie.Else1) → let a = c .before .before .before .before .before .args in
+    (length (a .image .now) ≡ flashSize) × (length (a .map .now) ≡ mapSize)
+right c = sizes-right flashSize _ _ (sized c)
+
+right-sizes-requires : tie.Need-right-sizes-requires
+right-sizes-requires c κs = search needs
+
 returns : tie.Need-returns
-unfolding first writeIn
-returns c = (simp (ne-eqb _ _ (c .if1 .taken)), simp (ne-eqb _ _ (c .if1 .taken)))
+returns c =
+    let a = c .before .before .before .before .before .args in
+    let e = write-size flashSize (a .image .now) (a .map .now) (a .from .0) (length (a .buffer .now))
+    (sym (c .before .right-sizes .ensures) ∙ not-true _ (c .if1 .taken)) in
+    (rw e, rw e)
 
 returns-2 : tie.Need-returns-2
-unfolding first writeIn
 returns-2 c =
-    let if1 = c .before .if1 in (
-      simp (eq-eqb _ _ (if1 .left), ne-eqb _ _ (c .if2 .taken)),
-      simp (eq-eqb _ _ (if1 .left), ne-eqb _ _ (c .if2 .taken)),
-    )
+    let a = c .before .before .before .before .before .before .args in
+    let e = write-short flashSize (a .image .now) (a .map .now) (a .from .0) (length (a .buffer .now))
+    (sized (c .before)) (c .if2 .taken) in
+    (rw e, rw e)
 
 returns-3 : tie.Need-returns-3
-unfolding first writeIn
 returns-3 c =
-    let if2 = c .before .if2 in
-    let if1 = c .before .before .if1 in (
-      simp (eq-eqb _ _ (if1 .left), eq-eqb _ _ (if2 .left), lt-ltb _ _ (c .if3 .taken)),
-      simp (eq-eqb _ _ (if1 .left), eq-eqb _ _ (if2 .left), lt-ltb _ _ (c .if3 .taken)),
-    )
-
-returns-4 : tie.Need-returns-4
-returns-4 c =
     let a = c .before .before .before .before .before .before .before .before .args in
     let e = write-above flashSize (a .image .now) (a .map .now) (a .from .0) (length (a .buffer .now))
-    (c .before .before .before .before .if1 .left) (c .before .before .before .if2 .left)
-    (c .before .before .if3 .left) (c .if4 .taken) in
+    (sized (c .before .before .before)) (c .before .before .if2 .left) (c .if3 .taken) in
     (rw e, rw e)
 
 next-named-requires : tie.Need-next-named-requires
-next-named-requires c κs = search needs
+next-named-requires c κs = omega (arith, right (c .before .before .before) .1)
 
 slice-aggregate-print : tie.Need-slice-aggregate-print
 slice-aggregate-print c = search needs
@@ -74,32 +91,28 @@ slice-aggregate-print c = search needs
 print-requires : tie.Need-print-requires
 print-requires c κs = search needs
 
-add-t22 : tie.Need-add-t22
-add-t22 c = search needs
+add-t23 : tie.Need-add-t23
+add-t23 c = search needs
 
 same-length : tie.Need-same-length
 same-length c = search needs
 
-returns-5 : tie.Need-returns-5
-returns-5 c =
+returns-4 : tie.Need-returns-4
+returns-4 c =
+    let a = c .before .before .before .before .before .before .before .before .before .before .before .before .before .before .before .before .args in
     let print = c .before .before .print in
-    let next-named = c .before .before .before .before .before .before .before .next-named in
-    let if4 = c .before .before .before .before .before .before .before .before .if4 in
-    let p = c .before .before .before .before .before .before .before .before .before .before in
-    let if3 = p .if3 in
-    let if2 = p .before .if2 in
-    let if1 = p .before .before .if1 in
-    let a = p .before .before .before .before .before .before .args in
     let e = write-end flashSize (a .image .now) (a .map .now) (a .from .0) (length (a .buffer .now))
-    (if1 .left) (if2 .left) (if3 .left) (if4 .left) _ (next-named .ensures)
-    (c .before .before .before .before .before .if5 .taken) in
+    (sized (c .before .before .before .before .before .before .before .before .before .before .before)) (c .before .before .before .before .before .before .before .before .before .before .if2 .left)
+    (c .before .before .before .before .before .before .before .before .if3 .left) _
+    (c .before .before .before .before .before .before .before .next-named .ensures)
+    (c .before .before .before .before .before .if4 .taken) in
     (rw (e, print .ensures .0), rw e (print .ensures .1))
 
 sub-row-len : tie.Need-sub-row-len
 sub-row-len c = search needs
 
 row-len-requires : tie.Need-row-len-requires
-row-len-requires c κs = search needs
+row-len-requires c κs = omega (arith, right (c .before .before .before .before .before .before) .1)
 
 cast-first : tie.Need-cast-first
 cast-first c = search needs
@@ -122,63 +135,54 @@ part-print-start c = search needs
 part-print-end : tie.Need-part-print-end
 part-print-end c =
     let next-named = c .before .before .before .next-named in
-    let if1 = c .before .before .before .before .before .before .before .before .if1 in
-    let p = c .before .before .before .before .before .before .before .before .before .before .before .before in
-    let args = p .args in
+    let args = c .before .before .before .before .before .before .before .before .before .before .before .before .args in
     omega (
       arith,
       c .row-len .ensures,
       len-le (named (args .map .now)) (next-named .result .0) (16 - next-named .result .0 % 16),
-      c .before .if5 .left,
-      if1 .left,
+      c .before .if4 .left,
+      right (c .before .before .before .before .before .before .before) .0,
     )
 
 print-requires-2 : tie.Need-print-requires-2
 print-requires-2 c κs =
     let next-named = c .before .before .before .before .before .next-named in
-    let if3 = c .before .before .before .before .before .before .before .before .if3 in
-    let p = c .before .before .before .before .before .before .before .before .before .before .before .before .before .before in
-    let args = p .args in (
+    let args = c .before .before .before .before .before .before .before .before .before .before .before .before .before .before .args in (
       simp (length-take, length-drop) (omega (
         arith,
         c .before .before .row-len .ensures,
         len-le (named (args .map .now)) (next-named .result .0) (16 - next-named .result .0 % 16),
       )),
-      if3 .left,
+      c .before .before .before .before .before .before .before .before .if2 .left,
     )
 
-add-t25 : tie.Need-add-t25
-add-t25 c =
-    let if5 = c .before .before .before .before .before .before .if5 in
+add-t26 : tie.Need-add-t26
+add-t26 c =
     let next-named = c .before .before .before .before .before .before .before .before .next-named in
-    let p = c .before .before .before .before .before .before .before .before .before .before .before .before .before .before .before .before .before in
-    let args = p .args in
+    let args = c .before .before .before .before .before .before .before .before .before .before .before .before .before .before .before .before .before .args in
     omega (
       arith,
       c .before .before .before .before .before .row-len .ensures,
       len-le (named (args .map .now)) (next-named .result .0) (16 - next-named .result .0 % 16),
-      if5 .left,
+      c .before .before .before .before .before .before .if4 .left,
     )
 
 same-length-2 : tie.Need-same-length-2
 same-length-2 c = search needs
 
-returns-6 : tie.Need-returns-6
-returns-6 c =
+returns-5 : tie.Need-returns-5
+returns-5 c =
     let print2 = c .before .before .print2 in
     let row-len = c .before .before .before .before .before .row-len in
-    let if5 = c .before .before .before .before .before .before .if5 in
+    let if4 = c .before .before .before .before .before .before .if4 in
     let next-named = c .before .before .before .before .before .before .before .before .next-named in
-    let p = c .before .before .before .before .before .before .before .before .before in
-    let if4 = p .if4 in
-    let if3 = p .before .before .if3 in
-    let if2 = p .before .before .before .if2 in
-    let if1 = p .before .before .before .before .if1 in
-    let a = p .before .before .before .before .before .before .before .before .args in
+    let a = c .before .before .before .before .before .before .before .before .before .before .before .before .before .before .before .before .before .args in
     let k = next-named .result .0 in
     let m : k + row-len .result - k ≡ row-len .result = omega arith in
     let e = write-run flashSize (a .image .now) (a .map .now) (a .from .0) (length (a .buffer .now))
-    (if1 .left) (if2 .left) (if3 .left) (if4 .left) k (next-named .ensures) _ _ (if5 .left)
+    (sized (c .before .before .before .before .before .before .before .before .before .before .before .before))
+    (c .before .before .before .before .before .before .before .before .before .before .before .if2 .left)
+    (c .before .before .before .before .before .before .before .before .before .if3 .left) k (next-named .ensures) _ _ (if4 .left)
     (row-len .ensures) m in
     (rw (e, print2 .ensures .0), rw e (print2 .ensures .1))
 
@@ -186,16 +190,16 @@ pub write-spec : {M : Type 1} → statement M
 write-spec =
     tie.close
     (tie.spec
+    right-sizes-requires
     returns
     returns-2
     returns-3
-    returns-4
     next-named-requires
     slice-aggregate-print
     print-requires
-    add-t22
+    add-t23
     same-length
-    returns-5
+    returns-4
     sub-row-len
     row-len-requires
     cast-first
@@ -206,6 +210,6 @@ write-spec =
     part-print-start
     part-print-end
     print-requires-2
-    add-t25
+    add-t26
     same-length-2
-    returns-6)
+    returns-5)

@@ -1,29 +1,52 @@
 -- `record` meets its contract: sizes and the end are tested, the rest is handed on.
-use borrow.Author.Tests.{eq-eqb, ne-eqb}
-use Rattle.basis.specs.Refusals.{first}
-use Rattle.image.specs.Hex.{recordIn}
+use Prim.Native.Nat.{ℕ}
+use mathlib.Core.Bool.{true, false}
+use mathlib.Core.List.{List}
+use mathlib.Core.Path.{_≡_, refl, sym, _∙_}
+use lib.ListN.{length}
 use borrow.Author.Needs.{needs}
+use borrow.Author.Tests.{not-true, not-false}
+use Rattle.basis.specs.Board.{flashSize}
+use Rattle.basis.specs.Refusals.{refused, first}
+use Rattle.image.specs.Hex.{settledAs, settled, rightSizesIn, recordIn}
+use Rattle.image.specs.Laws.Hex.{sizes-right}
+use Rattle.image.specs.declared.hex.Hex.{Hex}
 use Rattle.image.proofs.hex.Hex.record.Statement.{statement}
 use Rattle.image.proofs.hex.Hex.record.Tie as tie
 
+-- the early ways out, each by the table
+module _ (size : ℕ) (h : Hex) (line image map : List ℕ) where
+  record-size : rightSizesIn size (length image) (length map) ≡ false
+      → settledAs (refused 20) image map ≡ settled (recordIn size h line image map) image map
+  unfolding first recordIn
+  record-size e = simp e
+
+  record-ended : rightSizesIn size (length image) (length map) ≡ true → h .ended ≡ true
+      → settledAs (refused 21) image map ≡ settled (recordIn size h line image map) image map
+  unfolding first recordIn
+  record-ended e t = simp (e, t)
+
+-- what the first test says of the entry
+sized : (c : tie.Else1) → let a = c .before .before .before .before .before .args in
+    rightSizesIn flashSize (length (a .image .now)) (length (a .map .now)) ≡ true
+sized c = sym (c .before .right-sizes .ensures) ∙ not-false _ (c .if1 .left)
+
+right-sizes-requires : tie.Need-right-sizes-requires
+right-sizes-requires c κs = search needs
+
 returns : tie.Need-returns
-unfolding first recordIn
-returns c = simp (ne-eqb _ _ (c .if1 .taken))
+returns c = record-size flashSize _ _ _ _ (sym (c .before .right-sizes .ensures) ∙ not-true _ (c .if1 .taken))
 
 returns-2 : tie.Need-returns-2
-unfolding first recordIn
-returns-2 c = simp (eq-eqb _ _ (c .before .if1 .left), ne-eqb _ _ (c .if2 .taken))
-
-returns-3 : tie.Need-returns-3
-unfolding first recordIn
-returns-3 c =
-    simp (eq-eqb _ _ (c .before .before .if1 .left), eq-eqb _ _ (c .before .if2 .left), c .if3 .taken)
+returns-2 c = record-ended flashSize _ _ _ _ (sized (c .before)) (c .if2 .taken)
 
 slice-aggregate-take : tie.Need-slice-aggregate-take
 slice-aggregate-take c = search needs
 
 take-requires : tie.Need-take-requires
-take-requires c κs = search needs
+take-requires c κs =
+    let right = sizes-right flashSize _ _ (sized (c .before .before .before .before)) in
+    (refl, right .0, right .1, c .before .before .before .if2 .left)
 
 same-length : tie.Need-same-length
 same-length c = search needs
@@ -31,18 +54,18 @@ same-length c = search needs
 same-length-2 : tie.Need-same-length-2
 same-length-2 c = search needs
 
-returns-4 : tie.Need-returns-4
-returns-4 c = search needs
+returns-3 : tie.Need-returns-3
+returns-3 c = search needs
 
 pub record-spec : {M : Type 1} → statement M
 record-spec =
     tie.close
     (tie.spec
+    right-sizes-requires
     returns
     returns-2
-    returns-3
     slice-aggregate-take
     take-requires
     same-length
     same-length-2
-    returns-4)
+    returns-3)

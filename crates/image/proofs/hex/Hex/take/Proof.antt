@@ -9,7 +9,7 @@ use Rattle.image.specs.Digits.{decoded}
 use Rattle.image.specs.Record.{charactersOf}
 use Rattle.image.specs.Hex.{settledAs, settled, recordIn, applyIn}
 use Rattle.image.specs.declared.hex.Hex.{Hex}
-use Rattle.image.specs.Laws.Hex.{size-right, record-cut, characters-length}
+use Rattle.image.specs.Laws.Hex.{right-sizes, record-cut, characters-length}
 use lib.Seq.{length-take-le}
 use native.Mathlib.Omega.{arith}
 use denote.Ref.{now}
@@ -23,11 +23,11 @@ use Rattle.image.proofs.hex.Hex.take.Tie as tie
 module _ (size : ℕ) (h : Hex) (line image map : List ℕ) (p : length image ≡ size) (q : length map ≡ size / 8) (going : h .ended ≡ false) where
   take-refused : (k : ℕ) → charactersOf line ≡ refused k
       → settledAs (refused k) image map ≡ settled (recordIn size h line image map) image map
-  take-refused k e = rw (record-cut size h image map line (size-right size image map p q) going, e)
+  take-refused k e = rw (record-cut size h image map line (right-sizes size _ _ p q) going, e)
 
   take-applied : (b : List ℕ) → charactersOf line ≡ given tt → b ≡ decoded (drop 1 line)
       → applyIn size h (length line) b image map ≡ recordIn size h line image map
-  take-applied b e s = rw (record-cut size h image map line (size-right size image map p q) going, e, s)
+  take-applied b e s = rw (record-cut size h image map line (right-sizes size _ _ p q) going, e, s)
 
 characters-requires : tie.Need-characters-requires
 characters-requires c κs = search needs
