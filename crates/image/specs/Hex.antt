@@ -52,7 +52,8 @@ started size = file fresh (replicate size 0xFF) (replicate (size / 8) 0)
 
 -- start: 20, else image and map filled
 unfoldable pub startIn : ℕ → List ℕ → List ℕ → Answer File
-startIn size image map = first (20 when not (rightSizesIn size (length image) (length map)) ∷ []) (given (started size))
+startIn size image map =
+    first (20 when not (rightSizesIn size (length image) (length map)) ∷ []) (given (started size))
 
 -- the place of the first data byte: linear base + segment base + AAAA, a whole number with no wrap
 abbrev pub place : Hex → List ℕ → ℕ

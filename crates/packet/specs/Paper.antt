@@ -49,5 +49,6 @@ paperBuilt (built.Refused x) = refused (paperRefusal x)
 -- what the packet says, or the refusal
 abbrev pub paperReading : Reading.Reading → Answer Parts
 paperReading (reading.Packet p) =
-    given (record { command = paperCommand (p .command); address = p .address .0; place = p .at; size = p .len })
+    given
+    (record { command = paperCommand (p .command); address = p .address .0; place = p .at; size = p .len })
 paperReading (reading.Refused x) = refused (paperRefusal x)

@@ -56,7 +56,9 @@ unfolding any
 any-none p a zero h = refl
 any-none p a (suc n) h =
     either-false (p a) (any p (a + 1) n) (subst (λ (x : ℕ). p x ≡ false) (add-zero a) (h 0 (omega arith)))
-    (any-none p (a + 1) n (λ j l. let e : a + suc j ≡ a + 1 + j = omega arith in subst (λ (x : ℕ). p x ≡ false) e (h (suc j) (omega arith))))
+    (any-none p (a + 1) n
+    (λ j l. let e : a + suc j ≡ a + 1 + j = omega arith in
+    subst (λ (x : ℕ). p x ≡ false) e (h (suc j) (omega arith))))
 
 -- going through them up to an end: here one passes, or it is the rest that tells, until there is none left
 module _ (p : ℕ → Bool) (a end : ℕ) where

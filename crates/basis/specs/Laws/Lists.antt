@@ -30,7 +30,8 @@ module _ {A : Type 0} where
   pub overlay-more : (new old : List A) (i : ℕ) (d : A) → i < length new → i < length old
       → set (overlay (take i new) old) i (getD new i d) ≡ overlay (take (i + 1) new) old
   overlay-more new old i d h k =
-      rw (add-one, take-suc new i d) (overlay-next (take i new) old i (getD new i d) (length-take-le i new (omega arith)) k)
+      rw (add-one, take-suc new i d)
+      (overlay-next (take i new) old i (getD new i d) (length-take-le i new (omega arith)) k)
 
   -- a part behind what was written is lent on and written: the whole is written through
   pub overlay-part : (f s old F P : List A) (k : ℕ) → length f ≡ k → F ≡ overlay f old
@@ -40,7 +41,17 @@ module _ {A : Type 0} where
       let r = drop (length f) old in
       let l : length r ≤ length (f ++ r) - k = omega (arith, length-append f r) in
       let e : P ≡ overlay s r = rw (eF, drop-at f r k lf, take-all (length (f ++ r) - k) r l) at eP in
-      rw (eF, e, take-at f r k lf, drop-at f r k lf, drop-of-length-le r l, append-nil, drop-drop, length-append) (sym (append-assoc f s (drop (length f + length s) old)))
+      rw (
+        eF,
+        e,
+        take-at f r k lf,
+        drop-at f r k lf,
+        drop-of-length-le r l,
+        append-nil,
+        drop-drop,
+        length-append,
+      )
+      (sym (append-assoc f s (drop (length f + length s) old)))
 
 -- what is proved of `stored` holds of stores, copies and erasure alike
 module _ (op : ℕ → ℕ → ℕ) where
@@ -79,7 +90,8 @@ module _ (op : ℕ → ℕ → ℕ) where
   unfolding stored
   stored-at old a [] k h l = absurd (not-suc-le-zero h)
   stored-at old a (x ∷ s) zero h l =
-      rw add-zero (stored-below (one old a x) (a + 1) s a (omega arith) ∙ getD-set-same old a _ 0 (omega arith))
+      rw add-zero
+      (stored-below (one old a x) (a + 1) s a (omega arith) ∙ getD-set-same old a _ 0 (omega arith))
   stored-at old a (x ∷ s) (suc k) h l =
       let e : a + suc k ≡ a + 1 + k = omega arith in
       rw e
@@ -89,7 +101,8 @@ module _ (op : ℕ → ℕ → ℕ) where
   -- one turn of a loop that stores, and its end, in the loop's own terms
   module _ (old : List ℕ) (a i : ℕ) (s : List ℕ) where
     pub stored-turn : i < length s
-        → stored op (one old (a + i) (getD s i 0)) (a + (i + 1)) (drop (i + 1) s) ≡ stored op old (a + i) (drop i s)
+        → stored op (one old (a + i) (getD s i 0)) (a + (i + 1)) (drop (i + 1) s)
+        ≡ stored op old (a + i) (drop i s)
     unfolding stored
     stored-turn h = rw (← add-assoc a i 1, add-one i, drop-cons s i 0)
 
@@ -115,7 +128,8 @@ pub bytes-take : (n : ℕ) (s : List ℕ) → Bytes s → Bytes (take n s)
 bytes-take n s b k =
     decide (ltb k n)
     (λ t. rw (getD-take n s k 0 (ltb-true k n t)) (b k))
-    (λ t. let h : length (take n s) ≤ k = omega (arith, length-take n s, ltb-false k n t) in rw (List·getD-eq-default (take n s) 0 h) (lit< tt))
+    (λ t. let h : length (take n s) ≤ k = omega (arith, length-take n s, ltb-false k n t) in
+    rw (List·getD-eq-default (take n s) 0 h) (lit< tt))
 
 pub zero-at : (n i : ℕ) → _≡_ {A = ℕ} (getD (replicate n 0) i 0) 0
 zero-at zero i = refl

@@ -52,7 +52,8 @@ first-then {A} (x ∷ l) r = go (x .holds) (first-then l r)
   where
     go : (t : Bool)
         → first l r ≡ andThen (first l (given tt)) r
-        → pick t (refused (x .number)) (first l r) ≡ andThen (pick t (refused (x .number)) (first l (given tt))) r
+        → pick t (refused (x .number)) (first l r)
+        ≡ andThen (pick t (refused (x .number)) (first l (given tt))) r
     go true e = refl
     go false e = e
 
@@ -60,7 +61,8 @@ first-then {A} (x ∷ l) r = go (x .holds) (first-then l r)
 pub alike : {A B : Type 0} {n : ℕ} (l : List Rule) (x : A) (y : B)
     → first l (given x) ≡ refused n
     → first l (given y) ≡ refused n
-alike {A} {B} {n} l x y e = first-then l (given y) ∙ go (first l (given tt)) (sym (first-then l (given x)) ∙ e)
+alike {A} {B} {n} l x y e =
+    first-then l (given y) ∙ go (first l (given tt)) (sym (first-then l (given x)) ∙ e)
   where
     go : (a : Answer (Unit {0})) → andThen a (given x) ≡ refused n → andThen a (given y) ≡ refused n
     go (refused m) e = ap refused (refused-one e)

@@ -68,8 +68,11 @@ pub record-determined : {o : Settled} (r s : Read) (i j m n : List ℕ)
     → settledAs (paperRead s) j n ≡ o
     → (r ≡ s) × (i ≡ j) × (m ≡ n)
 record-determined r s i j m n p q =
-    let e = p ∙ sym q in
-    (read-one r s (ap (λ (x : Settled). x .answer) e), ap (λ (x : Settled). x .image) e, ap (λ (x : Settled). x .map) e)
+    let e = p ∙ sym q in (
+      read-one r s (ap (λ (x : Settled). x .answer) e),
+      ap (λ (x : Settled). x .image) e,
+      ap (λ (x : Settled). x .map) e,
+    )
 
 pub close-determined : {a : Answer Hex} (r s : Read) → paperRead r ≡ a → paperRead s ≡ a → r ≡ s
 close-determined = determined paperRead read-one

@@ -25,7 +25,8 @@ pub shape-count : (b : List ℕ) → shapeOf b ≡ given tt → (kind b ≡ 0 �
 unfolding shapeOf
 shape-count b e n0 n1 =
     let p = passed 28 (shapeWrong b) _ _ (passed 27 (kindWrong b) _ _ e .1) .0 in
-    let q = either-none (not (eqb (address b) 0)) (not (eqb (count b) 2)) (simp (ne-eqb _ _ n0, ne-eqb _ _ n1) at p) in
+    let q = either-none (not (eqb (address b) 0)) (not (eqb (count b) 2))
+    (simp (ne-eqb _ _ n0, ne-eqb _ _ n1) at p) in
     eqb-true _ _ (not-false (eqb (count b) 2) (q .1))
 
 -- BB as the length says
@@ -78,14 +79,16 @@ module _ (size : ℕ) (h : Hex) (image map : List ℕ) where
   pub apply-cut : (n : ℕ) (b : List ℕ)
       → applyIn size h n b image map
       ≡ andThen (framingOf n b)
-      (andThen (shapeOf b) (pick (isData b) (dataIn size h b image map) (given (file (otherOf h b) image map))))
+      (andThen (shapeOf b)
+      (pick (isData b) (dataIn size h b image map) (given (file (otherOf h b) image map))))
   unfolding first applyIn framingOf shapeOf dataIn
   apply-cut n b =
       first-then (byteRows n b) _
       ∙ ap (andThen (framingOf n b)) (first-then (shapeRows b) _ ∙ ap (andThen (shapeOf b)) (by (isData b)))
     where
       by : (t : Bool)
-          → first (pick t (placeRows size h b map) []) (given (pick t (placed h b image map) (file (otherOf h b) image map)))
+          → first (pick t (placeRows size h b map) [])
+          (given (pick t (placed h b image map) (file (otherOf h b) image map)))
           ≡ pick t (dataIn size h b image map) (given (file (otherOf h b) image map))
       by true = refl
       by false = refl
@@ -114,7 +117,8 @@ module _ (b : List ℕ) (bytes : Bytes b) (long : length b ≡ 5 + count b) wher
   spelling-characters =
       let few : count b < 256 = bytes 0 in
       let n : length spelling ≡ 11 + 2 * count b = spelling-length in
-      characters-right spelling refl (record { least = omega arith; most = omega arith; odd = omega arith }) (spelt-digits b bytes)
+      characters-right spelling refl (record { least = omega arith; most = omega arith; odd = omega arith })
+      (spelt-digits b bytes)
 
   spelling-framing : sumOf b ≡ 0 → framingOf (length spelling) b ≡ given tt
   unfolding first framingOf
@@ -138,7 +142,8 @@ end-read : (size : ℕ) (h : Hex) (image map : List ℕ)
 unfolding first charactersOf applyIn digitOf allDigits decoded sumOf plainSum letterOf spelt
 end-read size h image map = refl
 
-module _ (size : ℕ) (h : Hex) (image map : List ℕ) (right : rightSizesIn size (length image) (length map) ≡ true) (going : h .ended ≡ false) where
+module _ (size : ℕ) (h : Hex) (image map : List ℕ)
+    (right : rightSizesIn size (length image) (length map) ≡ true) (going : h .ended ≡ false) where
   -- a data record that finds its places free and on the board
   pub data-taken : (b : List ℕ)
       → Bytes b
@@ -150,7 +155,15 @@ module _ (size : ℕ) (h : Hex) (image map : List ℕ) (right : rightSizesIn siz
       → recordIn size h (0x3A ∷ spelt b) image map ≡ given (placed h b image map)
   data-taken b bytes long sum zero fits free =
       record-cut size h image map (0x3A ∷ spelt b) right going
-      ∙ rw (spelling-characters b bytes long, spelt-bytes b bytes, apply-cut size h image map (length (0x3A ∷ spelt b)) b, spelling-framing b bytes long sum, shape-data b zero, eq-eqb _ _ zero) (data-placed size h b image map fits free)
+      ∙ rw (
+        spelling-characters b bytes long,
+        spelt-bytes b bytes,
+        apply-cut size h image map (length (0x3A ∷ spelt b)) b,
+        spelling-framing b bytes long sum,
+        shape-data b zero,
+        eq-eqb _ _ zero,
+      )
+      (data-placed size h b image map fits free)
 
   -- the end record
   pub end-taken : recordIn size h (line 0 1 []) image map

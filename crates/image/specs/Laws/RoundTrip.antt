@@ -28,7 +28,8 @@ use Rattle.image.specs.Laws.Hex.{right-sizes, data-taken, end-taken}
 unended-text : (a kind : ℕ) (s : List ℕ) → unended (text a kind s) ≡ line a kind s
 unfolding text
 unended-text a kind s =
-    take-at (line a kind s) (0x0A ∷ []) (length (line a kind s ++ (0x0A ∷ [])) - 1) (omega (arith, length-append (line a kind s) (0x0A ∷ [])))
+    take-at (line a kind s) (0x0A ∷ []) (length (line a kind s ++ (0x0A ∷ [])) - 1)
+    (omega (arith, length-append (line a kind s) (0x0A ∷ [])))
 
 -- the bytes of a data record
 abbrev closed : ℕ → List ℕ → List ℕ
@@ -135,7 +136,9 @@ module _ (size : ℕ) (image map : List ℕ) where
       decide (leb size (lowest size map a))
       (λ e. rw (step-end a l (leb-true _ _ e)) (address-past k))
       (λ e. let h : lowest size map a < size = leb-false _ _ e in
-      rw (step-run a l h) (writer-ends whole k (lowest size map a + recordLength map (lowest size map a)) (omega (arith, run-few a h)) (omega (arith, next-ge (named map) (size - a) a, run-some a h))))
+      rw (step-run a l h)
+      (writer-ends whole k (lowest size map a + recordLength map (lowest size map a))
+      (omega (arith, run-few a h)) (omega (arith, next-ge (named map) (size - a) a, run-some a h))))
 
   -- ---- the reader after the records below an address
 
@@ -179,7 +182,9 @@ module _ (size : ℕ) (image map : List ℕ) where
 
   module _ (fits : size ≤ 65536) (imageBytes : Bytes image) where
     -- one run more
-    module _ (a n : ℕ) (f : File) (u : Upto a f) (some : 0 < n) (few : n ≤ 16) (end : a + n ≤ size) (whole : size % 8 ≡ 0) (run : (j : ℕ) → a ≤ j → j < a + n → named map j ≡ true) (il : length image ≡ size) where
+    module _ (a n : ℕ) (f : File) (u : Upto a f) (some : 0 < n) (few : n ≤ 16) (end : a + n ≤ size)
+        (whole : size % 8 ≡ 0) (run : (j : ℕ) → a ≤ j → j < a + n → named map j ≡ true)
+        (il : length image ≡ size) where
       abbrev part : List ℕ
       part = take n (drop a image)
 
@@ -201,14 +206,17 @@ module _ (size : ℕ) (image map : List ℕ) where
 
       run-read : recordIn size (f .reader) (line a 0 part) (f .image) (f .map) ≡ given more
       run-read =
-          data-taken size (f .reader) (f .image) (f .map) (right-sizes size _ _ (u .imageLength) (u .mapLength)) (u .going) (closed a part)
+          data-taken size (f .reader) (f .image) (f .map)
+          (right-sizes size _ _ (u .imageLength) (u .mapLength)) (u .going) (closed a part)
           (closed-bytes a part (omega arith) (omega (arith, part-length)) part-bytes)
           (omega (arith, length-append part (checksumOf (content a 0 part) ∷ [])))
           (sum-closed (content a 0 part))
           refl
           (omega (arith, part-length, place-at (f .reader) a part (u .linear) (u .segment)))
-          (rw (place-at (f .reader) a part (u .linear) (u .segment), part-length) (any-none (named (f .map)) a n (λ j l. u .above (a + j) (omega arith))))
-          ∙ ap given (placed-at (f .reader) a part (f .image) (f .map) (u .linear) (u .segment) ∙ rw part-length)
+          (rw (place-at (f .reader) a part (u .linear) (u .segment), part-length)
+          (any-none (named (f .map)) a n (λ j l. u .above (a + j) (omega arith))))
+          ∙ ap given
+          (placed-at (f .reader) a part (f .image) (f .map) (u .linear) (u .segment) ∙ rw part-length)
 
       upto-more : Upto (a + n) more
       upto-more =
@@ -235,7 +243,8 @@ module _ (size : ℕ) (image map : List ℕ) where
           copied j l m =
               let e : a + (j - a) ≡ j = omega arith in
               let k : j - a < n = omega arith in
-              rw e at (stored-at new (f .image) a part (j - a) (omega (arith, part-length)) (omega (arith, part-length, u .imageLength)) ∙ part-at (j - a) k)
+              rw e at (stored-at new (f .image) a part (j - a) (omega (arith, part-length))
+              (omega (arith, part-length, u .imageLength)) ∙ part-at (j - a) k)
 
     -- ---- the whole file
 
@@ -244,7 +253,8 @@ module _ (size : ℕ) (image map : List ℕ) where
         module _ (a k : ℕ) (f : File) (u : Upto a f) (l : a ≤ size) (h : size ≤ lowest size map a) where
           none-named : (j : ℕ) → a ≤ j → named map j ≡ false
           none-named j m =
-              decide (ltb j size) (λ e. next-skip (named map) (size - a) a j m (below j (ltb-true j size e))) (λ e. named-past map j (past j (ltb-false j size e)))
+              decide (ltb j size) (λ e. next-skip (named map) (size - a) a j m (below j (ltb-true j size e)))
+              (λ e. named-past map j (past j (ltb-false j size e)))
             where
               below : (j : ℕ) → j < size → j < lowest size map a
               below j m = omega arith
@@ -256,7 +266,10 @@ module _ (size : ℕ) (image map : List ℕ) where
           was-taken : f .reader .taken ≡ true
           was-taken =
               decide (f .reader .taken) (λ e. e)
-              (λ e. absurd (true-false (sym nx ∙ decide (ltb x a) (λ t. u .none e x (ltb-true x a t)) (λ t. none-named x (ltb-false x a t)))))
+              (λ e. absurd
+              (true-false
+              (sym nx ∙ decide (ltb x a) (λ t. u .none e x (ltb-true x a t))
+              (λ t. none-named x (ltb-false x a t)))))
 
           abbrev last : File
           last =
@@ -271,8 +284,11 @@ module _ (size : ℕ) (image map : List ℕ) where
               record {
                 result = last;
                 read =
-                    ap (λ (s : List (List ℕ)). readLines size s f) (lines-step a k 0 1 (size + 1) [] l (step-end a l h))
-                    ∙ read-step (line 0 1 []) (lines size image map (size + 1) k) f last (end-taken size (f .reader) (f .image) (f .map) (right-sizes size _ _ (u .imageLength) (u .mapLength)) (u .going))
+                    ap (λ (s : List (List ℕ)). readLines size s f)
+                    (lines-step a k 0 1 (size + 1) [] l (step-end a l h))
+                    ∙ read-step (line 0 1 []) (lines size image map (size + 1) k) f last
+                    (end-taken size (f .reader) (f .image) (f .map)
+                    (right-sizes size _ _ (u .imageLength) (u .mapLength)) (u .going))
                     ∙ ap (λ (s : List (List ℕ)). readLines size s last) (lines-past k)
                     ∙ read-none last;
                 back =
@@ -280,7 +296,8 @@ module _ (size : ℕ) (image map : List ℕ) where
                       closes = closed-well;
                       sameMap =
                           named-only (f .map) map (u .mapLength ∙ sym ml) (u .mapBytes) mapBytes
-                          (λ j. decide (ltb j a) (λ e. u .below j (ltb-true j a e)) (λ e. u .above j (ltb-false j a e) ∙ sym (none-named j (ltb-false j a e))));
+                          (λ j. decide (ltb j a) (λ e. u .below j (ltb-true j a e))
+                          (λ e. u .above j (ltb-false j a e) ∙ sym (none-named j (ltb-false j a e))));
                       sameBytes =
                           λ j e. decide (ltb j a) (λ t. u .bytes j (ltb-true j a t) e)
                           (λ t. absurd (true-false (sym e ∙ none-named j (ltb-false j a t))));
@@ -293,7 +310,8 @@ module _ (size : ℕ) (image map : List ℕ) where
 
           upto-low : Upto (low a h) f
           upto-low =
-              upto-skip a (low a h) f u (next-ge (named map) (size - a) a) (λ j m p. next-skip (named map) (size - a) a j m p)
+              upto-skip a (low a h) f u (next-ge (named map) (size - a) a)
+              (λ j m p. next-skip (named map) (size - a) a j m p)
 
           far-end : low a h + far ≤ size
           far-end = omega (arith, run-few a h)
@@ -303,23 +321,28 @@ module _ (size : ℕ) (image map : List ℕ) where
 
           abbrev onto : File
           onto =
-              file (fed (f .reader) far) (copyOf (f .image) (low a h) piece) (nameAllOf (f .map) (low a h) far)
+              file (fed (f .reader) far) (copyOf (f .image) (low a h) piece)
+              (nameAllOf (f .map) (low a h) far)
 
           onto-read : recordIn size (f .reader) (line (low a h) 0 piece) (f .image) (f .map) ≡ given onto
           onto-read =
-              run-read (low a h) far f upto-low (run-some a h) (omega (arith, run-few a h)) far-end (omega arith) (run-named a h) il
+              run-read (low a h) far f upto-low (run-some a h) (omega (arith, run-few a h)) far-end
+              (omega arith) (run-named a h) il
 
           onto-upto : Upto (low a h + far) onto
           onto-upto =
-              upto-more (low a h) far f upto-low (run-some a h) (omega (arith, run-few a h)) far-end (omega arith) (run-named a h) il
+              upto-more (low a h) far f upto-low (run-some a h) (omega (arith, run-few a h)) far-end
+              (omega arith) (run-named a h) il
 
           at-run : Returned size image map (low a h + far) k onto → Returned size image map a (suc k) f
           at-run r =
               record {
                 result = r .result;
                 read =
-                    ap (λ (s : List (List ℕ)). readLines size s f) (lines-step a k (low a h) 0 (low a h + far) piece l (step-run a l h))
-                    ∙ read-step (line (low a h) 0 piece) (lines size image map (low a h + far) k) f onto onto-read
+                    ap (λ (s : List (List ℕ)). readLines size s f)
+                    (lines-step a k (low a h) 0 (low a h + far) piece l (step-run a l h))
+                    ∙ read-step (line (low a h) 0 piece)
+                    (lines size image map (low a h + far) k) f onto onto-read
                     ∙ r .read;
                 back = r .back;
               }
@@ -330,7 +353,9 @@ module _ (size : ℕ) (image map : List ℕ) where
             decide (leb size (lowest size map a))
             (λ e. at-end a k f u l (leb-true _ _ e))
             (λ e. let h : lowest size map a < size = leb-false _ _ e in
-            at-run a k f u l h (from-here k (lowest size map a + far a k f u l h) (onto a k f u l h) (onto-upto a k f u l h) (far-end a k f u l h) (fewer a k f u l h m)))
+            at-run a k f u l h
+            (from-here k (lowest size map a + far a k f u l h) (onto a k f u l h) (onto-upto a k f u l h)
+            (far-end a k f u l h) (fewer a k f u l h m)))
           where
             fewer : (a k : ℕ) (f : File) (u : Upto a f) (l : a ≤ size) (h : lowest size map a < size)
                 → size - a < suc k

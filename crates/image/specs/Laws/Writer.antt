@@ -38,7 +38,13 @@ pub spelt-digits : (s : List ℕ) → Bytes s → allDigits (spelt s) ≡ true
 unfolding spelt allDigits
 spelt-digits [] h = refl
 spelt-digits (x ∷ s) h =
-    rw (digit-high x (h 0), lt-ltb (x / 16) 16 (below (h 0)), digit-low x (h 0), lt-ltb (x % 16) 16 (omega arith)) (spelt-digits s (λ k. h (suc k)))
+    rw (
+      digit-high x (h 0),
+      lt-ltb (x / 16) 16 (below (h 0)),
+      digit-low x (h 0),
+      lt-ltb (x % 16) 16 (omega arith),
+    )
+    (spelt-digits s (λ k. h (suc k)))
   where
     below : x < 256 → x / 16 < 16
     below l = omega arith

@@ -41,7 +41,8 @@ command-one = back-one paperCommand commandBy command-back
 
 unfoldable pub refusalBy : ℕ → Refusal
 refusalBy n =
-    pick (eqb n 1) Start (pick (eqb n 2) Length (pick (eqb n 3) Count (pick (eqb n 4) Checksum (pick (eqb n 5) Unlisted Shape))))
+    pick (eqb n 1) Start
+    (pick (eqb n 2) Length (pick (eqb n 3) Count (pick (eqb n 4) Checksum (pick (eqb n 5) Unlisted Shape))))
 
 refusal-back : (x : Refusal) → refusalBy (paperRefusal x) ≡ x
 unfolding refusalBy
@@ -60,7 +61,7 @@ refusal-small Checksum = omega arith
 refusal-small Unlisted = omega arith
 refusal-small Shape = omega arith
 
-pub refusal-one : (x y : Refusal) → paperRefusal x ≡ paperRefusal y → x ≡ y
+refusal-one : (x y : Refusal) → paperRefusal x ≡ paperRefusal y → x ≡ y
 refusal-one = back-one paperRefusal refusalBy refusal-back
 
 -- looking up
@@ -99,7 +100,8 @@ reading-one : (r s : Reading.Reading) → paperReading r ≡ paperReading s → 
 reading-one (reading.Packet p) (reading.Packet q) e =
     let g = given-one e in
     let c = command-one (p .command) (q .command) (ap (λ (x : Parts). x .command) g) in
-    ap reading.Packet (λ i. record { command = c i; address = record { 0 = g i .address }; at = g i .place; len = g i .size })
+    ap reading.Packet
+    (λ i. record { command = c i; address = record { 0 = g i .address }; at = g i .place; len = g i .size })
 reading-one (reading.Packet p) (reading.Refused y) e = absurd (apart (sym e))
 reading-one (reading.Refused x) (reading.Packet q) e = absurd (apart e)
 reading-one (reading.Refused x) (reading.Refused y) e = ap reading.Refused (refusal-one x y (refused-one e))

@@ -64,7 +64,9 @@ address-back a h =
     let e₁ = rw (div-div-eq-div-mul a 256 256) at (div-add-mod' (a / 256) 256) in
     let e₂ = rw (div-div-eq-div-mul a 65536 256) at (div-add-mod' (a / 65536) 256) in
     let l : a / 16777216 < 256 = omega arith in
-    rw (mod-eq-of-lt l) (join a (a / 256) (a / 65536) (a / 16777216) (a % 256) (a / 256 % 256) (a / 65536 % 256) (div-add-mod' a 256) e₁ e₂)
+    rw (mod-eq-of-lt l)
+    (join a (a / 256) (a / 65536) (a / 16777216) (a % 256) (a / 256 % 256) (a / 65536 % 256)
+    (div-add-mod' a 256) e₁ e₂)
 
 one-byte : (c a : ℕ) (d : List ℕ) → c ≡ 0x50 → length d + 5 ≡ 6 → getD d 0 0 ≡ kind (packet c a d)
 unfolding packet
@@ -97,7 +99,8 @@ read-packet c a d h l s =
     ∙ skip 2 _ _ _ (ap not (eq-eqb (length w) (length d + 5 + 4) (omega arith)))
     ∙ skip 4 _ _ _ (ap not (eq-eqb (sumOf (drop 2 w)) 0 (sum-closed (summed c a d))))
     ∙ done _
-    ∙ table-passes c (length d + 5) (kind w) (given (parts w)) l (kind-counts c (length d + 5) (getD d 0 0) (kind w) (one-byte c a d) s)
+    ∙ table-passes c (length d + 5) (kind w) (given (parts w)) l
+    (kind-counts c (length d + 5) (getD d 0 0) (kind w) (one-byte c a d) s)
     ∙ ap given (packet-parts c a d h)
 
 -- each of the five commands as the host sends it

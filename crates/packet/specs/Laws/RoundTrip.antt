@@ -46,7 +46,10 @@ read-built room c a d s b h e =
     let p = passed 20 (ltb room packetMost) _ _ e in
     let t = table-holds c (length d + 5) (getD d 0 0) (given (packet c a d)) (p .1) in
     let q : packet c a d ≡ s = cc (t .2) in
-    rw (← q) (read-packet c a d h (t .0) (t .1), rw packet-data (undone (plain c) (carriedOf c) (plain-carried c) d b))
+    rw (← q) (
+      read-packet c a d h (t .0) (t .1),
+      rw packet-data (undone (plain c) (carriedOf c) (plain-carried c) d b),
+    )
 
 -- four bytes joined are those bytes again
 bytes-back : (a b c d : ℕ) → a < 256 → b < 256 → c < 256 → d < 256
@@ -62,7 +65,8 @@ bytes-back a b c d ha hb hc hd =
 -- the eight bytes before the data
 eight : (s : List ℕ) → 8 ≤ length s
     → s
-    ≡ getD s 0 0 ∷ getD s 1 0 ∷ count s ∷ command s ∷ getD s 4 0 ∷ getD s 5 0 ∷ getD s 6 0 ∷ getD s 7 0 ∷ drop 8 s
+    ≡ getD s 0 0 ∷ getD s 1 0 ∷ count s ∷ command s
+    ∷ getD s 4 0 ∷ getD s 5 0 ∷ getD s 6 0 ∷ getD s 7 0 ∷ drop 8 s
 eight [] h = absurd (omega arith)
 eight (a ∷ []) h = absurd (omega arith)
 eight (a ∷ b ∷ []) h = absurd (omega arith)
@@ -101,7 +105,8 @@ module _ (s : List ℕ) (p : Parts) (b : Bytes s) (r : Accepted s p) where
   unfolding body last
   body-last =
       let n : length (drop 8 s) ≡ suc (count s - 5) = simp length-drop (omega arith) in
-      sym (take-all (suc (count s - 5)) (drop 8 s) (omega arith)) ∙ take-suc (drop 8 s) (count s - 5) 0 (omega arith)
+      sym (take-all (suc (count s - 5)) (drop 8 s) (omega arith))
+      ∙ take-suc (drop 8 s) (count s - 5) 0 (omega arith)
 
   -- all but the start bytes and the checksum
   middle : List ℕ
@@ -120,7 +125,9 @@ module _ (s : List ℕ) (p : Parts) (b : Bytes s) (r : Accepted s p) where
       let g = both-true (eqb (getD s 0 0) 0x07) (eqb (getD s 1 0) 0x0E) (h .1) in
       let e₀ = eqb-true (getD s 0 0) 0x07 (g .0) in
       let e₁ = eqb-true (getD s 1 0) 0x0E (g .1) in
-      eight s (omega arith) ∙ λ i. e₀ i ∷ e₁ i ∷ count s ∷ command s ∷ getD s 4 0 ∷ getD s 5 0 ∷ getD s 6 0 ∷ getD s 7 0 ∷ body-last i
+      eight s (omega arith)
+      ∙ λ i. e₀ i ∷ e₁ i ∷ count s ∷ command s
+      ∷ getD s 4 0 ∷ getD s 5 0 ∷ getD s 6 0 ∷ getD s 7 0 ∷ body-last i
 
   last-checksum : last ≡ checksumOf middle
   unfolding last
@@ -149,6 +156,7 @@ built-read room s p b h e =
     let d = plainData (parts s) s in
     let t : inShape c (length d + 5) (getD d 0 0) ≡ true =
     rw (data-length s p b r)
-    (kind-counts c (count s) (kind s) (getD d 0 0) (λ ec en. sym (getD-drop 8 s 0 0) ∙ one-plain c (count s) (drop 8 s) ec en) (r .shape)) in
+    (kind-counts c (count s) (kind s) (getD d 0 0)
+    (λ ec en. sym (getD-drop 8 s 0 0) ∙ one-plain c (count s) (drop 8 s) ec en) (r .shape)) in
     rw (← r .says)
     (build-packet room c (address s) d h (r .command-listed) t ∙ ap given (whole s p b r))

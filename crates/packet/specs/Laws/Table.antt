@@ -28,7 +28,10 @@ module _ {A : Type 0} (c n t : ℕ) where
 pub shape-short : (c n t : ℕ) → inShape c n t ≡ true → n ≤ 255
 shape-short c n t =
     row 0x45 (λ e. omega (arith, eqb-true n 6 e))
-    (row 0x57 many (row 0x56 many (row 0x50 (λ e. omega (arith, eqb-true n 6 (both-true (eqb n 6) (protectType t) e .0))) (λ e. omega (arith, eqb-true n 5 e)))))
+    (row 0x57 many
+    (row 0x56 many
+    (row 0x50 (λ e. omega (arith, eqb-true n 6 (both-true (eqb n 6) (protectType t) e .0)))
+    (λ e. omega (arith, eqb-true n 5 e)))))
   where
     many : dataCount n ≡ true → n ≤ 255
     many e = leb-true n 255 (both-true (leb 6 n) (leb n 255) e .1)

@@ -1,5 +1,5 @@
 -- `write` meets its contract: one lemma for each way out.
-use Prim.Native.Nat.{ℕ, _+_, _-_, _/_, _%_, _<_, _≤_}
+use Prim.Native.Nat.{ℕ, _+_, _-_, _%_, _<_, _≤_}
 use mathlib.Core.Bool.{true, false}
 use mathlib.Core.Path.{_≡_, sym, ap, _∙_}
 use mathlib.Core.List.{List, []}
@@ -23,12 +23,14 @@ module _ (size : ℕ) (image map : List ℕ) (a n : ℕ) where
   unfolding first writeIn
   write-size e = simp e
 
-  write-short : rightSizesIn size (length image) (length map) ≡ true → n < 44 → writeIn size image map a n ≡ refused 33
+  write-short : rightSizesIn size (length image) (length map) ≡ true → n < 44
+      → writeIn size image map a n ≡ refused 33
   unfolding first writeIn
   write-short e h = simp (e, lt-ltb _ _ h)
 
 -- what is given once sizes and buffer are right
-module _ (size : ℕ) (image map : List ℕ) (a n : ℕ) (e : rightSizesIn size (length image) (length map) ≡ true) (room : 44 ≤ n) where
+module _ (size : ℕ) (image map : List ℕ) (a n : ℕ) (e : rightSizesIn size (length image) (length map) ≡ true)
+    (room : 44 ≤ n) where
   write-step : writeIn size image map a n ≡ given (stepFrom size image map a)
   unfolding first writeIn
   write-step = simp (e, le-ltb _ _ room)
@@ -47,7 +49,10 @@ module _ (size : ℕ) (image map : List ℕ) (a n : ℕ) (e : rightSizesIn size 
     unfolding stepFrom
     write-run c m h ec em =
         write-step
-        ∙ ap given ((simp (le-ltb _ _ low, lt-leb _ _ (rw ek at h))) ∙ ap (recordFrom image map) (sym ek) ∙ ap (λ (l : ℕ). step (text k 0 (take l (drop k image))) (k + l)) (sym ec) ∙ ap (λ (l : ℕ). step (text k 0 (take l (drop k image))) (k + c)) (sym em))
+        ∙ ap given
+        ((simp (le-ltb _ _ low, lt-leb _ _ (rw ek at h))) ∙ ap (recordFrom image map) (sym ek)
+        ∙ ap (λ (l : ℕ). step (text k 0 (take l (drop k image))) (k + l)) (sym ec)
+        ∙ ap (λ (l : ℕ). step (text k 0 (take l (drop k image))) (k + c)) (sym em))
 
 -- what the first test says of the entry
 sized : (c : tie.Else1) → let a = c .before .before .before .before .before .args in
@@ -102,7 +107,8 @@ returns-4 c =
     let a = c .before .before .before .before .before .before .before .before .before .before .before .before .before .before .before .before .args in
     let print = c .before .before .print in
     let e = write-end flashSize (a .image .now) (a .map .now) (a .from .0) (length (a .buffer .now))
-    (sized (c .before .before .before .before .before .before .before .before .before .before .before)) (c .before .before .before .before .before .before .before .before .before .before .if2 .left)
+    (sized (c .before .before .before .before .before .before .before .before .before .before .before))
+    (c .before .before .before .before .before .before .before .before .before .before .if2 .left)
     (c .before .before .before .before .before .before .before .before .if3 .left) _
     (c .before .before .before .before .before .before .before .next-named .ensures)
     (c .before .before .before .before .before .if4 .taken) in
@@ -182,7 +188,8 @@ returns-5 c =
     let e = write-run flashSize (a .image .now) (a .map .now) (a .from .0) (length (a .buffer .now))
     (sized (c .before .before .before .before .before .before .before .before .before .before .before .before))
     (c .before .before .before .before .before .before .before .before .before .before .before .if2 .left)
-    (c .before .before .before .before .before .before .before .before .before .if3 .left) k (next-named .ensures) _ _ (if4 .left)
+    (c .before .before .before .before .before .before .before .before .before .if3 .left) k
+    (next-named .ensures) _ _ (if4 .left)
     (row-len .ensures) m in
     (rw (e, print2 .ensures .0), rw e (print2 .ensures .1))
 

@@ -20,7 +20,8 @@ use Rattle.image.proofs.hex.Hex.take.Statement.{statement}
 use Rattle.image.proofs.hex.Hex.take.Tie as tie
 
 -- the ways out, each by the table
-module _ (size : ℕ) (h : Hex) (line image map : List ℕ) (p : length image ≡ size) (q : length map ≡ size / 8) (going : h .ended ≡ false) where
+module _ (size : ℕ) (h : Hex) (line image map : List ℕ) (p : length image ≡ size) (q : length map ≡ size / 8)
+    (going : h .ended ≡ false) where
   take-refused : (k : ℕ) → charactersOf line ≡ refused k
       → settledAs (refused k) image map ≡ settled (recordIn size h line image map) image map
   take-refused k e = rw (record-cut size h image map line (right-sizes size _ _ p q) going, e)
