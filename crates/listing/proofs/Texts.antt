@@ -9,7 +9,8 @@ use Rattle.image.specs.Paper.{paperRead}
 use Rattle.image.specs.declared.hex.Hex.{Hex}
 use Rattle.image.specs.declared.hex.Read.{Read}
 use Rattle.listing.specs.Laws.Feed.{byte-kept}
-use Rattle.listing.specs.Feed.{Progress, going, state, tookBy, took, withKept, keepOneOf, textByte}
+use Rattle.listing.specs.Text.{going}
+use Rattle.listing.specs.Feed.{Progress, state, afterRecord, fedRecord, withKept, keepOneOf, fedByte}
 use Rattle.listing.specs.declared.text.Text.{Text}
 
 -- progress, image and map that an outcome gives
@@ -23,13 +24,13 @@ shown by r x i m o e f =
     (ap (λ (y : Settled). by (y .answer)) g, ap (λ (y : Settled). y .image) g, ap (λ (y : Settled). y .map) g)
 
 -- the same with the line buffer
-pub took-shown : (t : Text) (p : Progress) (line i m : List ℕ) (o : Settled) → Shown (tookBy t) p i m o
-    → state p line i m ≡ took t o line
+pub took-shown : (t : Text) (p : Progress) (line i m : List ℕ) (o : Settled) → Shown (afterRecord t) p i m o
+    → state p line i m ≡ fedRecord t o line
 took-shown t p line i m o s = rw (s .0, s .1, s .2)
 
 -- a byte that does not end the line is kept
 module _ (size : ℕ) (t : Text) (b : ℕ) (line image map : List ℕ) where
   pub kept-by : (n : ℕ) (k : List ℕ) → (b ≡ 0x0A → ⊥)
       → (n ≡ keepOneOf (t .len) line) × (k ≡ set line (t .len) b)
-      → state (going (withKept t n)) k image map ≡ textByte size t b line image map
+      → state (going (withKept t n)) k image map ≡ fedByte size t b line image map
   kept-by n k e f = rw (f .0, f .1) (sym (byte-kept size t b line image map e))

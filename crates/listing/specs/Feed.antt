@@ -5,28 +5,30 @@ use mathlib.Core.Path.{_≡_}
 use lib.Dec.{eqb, ltb}
 use lib.ListN.{length, set, take}
 use Rattle.basis.specs.Choice.{pick}
-use Rattle.basis.specs.Refusals.{Answer, refused, given}
+use Rattle.basis.specs.Refusals.{Answer}
 use Rattle.image.specs.Hex.{Settled, settled, recordIn}
 use Rattle.image.specs.Hex.{closeOf as closing}
 use Rattle.image.specs.Paper.{paperRefusal}
 use Rattle.image.specs.declared.hex.Hex.{Hex}
-use Rattle.listing.specs.Text.{Verdict, refusedAt, whole, Result, result, trimmedOf}
+use Rattle.listing.specs.Text.{Blame, Lined, stopped, going, atLine, Verdict, Result, result, trimmedOf}
+use Rattle.listing.specs.declared.text.Blame as Code
 use Rattle.listing.specs.declared.text.Ended.{Ended}
 use Rattle.listing.specs.declared.text.Reading.{Reading}
 use Rattle.listing.specs.declared.text.Text.{Text}
 
--- refused at a line with a number, or open
-pub data Progress : Type 0 where
-  stopped : ℕ → ℕ → Progress
-  going : Text → Progress
+abbrev pub Progress : Type 0
+Progress = Lined Text
+
+abbrev pub paperBlame : Code.Blame → Blame
+paperBlame b = record { line = b .line; number = paperRefusal (b .refusal) }
 
 abbrev pub paperReading : Reading → Progress
 paperReading (Reading.Open t) = going t
-paperReading (Reading.Refused n x) = stopped n (paperRefusal x)
+paperReading (Reading.Refused b) = stopped (paperBlame b)
 
 abbrev pub paperEnded : Ended → Verdict
-paperEnded Ended.File = whole
-paperEnded (Ended.Refused n x) = refusedAt n (paperRefusal x)
+paperEnded Ended.File = going tt
+paperEnded (Ended.Refused b) = stopped (paperBlame b)
 
 pub record Fed : Type 0 where
   pub progress : Progress
@@ -38,27 +40,25 @@ abbrev pub state : Progress → List ℕ → List ℕ → List ℕ → Fed
 state p line image map = record { progress = p; line = line; image = image; map = map }
 
 -- a text at its start
-abbrev pub begunBy : Answer Hex → Progress
-begunBy (refused k) = stopped 0 k
-begunBy (given h) = going (record { hex = h; lines = 0; len = 0 })
+abbrev pub afterStart : Answer Hex → Progress
+afterStart = atLine 0 (λ h. record { hex = h; lines = 0; len = 0 })
 
-abbrev pub opened : Settled → List ℕ → Fed
-opened o line = state (begunBy (o .answer)) line (o .image) (o .map)
+abbrev pub fedStart : Settled → List ℕ → Fed
+fedStart o line = state (afterStart (o .answer)) line (o .image) (o .map)
 
 -- the number of the next line, in 64 bits
 abbrev pub nextLine : Text → ℕ
 nextLine t = (t .lines + 1) % 2 ^ 64
 
--- the next line is taken
-abbrev pub tookBy : Text → Answer Hex → Progress
-tookBy t (refused k) = stopped (nextLine t) k
-tookBy t (given h) = going (record { hex = h; lines = nextLine t; len = 0 })
+-- the next line is a record
+abbrev pub afterRecord : Text → Answer Hex → Progress
+afterRecord t = atLine (nextLine t) (λ h. record { hex = h; lines = nextLine t; len = 0 })
 
-abbrev pub took : Text → Settled → List ℕ → Fed
-took t o line = state (tookBy t (o .answer)) line (o .image) (o .map)
+abbrev pub fedRecord : Text → Settled → List ℕ → Fed
+fedRecord t o line = state (afterRecord t (o .answer)) line (o .image) (o .map)
 
-abbrev pub tookLine : ℕ → Text → List ℕ → List ℕ → List ℕ → List ℕ → Fed
-tookLine size t l line image map = took t (settled (recordIn size (t .hex) l image map) image map) line
+abbrev pub fedLine : ℕ → Text → List ℕ → List ℕ → List ℕ → List ℕ → Fed
+fedLine size t l line image map = fedRecord t (settled (recordIn size (t .hex) l image map) image map) line
 
 -- one byte of the open line more is kept where the line buffer has room
 unfoldable pub keepOneOf : ℕ → List ℕ → ℕ
@@ -68,14 +68,14 @@ abbrev pub withKept : Text → ℕ → Text
 withKept t n = record { hex = t .hex; lines = t .lines; len = n }
 
 -- 0A ends the line; any other byte is kept
-unfoldable pub textByte : ℕ → Text → ℕ → List ℕ → List ℕ → List ℕ → Fed
-textByte size t b line image map =
-    pick (eqb b 0x0A) (tookLine size t (trimmedOf (take (t .len) line)) line image map)
+unfoldable pub fedByte : ℕ → Text → ℕ → List ℕ → List ℕ → List ℕ → Fed
+fedByte size t b line image map =
+    pick (eqb b 0x0A) (fedLine size t (trimmedOf (take (t .len) line)) line image map)
     (state (going (withKept t (keepOneOf (t .len) line))) (set line (t .len) b) image map)
 
 abbrev pub progressByte : ℕ → Progress → ℕ → List ℕ → List ℕ → List ℕ → Fed
-progressByte size (stopped n k) b line image map = state (stopped n k) line image map
-progressByte size (going t) b line image map = textByte size t b line image map
+progressByte size (stopped x) b line image map = state (stopped x) line image map
+progressByte size (going t) b line image map = fedByte size t b line image map
 
 abbrev pub byteOf : ℕ → Fed → ℕ → Fed
 byteOf size s b = progressByte size (s .progress) b (s .line) (s .image) (s .map)
@@ -85,39 +85,39 @@ unfoldable pub feedOf : ℕ → Fed → List ℕ → Fed
 feedOf size s [] = s
 feedOf size s (b ∷ t) = feedOf size (byteOf size s b) t
 
--- a stretch of the open line, never the last byte that came: what its bytes one by one leave, which is no matter of image and map
+-- a stretch of the open line, never the last byte that came: what its bytes leave one by one, whatever image and map
 abbrev pub Keeps : ℕ → Progress → List ℕ → List ℕ → Progress → List ℕ → ℕ → Type 0
 Keeps size p line bytes q kept n =
-    (n ≤ length bytes - 1) × ((image map : List ℕ) → state q kept image map ≡ feedOf size (state p line image map) (take n bytes))
+    (n ≤ length bytes - 1)
+    × ((image map : List ℕ) → state q kept image map ≡ feedOf size (state p line image map) (take n bytes))
 
 -- the line after the last 0A, as it stands
 unfoldable pub lastOf : ℕ → Text → List ℕ → List ℕ → List ℕ → Fed
 lastOf size t line image map =
-    pick (eqb (t .len) 0) (state (going t) line image map) (tookLine size t (take (t .len) line) line image map)
+    pick (eqb (t .len) 0) (state (going t) line image map) (fedLine size t (take (t .len) line) line image map)
 
 -- the reader is closed
-abbrev pub shutBy : Text → Answer Hex → Progress
-shutBy t (refused k) = stopped 0 k
-shutBy t (given h) = going t
+abbrev pub afterClosing : Text → Answer Hex → Progress
+afterClosing t = atLine 0 (λ h. t)
 
 unfoldable pub shutOf : Progress → Progress
-shutOf (stopped n k) = stopped n k
-shutOf (going t) = shutBy t (closing (t .hex))
+shutOf (stopped b) = stopped b
+shutOf (going t) = afterClosing t (closing (t .hex))
 
-abbrev pub shutFed : Fed → Fed
-shutFed s = state (shutOf (s .progress)) (s .line) (s .image) (s .map)
+abbrev pub fedClosing : Fed → Fed
+fedClosing s = state (shutOf (s .progress)) (s .line) (s .image) (s .map)
 
 abbrev pub progressClosed : ℕ → Progress → List ℕ → List ℕ → List ℕ → Fed
-progressClosed size (stopped n k) line image map = state (stopped n k) line image map
-progressClosed size (going t) line image map = shutFed (lastOf size t line image map)
+progressClosed size (stopped b) line image map = state (stopped b) line image map
+progressClosed size (going t) line image map = fedClosing (lastOf size t line image map)
 
 abbrev pub closeOf : ℕ → Fed → Fed
 closeOf size s = progressClosed size (s .progress) (s .line) (s .image) (s .map)
 
 -- what a reading came to
 abbrev pub endedOf : Progress → Verdict
-endedOf (stopped n k) = refusedAt n k
-endedOf (going t) = whole
+endedOf (stopped b) = stopped b
+endedOf (going t) = going tt
 
 abbrev pub fedResult : Fed → Result
 fedResult s = result (endedOf (s .progress)) (s .image) (s .map)

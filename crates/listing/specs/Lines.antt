@@ -5,6 +5,7 @@ use lib.ListN.{getD}
 use Rattle.basis.specs.Refusals.{Answer, refused, given}
 use Rattle.image.specs.Writer.{spelt}
 use Rattle.listing.specs.Numbers.{decimalOf}
+use Rattle.listing.specs.Text.{Blame}
 use Rattle.service_log.specs.declared.read.Record.{Record}
 
 -- each line is closed by 0A
@@ -20,8 +21,8 @@ abbrev pub refusedWord : List ℕ
 refusedWord = 0x52 ∷ 0x45 ∷ 0x46 ∷ 0x55 ∷ 0x53 ∷ 0x45 ∷ 0x44 ∷ 0x20 ∷ []
 
 -- REFUSED, the line number and the number, with single spaces
-unfoldable pub refusalAt : ℕ → ℕ → List ℕ
-refusalAt line k = field refusedWord line ++ (field (0x20 ∷ []) k ++ lineEnd)
+unfoldable pub refusalAt : Blame → List ℕ
+refusalAt b = field refusedWord (b .line) ++ (field (0x20 ∷ []) (b .number) ++ lineEnd)
 
 -- no line of a refusal is longer: 8 characters, 20 digits, a space, 20 digits and 0A
 abbrev pub refusalRoom : ℕ

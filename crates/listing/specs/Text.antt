@@ -6,7 +6,6 @@ use lib.ListN.{length, getD, take}
 use Rattle.basis.specs.Choice.{pick}
 use Rattle.basis.specs.Refusals.{Answer, refused, given}
 use Rattle.image.specs.Hex.{File, startIn, recordIn, closeOf}
-use Rattle.image.specs.declared.hex.Hex.{Hex}
 
 -- one 0D before the 0A is dropped
 unfoldable pub trimmedOf : List ℕ → List ℕ
@@ -24,10 +23,27 @@ linesFrom l (b ∷ t) = pick (eqb b 0x0A) (trimmedOf l ∷ linesFrom [] t) (line
 abbrev pub textLines : List ℕ → List (List ℕ)
 textLines t = linesFrom [] t
 
--- refused at a line, counted from 1 (0 at closing), with the paper's number; or a whole file
-pub data Verdict : Type 0 where
-  refusedAt : ℕ → ℕ → Verdict
-  whole : Verdict
+-- the paper's number of a refusal and its line, counted from 1; 0 where no line is to blame, as at closing
+pub record Blame : Type 0 where
+  pub line : ℕ
+  pub number : ℕ
+
+-- refused at a line, or going on
+pub data Lined (A : Type 0) : Type 0 where
+  stopped : Blame → Lined A
+  going : A → Lined A
+
+abbrev pub refusedAt : {A : Type 0} → ℕ → ℕ → Lined A
+refusedAt n k = stopped (record { line = n; number = k })
+
+-- an answer, refused at line n or going on as g says
+abbrev pub atLine : {A B : Type 0} → ℕ → (A → B) → Answer A → Lined B
+atLine n g (refused k) = refusedAt n k
+atLine n g (given x) = going (g x)
+
+-- of a whole text: refused, or a file
+abbrev pub Verdict : Type 0
+Verdict = Lined Unit
 
 -- with image and map as they then stand
 pub record Result : Type 0 where
@@ -43,15 +59,12 @@ abbrev pub unlessRefused : ℕ → List ℕ → List ℕ → Answer File → (Fi
 unlessRefused n image map (refused k) g = result (refusedAt n k) image map
 unlessRefused n image map (given f) g = g f
 
-abbrev pub verdictBy : Answer Hex → Verdict
-verdictBy (refused k) = refusedAt 0 k
-verdictBy (given h) = whole
-
 -- records one after another, n before them; then closing
 unfoldable pub readFrom : ℕ → ℕ → List (List ℕ) → File → Result
-readFrom size n [] f = result (verdictBy (closeOf (f .reader))) (f .image) (f .map)
+readFrom size n [] f = result (atLine 0 (λ h. tt) (closeOf (f .reader))) (f .image) (f .map)
 readFrom size n (l ∷ ls) f =
-    unlessRefused (n + 1) (f .image) (f .map) (recordIn size (f .reader) l (f .image) (f .map)) (readFrom size (n + 1) ls)
+    unlessRefused (n + 1) (f .image) (f .map) (recordIn size (f .reader) l (f .image) (f .map))
+    (readFrom size (n + 1) ls)
 
 -- a whole text: 20 where image or map has another size, else line by line
 unfoldable pub readIn : ℕ → List ℕ → List ℕ → List ℕ → Result

@@ -3,21 +3,22 @@ ghost use mathlib.Core.Path.{_≡_};
 ghost use Prim.Native.Nat.{_≤_};
 ghost use lib.ListN.{length};
 ghost use Rattle.basis.specs.Lists.{overlay};
-ghost use Rattle.image.specs.Paper.{paperRefusal};
+ghost use Rattle.listing.specs.Feed.{paperBlame};
 ghost use Rattle.listing.specs.Lines.{refusalRoom, refusalAt, refusalLine};
 use crate::numbers::field;
 use crate::numbers::last_field;
-use image::record::Refusal;
+use crate::text::Blame;
 
 // REFUSED, the line and the number.
-pub fn refusal_at(buffer: &mut [u8], line: u64, refusal: Refusal) -> usize
+pub fn refusal_at(buffer: &mut [u8], blame: Blame) -> usize
     requires { ⌜ refusalRoom ≤ length (now buffer) ⌝ }
     ensures { λ r. ⌜
-        (let s = refusalAt line (paperRefusal refusal) in
+        (let s = refusalAt (paperBlame blame) in
         (r ≡ length s) × (now (buffer .exit) ≡ overlay s (now (buffer .entry))))
         ⌝ }
 {
-    let first = field(buffer, 0, b"REFUSED ", line);
+    let first = field(buffer, 0, b"REFUSED ", blame.line);
+    let refusal = blame.refusal;
     last_field(buffer, first, b" ", refusal.number() as u64)
 }
 

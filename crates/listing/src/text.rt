@@ -1,11 +1,10 @@
 // Hex text, byte by byte: each line is a record, and how the text is cut into reads does not matter.
 ghost use mathlib.Core.Path.{_≡_};
-ghost use Prim.Native.Nat.{_≤_};
-ghost use lib.ListN.{length, set, take};
+ghost use lib.ListN.{set, take};
 ghost use Rattle.basis.specs.Board.{flashSize};
 ghost use Rattle.image.specs.Hex.{settled, startIn, recordIn};
-ghost use Rattle.listing.specs.Text.{result, trimmedOf, readIn};
-ghost use Rattle.listing.specs.Feed.{going, paperReading, paperEnded, endedOf, state, begunBy, tookBy, keepOneOf, withKept, textByte, byteOf, feedOf, Keeps, lastOf, shutOf, closeOf};
+ghost use Rattle.listing.specs.Text.{going, result, trimmedOf, readIn};
+ghost use Rattle.listing.specs.Feed.{paperReading, paperEnded, endedOf, state, afterStart, afterRecord, keepOneOf, withKept, fedByte, byteOf, feedOf, Keeps, lastOf, shutOf, closeOf};
 use image::hex::Hex;
 use image::hex::Read;
 use image::record::Refusal;
@@ -20,10 +19,15 @@ pub struct Text {
     pub len: usize,
 }
 
+// A refusal and its line, counted from 1; 0 where no line is to blame.
+pub struct Blame {
+    pub line: u64,
+    pub refusal: Refusal,
+}
+
 pub enum Reading {
     Open(Text),
-    // The line is counted from 1; 0 where none is to blame.
-    Refused { at: u64, refusal: Refusal },
+    Refused(Blame),
 }
 
 // Bytes of the open line that came at once: what they leave, and how many they are.
@@ -35,7 +39,7 @@ struct Stretch {
 // What a whole text came to.
 pub enum Ended {
     File,
-    Refused { at: u64, refusal: Refusal },
+    Refused(Blame),
 }
 
 impl Reading {
@@ -44,7 +48,7 @@ impl Reading {
         ensures { λ r. ⌜
             (let o = settled (startIn flashSize (now (image .entry)) (now (map .entry))) (now (image .entry))
             (now (map .entry)) in
-            (paperReading r ≡ begunBy (o .answer)) × (now (image .exit) ≡ o .image)
+            (paperReading r ≡ afterStart (o .answer)) × (now (image .exit) ≡ o .image)
             × (now (map .exit) ≡ o .map))
             ⌝ }
     {
@@ -54,7 +58,7 @@ impl Reading {
                 lines: 0,
                 len: 0,
             }),
-            Read::Refused(refusal) => Reading::Refused { at: 0, refusal },
+            Read::Refused(refusal) => Reading::Refused(Blame { line: 0, refusal }),
         }
     }
 
@@ -87,8 +91,8 @@ impl Reading {
     {
         match self {
             Reading::Open(text) => text.keep(bytes, line),
-            Reading::Refused { at, refusal } => Stretch {
-                reading: Reading::Refused { at, refusal },
+            Reading::Refused(blame) => Stretch {
+                reading: Reading::Refused(blame),
                 len: 0,
             },
         }
@@ -103,7 +107,7 @@ impl Reading {
     {
         match self {
             Reading::Open(text) => text.byte(b, line, image, map),
-            Reading::Refused { at, refusal } => Reading::Refused { at, refusal },
+            Reading::Refused(blame) => Reading::Refused(blame),
         }
     }
 
@@ -117,7 +121,7 @@ impl Reading {
     {
         match self {
             Reading::Open(text) => text.last(line, image, map).shut(),
-            Reading::Refused { at, refusal } => Reading::Refused { at, refusal },
+            Reading::Refused(blame) => Reading::Refused(blame),
         }
     }
 
@@ -127,7 +131,7 @@ impl Reading {
     {
         match self {
             Reading::Open(_) => Ended::File,
-            Reading::Refused { at, refusal } => Ended::Refused { at, refusal },
+            Reading::Refused(blame) => Ended::Refused(blame),
         }
     }
 
@@ -137,7 +141,7 @@ impl Reading {
     {
         match self {
             Reading::Open(text) => text.shut(),
-            Reading::Refused { at, refusal } => Reading::Refused { at, refusal },
+            Reading::Refused(blame) => Reading::Refused(blame),
         }
     }
 }
@@ -178,7 +182,7 @@ impl Text {
     fn byte(self, b: u8, line: &mut [u8], image: &mut [u8], map: &mut [u8]) -> Reading
         ensures { λ r. ⌜
             state (paperReading r) (now (line .exit)) (now (image .exit)) (now (map .exit))
-            ≡ textByte flashSize self b (now (line .entry)) (now (image .entry)) (now (map .entry))
+            ≡ fedByte flashSize self b (now (line .entry)) (now (image .entry)) (now (map .entry))
             ⌝ }
     {
         let n = self.len;
@@ -213,7 +217,7 @@ impl Text {
             (let o = settled
             (recordIn flashSize (self .hex) (now (line .entry)) (now (image .entry)) (now (map .entry)))
             (now (image .entry)) (now (map .entry)) in
-            (paperReading r ≡ tookBy self (o .answer)) × (now (image .exit) ≡ o .image)
+            (paperReading r ≡ afterRecord self (o .answer)) × (now (image .exit) ≡ o .image)
             × (now (map .exit) ≡ o .map))
             ⌝ }
     {
@@ -226,7 +230,7 @@ impl Text {
                 lines: at,
                 len: 0,
             }),
-            Read::Refused(refusal) => Reading::Refused { at, refusal },
+            Read::Refused(refusal) => Reading::Refused(Blame { line: at, refusal }),
         }
     }
 
@@ -236,7 +240,7 @@ impl Text {
         let hex = self.hex;
         match hex.close() {
             Read::Taken(_) => Reading::Open(self),
-            Read::Refused(refusal) => Reading::Refused { at: 0, refusal },
+            Read::Refused(refusal) => Reading::Refused(Blame { line: 0, refusal }),
         }
     }
 }

@@ -84,7 +84,7 @@ fn read_chunk(
     }
     match reading.feed(&buffer[..n], line, image, map) {
         Reading::Open(text) => Chunk::More(Reading::Open(text)),
-        Reading::Refused { at, refusal } => Chunk::Done(Reading::Refused { at, refusal }),
+        Reading::Refused(blame) => Chunk::Done(Reading::Refused(blame)),
     }
 }
 
@@ -94,8 +94,8 @@ fn answer(reading: Reading, buffer: &mut [u8], image: &[u8], map: &[u8]) -> bool
 {
     match reading {
         Reading::Open(_) => print(image, map, buffer),
-        Reading::Refused { at, refusal } => {
-            let n = refusal_at(buffer, at, refusal);
+        Reading::Refused(blame) => {
+            let n = refusal_at(buffer, blame);
             put(buffer, n)
         }
     }

@@ -7,45 +7,54 @@ use Rattle.basis.specs.Laws.Refusals.{apart, given-one, refused-one, determined
 use Rattle.basis.specs.Refusals.{Answer}
 use Rattle.image.specs.Laws.Determined.{refusal-one}
 use Rattle.session.specs.Laws.Determined.{refusal-one as session-one}
-use Rattle.listing.specs.Feed.{paperReading, paperEnded, Fed, state}
+use Rattle.listing.specs.Feed.{paperBlame, paperReading, paperEnded, Fed, state}
 use Rattle.listing.specs.Plan.{paperBegun}
 use Rattle.listing.specs.Text.{Result, result}
 use Rattle.listing.specs.declared.plan.Begun.{Begun}
 use Rattle.listing.specs.declared.plan.Listing.{Listing}
+use Rattle.listing.specs.Text as Paper
+use Rattle.listing.specs.declared.text.Blame.{Blame}
 use Rattle.listing.specs.declared.text.Ended.{Ended}
 use Rattle.listing.specs.declared.text.Reading.{Reading}
+
+blame-one : (a b : Blame) → paperBlame a ≡ paperBlame b → a ≡ b
+blame-one a b e =
+    let f : a .line ≡ b .line = ap (λ (x : Paper.Blame). x .line) e in
+    let g : a .refusal ≡ b .refusal = refusal-one (a .refusal) (b .refusal) (ap (λ (x : Paper.Blame). x .number) e) in
+    λ i. record { line = f i; refusal = g i }
 
 -- a text as it comes
 reading-one : (r s : Reading) → paperReading r ≡ paperReading s → r ≡ s
 reading-one (Reading.Open t) (Reading.Open u) e = let f : t ≡ u = cc in ap Reading.Open f
-reading-one (Reading.Open t) (Reading.Refused n y) e = absurd (let z : _≡_ {A = ℕ} 0 1 = cc in omega arith)
-reading-one (Reading.Refused n x) (Reading.Open u) e = absurd (let z : _≡_ {A = ℕ} 0 1 = cc in omega arith)
-reading-one (Reading.Refused n x) (Reading.Refused k y) e =
-    let f : n ≡ k = cc in
-    let g : x ≡ y = refusal-one x y (cc) in
-    λ i. Reading.Refused (f i) (g i)
+reading-one (Reading.Open t) (Reading.Refused b) e = absurd (let z : _≡_ {A = ℕ} 0 1 = cc in omega arith)
+reading-one (Reading.Refused a) (Reading.Open u) e = absurd (let z : _≡_ {A = ℕ} 0 1 = cc in omega arith)
+reading-one (Reading.Refused a) (Reading.Refused b) e = ap Reading.Refused (blame-one a b (cc))
 
 pub feed-determined : {f : Fed} (r s : Reading) (a b i j m n : List ℕ) → state (paperReading r) a i m ≡ f
     → state (paperReading s) b j n ≡ f → (r ≡ s) × (a ≡ b) × (i ≡ j) × (m ≡ n)
 feed-determined r s a b i j m n p q =
-    let e = p ∙ sym q in
-    (reading-one r s (ap (λ (x : Fed). x .progress) e), ap (λ (x : Fed). x .line) e, ap (λ (x : Fed). x .image) e, ap (λ (x : Fed). x .map) e)
+    let e = p ∙ sym q in (
+      reading-one r s (ap (λ (x : Fed). x .progress) e),
+      ap (λ (x : Fed). x .line) e,
+      ap (λ (x : Fed). x .image) e,
+      ap (λ (x : Fed). x .map) e,
+    )
 
 -- a whole text
 ended-one : (r s : Ended) → paperEnded r ≡ paperEnded s → r ≡ s
 ended-one Ended.File Ended.File e = refl
-ended-one Ended.File (Ended.Refused n y) e = absurd (let z : _≡_ {A = ℕ} 0 1 = cc in omega arith)
-ended-one (Ended.Refused n x) Ended.File e = absurd (let z : _≡_ {A = ℕ} 0 1 = cc in omega arith)
-ended-one (Ended.Refused n x) (Ended.Refused k y) e =
-    let f : n ≡ k = cc in
-    let g : x ≡ y = refusal-one x y (cc) in
-    λ i. Ended.Refused (f i) (g i)
+ended-one Ended.File (Ended.Refused b) e = absurd (let z : _≡_ {A = ℕ} 0 1 = cc in omega arith)
+ended-one (Ended.Refused a) Ended.File e = absurd (let z : _≡_ {A = ℕ} 0 1 = cc in omega arith)
+ended-one (Ended.Refused a) (Ended.Refused b) e = ap Ended.Refused (blame-one a b (cc))
 
 pub read-determined : {x : Result} (r s : Ended) (i j m n : List ℕ) → result (paperEnded r) i m ≡ x
     → result (paperEnded s) j n ≡ x → (r ≡ s) × (i ≡ j) × (m ≡ n)
 read-determined r s i j m n p q =
-    let e = p ∙ sym q in
-    (ended-one r s (ap (λ (y : Result). y .verdict) e), ap (λ (y : Result). y .image) e, ap (λ (y : Result). y .map) e)
+    let e = p ∙ sym q in (
+      ended-one r s (ap (λ (y : Result). y .verdict) e),
+      ap (λ (y : Result). y .image) e,
+      ap (λ (y : Result). y .map) e,
+    )
 
 -- a listing's start
 begun-one : (r s : Begun) → paperBegun r ≡ paperBegun s → r ≡ s

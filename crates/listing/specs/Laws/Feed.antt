@@ -7,8 +7,8 @@ use native.Mathlib.Omega.{arith}
 use lib.ListN.{length, getD, set, take, drop, take-append-drop, length-drop, drop-of-length-le}
 use lib.Seq.{drop-cons, drop-drop, take-suc, take-all}
 use borrow.Author.Tests.{eq-eqb, ne-eqb, lt-ltb, le-ltb}
-use Rattle.listing.specs.Text.{trimmedOf}
-use Rattle.listing.specs.Feed.{Fed, state, going, withKept, keepOneOf, tookLine, textByte, byteOf, feedOf}
+use Rattle.listing.specs.Text.{going, trimmedOf}
+use Rattle.listing.specs.Feed.{Fed, state, withKept, keepOneOf, fedLine, fedByte, byteOf, feedOf}
 use Rattle.listing.specs.declared.text.Text.{Text}
 
 -- what is lent of a text from a place on
@@ -61,13 +61,13 @@ module _ (size : ℕ) where
   -- one byte ends the line or is kept
   module _ (t : Text) (b : ℕ) (line image map : List ℕ) where
     pub byte-ends : b ≡ 0x0A
-        → textByte size t b line image map ≡ tookLine size t (trimmedOf (take (t .len) line)) line image map
-    unfolding textByte
+        → fedByte size t b line image map ≡ fedLine size t (trimmedOf (take (t .len) line)) line image map
+    unfolding fedByte
     byte-ends e = rw (eq-eqb b 0x0A e)
 
     pub byte-kept : (b ≡ 0x0A → ⊥)
-        → textByte size t b line image map ≡ state (going (withKept t (keepOneOf (t .len) line))) (set line (t .len) b) image map
-    unfolding textByte
+        → fedByte size t b line image map ≡ state (going (withKept t (keepOneOf (t .len) line))) (set line (t .len) b) image map
+    unfolding fedByte
     byte-kept n = rw (ne-eqb b 0x0A n)
 
 module _ (n : ℕ) (line : List ℕ) where

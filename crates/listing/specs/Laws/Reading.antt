@@ -15,8 +15,8 @@ use Rattle.basis.specs.Refusals.{Answer, refused, given, _when_, first}
 use Rattle.image.specs.Hex.{File, file, settled, rightSizesIn, startIn, recordIn}
 use Rattle.image.specs.Hex.{closeOf as closing}
 use Rattle.image.specs.declared.hex.Hex.{Hex}
-use Rattle.listing.specs.Text.{Result, result, lineRoom, trimmedOf, linesFrom, unlessRefused, verdictBy, readFrom, readIn}
-use Rattle.listing.specs.Feed.{Fed, state, opened, stopped, going, nextLine, took, withKept, keepOneOf, byteOf, feedOf, lastOf, shutBy, shutOf, shutFed, endedOf, fedResult, cameTo}
+use Rattle.listing.specs.Text.{Blame, stopped, going, atLine, Result, result, lineRoom, trimmedOf, linesFrom, unlessRefused, readFrom, readIn}
+use Rattle.listing.specs.Feed.{Fed, state, fedStart, nextLine, fedRecord, withKept, keepOneOf, byteOf, feedOf, lastOf, afterClosing, shutOf, fedClosing, endedOf, fedResult, cameTo}
 use Rattle.listing.specs.Laws.Feed.{byte-ends, byte-kept, keep-more, keep-none}
 use Rattle.listing.specs.declared.text.Text.{Text}
 
@@ -113,17 +113,17 @@ held-none t line e = rw e (omega arith, sym (take-nil (length line)))
 
 -- ---- whole texts
 
-verdict-shut : (t : Text) (a : Answer Hex) → endedOf (shutBy t a) ≡ verdictBy a
+verdict-shut : (t : Text) (a : Answer Hex) → endedOf (afterClosing t a) ≡ atLine 0 (λ h. tt) a
 verdict-shut t (refused k) = refl
 verdict-shut t (given h) = refl
 
 module _ (size : ℕ) where
   -- a refusal stays
-  pub feed-stopped : (n k : ℕ) (line image map text : List ℕ)
-      → feedOf size (state (stopped n k) line image map) text ≡ state (stopped n k) line image map
+  feed-stopped : (x : Blame) (line image map text : List ℕ)
+      → feedOf size (state (stopped x) line image map) text ≡ state (stopped x) line image map
   unfolding feedOf
-  feed-stopped n k line image map [] = refl
-  feed-stopped n k line image map (b ∷ text) = feed-stopped n k line image map text
+  feed-stopped x line image map [] = refl
+  feed-stopped x line image map (b ∷ text) = feed-stopped x line image map text
 
   abbrev fresh : Text → Hex → Text
   fresh t h = record { hex = h; lines = nextLine t; len = 0 }
@@ -131,8 +131,8 @@ module _ (size : ℕ) where
   went : (t : Text) (line image map text : List ℕ) (a : Answer File) (g : File → Result)
       → nextLine t ≡ t .lines + 1
       → ((f : File) → cameTo size (state (going (fresh t (f .reader))) line (f .image) (f .map)) text ≡ g f)
-      → cameTo size (took t (settled a image map) line) text ≡ unlessRefused (t .lines + 1) image map a g
-  went t line image map text (refused k) g e ih = rw (feed-stopped (nextLine t) k line image map text, e)
+      → cameTo size (fedRecord t (settled a image map) line) text ≡ unlessRefused (t .lines + 1) image map a g
+  went t line image map text (refused k) g e ih = rw (feed-stopped (record { line = nextLine t; number = k }) line image map text, e)
   went t line image map text (given f) g e ih = ih f
 
   module _ (line : List ℕ) (room : lineRoom ≤ length line) where
@@ -149,7 +149,7 @@ module _ (size : ℕ) where
         (last (recordIn size (t .hex) l image map)))
       where
         last : (a : Answer File)
-            → fedResult (shutFed (took t (settled a image map) line)) ≡ unlessRefused (t .lines + 1) image map a (readFrom size (t .lines + 1) [])
+            → fedResult (fedClosing (fedRecord t (settled a image map) line)) ≡ unlessRefused (t .lines + 1) image map a (readFrom size (t .lines + 1) [])
         last (refused k) = rw e
         last (given f) = ap (λ v. result v (f .image) (f .map)) (verdict-shut (fresh t (f .reader)) (closing (f .reader)))
 
@@ -185,7 +185,7 @@ module _ (size : ℕ) where
       let f : File = file (t .hex) image map in
       fed-on (state (going t) line image map) b text
       ∙ decide (eqb b 0x0A)
-      (λ z. ap (λ (s : Fed). cameTo size s text) (byte-ends size t b line image map (eqb-true b 0x0A z) ∙ ap (λ (a : Answer File). took t (settled a image map) line) (ap (λ (k : List ℕ). recordIn size (t .hex) (trimmedOf k) image map) (held-is l t line h) ∙ record-trimmed size (t .hex) image map (length line) l room))
+      (λ z. ap (λ (s : Fed). cameTo size s text) (byte-ends size t b line image map (eqb-true b 0x0A z) ∙ ap (λ (a : Answer File). fedRecord t (settled a image map) line) (ap (λ (k : List ℕ). recordIn size (t .hex) (trimmedOf k) image map) (held-is l t line h) ∙ record-trimmed size (t .hex) image map (length line) l room))
       ∙ went t line image map text (recordIn size (t .hex) (trimmedOf l) image map) (readFrom size (t .lines + 1) (linesFrom [] text)) next
       (λ g. reads text [] line (g .image) (g .map) (fresh t (g .reader)) room (held-none (fresh t (g .reader)) line refl) (omega (arith, next))
       ∙ ap (λ (n : ℕ). readFrom size n (linesFrom [] text) g) next)
@@ -196,11 +196,11 @@ module _ (size : ℕ) where
 
   -- from the start on, however the text was cut: what the paper says of its lines
   pub text-reads : (text line image map : List ℕ) → lineRoom ≤ length line → length text + 1 < 2 ^ 64
-      → cameTo size (opened (settled (startIn size image map) image map) line) text ≡ readIn size text image map
+      → cameTo size (fedStart (settled (startIn size image map) image map) line) text ≡ readIn size text image map
   unfolding readIn
   text-reads text line image map room few = go (startIn size image map)
     where
       go : (a : Answer File)
-          → cameTo size (opened (settled a image map) line) text ≡ unlessRefused 0 image map a (readFrom size 0 (linesFrom [] text))
-      go (refused k) = rw (feed-stopped 0 k line image map text)
+          → cameTo size (fedStart (settled a image map) line) text ≡ unlessRefused 0 image map a (readFrom size 0 (linesFrom [] text))
+      go (refused k) = rw (feed-stopped (record { line = 0; number = k }) line image map text)
       go (given f) = reads text [] line (f .image) (f .map) (record { hex = f .reader; lines = 0; len = 0 }) room (held-none (record { hex = f .reader; lines = 0; len = 0 }) line refl) (omega arith)

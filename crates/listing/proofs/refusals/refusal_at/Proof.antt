@@ -6,21 +6,23 @@ use native.Mathlib.Omega.{arith}
 use lib.ListN.{length}
 use Rattle.basis.specs.Lists.{overlay}
 use Rattle.listing.specs.Lines.{lineEnd, field, refusedWord, refusalAt}
+use Rattle.listing.specs.Text.{Blame}
 use Rattle.listing.proofs.Buffers.{Field, put-first, put-next, put-over}
 use borrow.Author.Needs.{needs}
 use Rattle.listing.proofs.refusals.refusal_at.Statement.{statement}
 use Rattle.listing.proofs.refusals.refusal_at.Tie as tie
 
 -- the line's field and then the number's, which is that of the refusal
-refused-put : (old b c : List ℕ) (d e n k q r s : ℕ) → Field old 0 (field refusedWord n) b d r
-    → Field b d (field (0x20 ∷ []) q ++ lineEnd) c e s → q ≡ k → s ≤ length old
-    → (e ≡ length (refusalAt n k)) × (c ≡ overlay (refusalAt n k) old)
+refused-put : (x : Blame) (old b c : List ℕ) (d e q r s : ℕ) → Field old 0 (field refusedWord (x .line)) b d r
+    → Field b d (field (0x20 ∷ []) q ++ lineEnd) c e s → q ≡ x .number → s ≤ length old
+    → (e ≡ length (refusalAt x)) × (c ≡ overlay (refusalAt x) old)
 unfolding refusalAt
-refused-put old b c d e n k q r s f g p h =
+refused-put x old b c d e q r s f g p h =
+    let at : ℕ → Blame = λ k. record { line = x .line; number = k } in
     let t : List ℕ = field (0x20 ∷ []) q ++ lineEnd in
     let o =
-    put-over old (field refusedWord n ++ t) c e (put-next old (field refusedWord n) t b c d e s (put-first old (field refusedWord n) b d r f) g) (omega (arith, g .1 .1)) in
-    (o .0 ∙ ap (λ (x : ℕ). length (refusalAt n x)) p, o .1 ∙ ap (λ (x : ℕ). overlay (refusalAt n x) old) p)
+    put-over old (field refusedWord (x .line) ++ t) c e (put-next old (field refusedWord (x .line)) t b c d e s (put-first old (field refusedWord (x .line)) b d r f) g) (omega (arith, g .1 .1)) in
+    (o .0 ∙ ap (λ k. length (refusalAt (at k))) p, o .1 ∙ ap (λ k. overlay (refusalAt (at k)) old) p)
 
 slice-aggregate-field : tie.Need-slice-aggregate-field
 slice-aggregate-field c = search needs
@@ -46,7 +48,7 @@ same-length c = search needs
 returns : tie.Need-returns
 returns c =
     let f = c .before .before .before .before .before .before .before .before .field .ensures in
-    refused-put _ _ _ _ _ _ _ _ _ _ f (c .before .before .last-field .ensures) (c .before .before .before .number .ensures) (omega (arith, f .1 .1, c .before .before .before .before .before .before .before .before .before .before .before .before .pre))
+    refused-put _ _ _ _ _ _ _ _ _ f (c .before .before .last-field .ensures) (c .before .before .before .number .ensures) (omega (arith, f .1 .1, c .before .before .before .before .before .before .before .before .before .before .before .before .pre))
 
 pub refusal-at-spec : {M : Type 1} → statement M
 refusal-at-spec =

@@ -3,22 +3,22 @@ use borrow.Author.Needs.{needs}
 use Prim.Native.Nat.{ℕ, _-_}
 use mathlib.Core.List.{List}
 use mathlib.Core.Path.{_≡_}
-use Rattle.image.specs.Paper.{paperRefusal}
-use Rattle.image.specs.declared.record.Refusal.{Refusal}
-use Rattle.listing.specs.Feed.{stopped, Fed, state, paperReading, textByte, progressByte}
+use Rattle.listing.specs.Text.{stopped}
+use Rattle.listing.specs.Feed.{Fed, state, paperBlame, paperReading, fedByte, progressByte}
+use Rattle.listing.specs.declared.text.Blame.{Blame}
 use Rattle.listing.specs.declared.text.Reading.{Reading}
 use Rattle.listing.specs.declared.text.Text.{Text}
 use Rattle.listing.proofs.text.Reading.byte.Statement.{statement}
 use Rattle.listing.proofs.text.Reading.byte.Tie as tie
 
 module _ (size : ℕ) (r : Reading) (line image map : List ℕ) where
-  byte-open : (t : Text) (b : ℕ) (x : Fed) → r ≡ Reading.Open t → x ≡ textByte size t b line image map
+  byte-open : (t : Text) (b : ℕ) (x : Fed) → r ≡ Reading.Open t → x ≡ fedByte size t b line image map
       → x ≡ progressByte size (paperReading r) b line image map
   byte-open t b x e f = rw e f
 
-  byte-refused : (n b : ℕ) (x : Refusal) → r ≡ Reading.Refused n x
-      → state (stopped n (paperRefusal x)) line image map ≡ progressByte size (paperReading r) b line image map
-  byte-refused n b x e = rw e
+  byte-refused : (b : ℕ) (x : Blame) → r ≡ Reading.Refused x
+      → state (stopped (paperBlame x)) line image map ≡ progressByte size (paperReading r) b line image map
+  byte-refused b x e = rw e
 
 enum-known-self : tie.Need-enum-known-self
 enum-known-self c = search needs
@@ -42,7 +42,7 @@ returns : tie.Need-returns
 returns c = byte-open _ _ _ _ _ _ _ _ (c .before .before .before .before .before .before .before .before .before .before .before .self .given .1) (c .before .before .before .before .before .before .byte .ensures)
 
 returns-2 : tie.Need-returns-2
-returns-2 c = byte-refused _ _ _ _ _ _ _ _ (c .before .self2 .given .1)
+returns-2 c = byte-refused _ _ _ _ _ _ _ (c .before .self2 .given .1)
 
 pub byte-spec : {M : Type 1} → statement M
 byte-spec =

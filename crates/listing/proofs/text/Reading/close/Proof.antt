@@ -4,9 +4,9 @@ use Prim.Native.Nat.{ℕ, _-_}
 use mathlib.Core.List.{List}
 use mathlib.Core.Path.{_≡_, ap}
 use Rattle.image.specs.Hex.{closeOf as closing}
-use Rattle.image.specs.Paper.{paperRefusal}
-use Rattle.image.specs.declared.record.Refusal.{Refusal}
-use Rattle.listing.specs.Feed.{Progress, stopped, state, paperReading, lastOf, shutOf, shutFed, progressClosed}
+use Rattle.listing.specs.Text.{stopped}
+use Rattle.listing.specs.Feed.{Progress, state, paperBlame, paperReading, lastOf, shutOf, fedClosing, progressClosed}
+use Rattle.listing.specs.declared.text.Blame.{Blame}
 use Rattle.listing.specs.declared.text.Reading.{Reading}
 use Rattle.listing.specs.declared.text.Text.{Text}
 use Rattle.listing.proofs.text.Reading.close.Statement.{statement}
@@ -17,11 +17,11 @@ module _ (size : ℕ) (r : Reading) (line image map : List ℕ) where
   close-open : (t : Text) (i m : List ℕ) (p q : Progress) → r ≡ Reading.Open t → q ≡ shutOf p
       → state p line i m ≡ lastOf size t line image map
       → state q line i m ≡ progressClosed size (paperReading r) line image map
-  close-open t i m p q e f g = rw (e, f) (ap shutFed g)
+  close-open t i m p q e f g = rw (e, f) (ap fedClosing g)
 
-  close-refused : (n : ℕ) (x : Refusal) → r ≡ Reading.Refused n x
-      → state (stopped n (paperRefusal x)) line image map ≡ progressClosed size (paperReading r) line image map
-  close-refused n x e = rw e
+  close-refused : (b : Blame) → r ≡ Reading.Refused b
+      → state (stopped (paperBlame b)) line image map ≡ progressClosed size (paperReading r) line image map
+  close-refused b e = rw e
 
 enum-known-self : tie.Need-enum-known-self
 enum-known-self c = search needs
@@ -45,7 +45,7 @@ returns : tie.Need-returns
 returns c = close-open _ _ _ _ _ _ _ _ _ _ (c .before .before .before .before .before .before .before .before .before .self .given .1) (c .shut .ensures) (c .before .before .before .before .before .last .ensures)
 
 returns-2 : tie.Need-returns-2
-returns-2 c = close-refused _ _ _ _ _ _ _ (c .before .self2 .given .1)
+returns-2 c = close-refused _ _ _ _ _ _ (c .before .self2 .given .1)
 
 pub close-spec : {M : Type 1} → statement M
 close-spec =

@@ -1,18 +1,16 @@
 -- `ended` meets its contract: an open text is a file, a refusal stays.
 use borrow.Author.Needs.{needs}
-use Prim.Native.Nat.{ℕ, _-_}
 use mathlib.Core.Path.{_≡_}
-use Rattle.image.specs.Paper.{paperRefusal}
-use Rattle.image.specs.declared.record.Refusal.{Refusal}
-use Rattle.listing.specs.Text.{refusedAt}
-use Rattle.listing.specs.Feed.{paperReading, endedOf}
+use Rattle.listing.specs.Text.{stopped}
+use Rattle.listing.specs.Feed.{paperBlame, paperReading, endedOf}
+use Rattle.listing.specs.declared.text.Blame.{Blame}
 use Rattle.listing.specs.declared.text.Reading.{Reading}
 use Rattle.listing.proofs.text.Reading.ended.Statement.{statement}
 use Rattle.listing.proofs.text.Reading.ended.Tie as tie
 
-ended-refused : (r : Reading) (n : ℕ) (x : Refusal) → r ≡ Reading.Refused n x
-    → refusedAt n (paperRefusal x) ≡ endedOf (paperReading r)
-ended-refused r n x e = rw e
+ended-refused : (r : Reading) (b : Blame) → r ≡ Reading.Refused b
+    → stopped (paperBlame b) ≡ endedOf (paperReading r)
+ended-refused r b e = rw e
 
 enum-told : tie.Need-enum-told
 enum-told c = search needs
@@ -24,7 +22,7 @@ returns : tie.Need-returns
 returns c = search needs
 
 returns-2 : tie.Need-returns-2
-returns-2 c = ended-refused _ _ _ (c .before .self .given .1)
+returns-2 c = ended-refused _ _ (c .before .self .given .1)
 
 pub ended-spec : {M : Type 1} → statement M
 ended-spec = tie.close (tie.spec enum-told enum-known-self returns returns-2)

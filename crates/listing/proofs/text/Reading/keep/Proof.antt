@@ -3,9 +3,9 @@ use borrow.Author.Needs.{needs}
 use Prim.Native.Nat.{ℕ, _-_}
 use mathlib.Core.List.{List, []}
 use mathlib.Core.Path.{_≡_}
-use Rattle.image.specs.Paper.{paperRefusal}
-use Rattle.image.specs.declared.record.Refusal.{Refusal}
-use Rattle.listing.specs.Feed.{Progress, stopped, going, state, paperReading, feedOf, Keeps}
+use Rattle.listing.specs.Text.{stopped, going}
+use Rattle.listing.specs.Feed.{Progress, state, paperBlame, paperReading, feedOf, Keeps}
+use Rattle.listing.specs.declared.text.Blame.{Blame}
 use Rattle.listing.specs.declared.text.Reading.{Reading}
 use Rattle.listing.specs.declared.text.Text.{Text}
 use Rattle.listing.proofs.text.Reading.keep.Statement.{statement}
@@ -16,10 +16,10 @@ module _ (size : ℕ) (r : Reading) (line : List ℕ) where
       → Keeps size (going t) line bytes q k n → Keeps size (paperReading r) line bytes q k n
   keep-open t bytes k q n e h = rw e h
 
-  keep-refused : (n : ℕ) (x : Refusal) (image map : List ℕ) → r ≡ Reading.Refused n x
-      → state (stopped n (paperRefusal x)) line image map ≡ feedOf size (state (paperReading r) line image map) []
+  keep-refused : (b : Blame) (image map : List ℕ) → r ≡ Reading.Refused b
+      → state (stopped (paperBlame b)) line image map ≡ feedOf size (state (paperReading r) line image map) []
   unfolding feedOf
-  keep-refused n x image map e = rw e
+  keep-refused b image map e = rw e
 
 enum-known-self : tie.Need-enum-known-self
 enum-known-self c = search needs
@@ -37,7 +37,7 @@ returns : tie.Need-returns
 returns c = keep-open _ _ _ _ _ _ _ _ (c .before .before .before .before .before .self .given .1) (c .before .before .keep .ensures)
 
 returns-2 : tie.Need-returns-2
-returns-2 c = (search needs, λ image map. keep-refused _ _ _ _ _ image map (c .before .self2 .given .1))
+returns-2 c = (search needs, λ image map. keep-refused _ _ _ _ image map (c .before .self2 .given .1))
 
 pub keep-spec : {M : Type 1} → statement M
 keep-spec =

@@ -1,15 +1,15 @@
 -- `shut` meets its contract: an open text is closed, a refusal stays.
 use mathlib.Core.Path.{sym, ap, _∙_, _≡_}
 use borrow.Author.Needs.{needs}
-use Rattle.listing.specs.Feed.{paperReading, shutOf, Progress, stopped}
+use Rattle.listing.specs.Text.{Blame, stopped}
+use Rattle.listing.specs.Feed.{paperReading, shutOf, Progress}
 use Rattle.listing.specs.declared.text.Reading.{Reading}
-use Prim.Native.Nat.{ℕ, _-_}
 use Rattle.listing.proofs.text.Reading.shut.Statement.{statement}
 use Rattle.listing.proofs.text.Reading.shut.Tie as tie
 
-shut-stopped : (n k : ℕ) (p : Progress) → p ≡ stopped n k → stopped n k ≡ shutOf p
+shut-stopped : (b : Blame) (p : Progress) → p ≡ stopped b → stopped b ≡ shutOf p
 unfolding shutOf
-shut-stopped n k p e = rw e
+shut-stopped b p e = rw e
 
 enum-known-self : tie.Need-enum-known-self
 enum-known-self c = search needs
@@ -24,7 +24,7 @@ returns : tie.Need-returns
 returns c = c .shut .ensures ∙ sym (ap (λ (r : Reading). shutOf (paperReading r)) (c .before .before .self .given .1))
 
 returns-2 : tie.Need-returns-2
-returns-2 c = shut-stopped _ _ _ (ap paperReading (c .before .self2 .given .1))
+returns-2 c = shut-stopped _ _ (ap paperReading (c .before .self2 .given .1))
 
 pub shut-spec : {M : Type 1} → statement M
 shut-spec = tie.close (tie.spec enum-known-self shut-requires enum-known-self-2 returns returns-2)

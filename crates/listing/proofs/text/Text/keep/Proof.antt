@@ -4,7 +4,8 @@ use mathlib.Core.Path.{_≡_, refl}
 use borrow.Author.Needs.{needs}
 use lib.ListN.{length, getD, set, take}
 use Rattle.basis.specs.Board.{flashSize}
-use Rattle.listing.specs.Feed.{feedOf, Progress, going, state, withKept, keepOneOf, Keeps}
+use Rattle.listing.specs.Text.{going}
+use Rattle.listing.specs.Feed.{feedOf, Progress, state, withKept, keepOneOf, Keeps}
 use mathlib.Core.List.{List}
 use native.Mathlib.Omega.{arith}
 use Rattle.listing.specs.Laws.Feed.{feed-more}

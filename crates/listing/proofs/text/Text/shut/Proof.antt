@@ -6,14 +6,15 @@ use Prim.Native.Nat.{_-_}
 use Rattle.basis.specs.Refusals.{Answer}
 use Rattle.image.specs.Hex.{closeOf as closing}
 use Rattle.image.specs.declared.hex.Hex.{Hex}
-use Rattle.listing.specs.Feed.{going, shutBy, shutOf}
+use Rattle.listing.specs.Text.{going}
+use Rattle.listing.specs.Feed.{afterClosing, shutOf}
 use Rattle.listing.specs.declared.text.Text.{Text}
 use Rattle.listing.proofs.text.Text.shut.Statement.{statement}
 use Rattle.listing.proofs.text.Text.shut.Tie as tie
 
-shut-by : (t : Text) (a : Answer Hex) → a ≡ closing (t .hex) → shutBy t a ≡ shutOf (going t)
+shut-by : (t : Text) (a : Answer Hex) → a ≡ closing (t .hex) → afterClosing t a ≡ shutOf (going t)
 unfolding shutOf
-shut-by t a e = ap (shutBy t) e
+shut-by t a e = ap (afterClosing t) e
 
 close-requires : tie.Need-close-requires
 close-requires c κs = search needs
