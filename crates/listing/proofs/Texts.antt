@@ -1,5 +1,5 @@
 -- What each way out of the text's functions shows.
-use Prim.Native.Nat.{ℕ, _-_}
+use Prim.Native.Nat.{ℕ}
 use mathlib.Core.List.{List}
 use mathlib.Core.Path.{_≡_, sym, ap}
 use lib.ListN.{set}

@@ -85,7 +85,7 @@ unfoldable pub feedOf : ℕ → Fed → List ℕ → Fed
 feedOf size s [] = s
 feedOf size s (b ∷ t) = feedOf size (byteOf size s b) t
 
--- a stretch of the open line, never the last byte that came: what its bytes leave one by one, whatever image and map
+-- a stretch of the open line, without the last byte that came: as its bytes one by one, whatever image and map
 abbrev pub Keeps : ℕ → Progress → List ℕ → List ℕ → Progress → List ℕ → ℕ → Type 0
 Keeps size p line bytes q kept n =
     (n ≤ length bytes - 1)
@@ -94,7 +94,8 @@ Keeps size p line bytes q kept n =
 -- the line after the last 0A, as it stands
 unfoldable pub lastOf : ℕ → Text → List ℕ → List ℕ → List ℕ → Fed
 lastOf size t line image map =
-    pick (eqb (t .len) 0) (state (going t) line image map) (fedLine size t (take (t .len) line) line image map)
+    pick (eqb (t .len) 0) (state (going t) line image map)
+    (fedLine size t (take (t .len) line) line image map)
 
 -- the reader is closed
 abbrev pub afterClosing : Text → Answer Hex → Progress

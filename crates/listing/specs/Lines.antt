@@ -1,5 +1,5 @@
 -- The lines that the programs print.
-use Prim.Native.Nat.{ℕ, _+_}
+use Prim.Native.Nat.{ℕ}
 use mathlib.Core.List.{List, [], _∷_, _++_}
 use lib.ListN.{getD}
 use Rattle.basis.specs.Refusals.{Answer, refused, given}

@@ -19,8 +19,8 @@ use Rattle.listing.specs.declared.text.Reading.{Reading}
 
 blame-one : (a b : Blame) → paperBlame a ≡ paperBlame b → a ≡ b
 blame-one a b e =
-    let f : a .line ≡ b .line = ap (λ (x : Paper.Blame). x .line) e in
-    let g : a .refusal ≡ b .refusal = refusal-one (a .refusal) (b .refusal) (ap (λ (x : Paper.Blame). x .number) e) in
+    let f = ap (λ (x : Paper.Blame). x .line) e in
+    let g = refusal-one (a .refusal) (b .refusal) (ap (λ (x : Paper.Blame). x .number) e) in
     λ i. record { line = f i; refusal = g i }
 
 -- a text as it comes

@@ -1,5 +1,5 @@
 -- Laws of decimal numbers.
-use Prim.Native.Nat.{ℕ, zero, suc, _+_, _/_, _%_, _^_, _≤_, _<_}
+use Prim.Native.Nat.{ℕ, zero, suc, _/_, _%_, _^_, _≤_, _<_}
 use mathlib.Core.List.{[], _∷_, _++_}
 use mathlib.Core.Path.{_≡_, refl}
 use native.Mathlib.Nat.{pow-succ'}
@@ -28,16 +28,18 @@ decimal-one (suc n) h = rw (lt-ltb (suc n) 10 h)
 pub decimal-more : (n : ℕ) → 10 ≤ n → decimalOf n ≡ decimalOf (n / 10) ++ (digit (n % 10) ∷ [])
 unfolding decimalOf decimalIn
 decimal-more zero h = absurd (omega arith)
-decimal-more (suc n) h = rw (le-ltb (suc n) 10 h, enough n (suc n / 10) (suc n / 10) (omega arith) (omega arith))
+decimal-more (suc n) h =
+    rw (le-ltb (suc n) 10 h, enough n (suc n / 10) (suc n / 10) (omega arith) (omega arith))
 
 -- k + 1 digits hold what is below 10 to the k + 1
-pub decimal-length : (k n : ℕ) → n < 10 ^ suc k → length (decimalOf n) ≤ suc k
+decimal-length : (k n : ℕ) → n < 10 ^ suc k → length (decimalOf n) ≤ suc k
 decimal-length zero n h = rw (decimal-one n (omega arith)) (omega arith)
 decimal-length (suc k) n h =
     decide (ltb n 10)
     (λ t. rw (decimal-one n (ltb-true n 10 t)) (omega arith))
     (λ t. let e = pow-succ' 10 (suc k) in
-    rw (decimal-more n (ltb-false n 10 t), length-append (decimalOf (n / 10)) (digit (n % 10) ∷ [])) (omega (arith, decimal-length k (n / 10) (omega arith))))
+    rw (decimal-more n (ltb-false n 10 t), length-append (decimalOf (n / 10)) (digit (n % 10) ∷ []))
+    (omega (arith, decimal-length k (n / 10) (omega arith))))
 
 -- 64 bits make at most 20 digits
 pub decimal-most : (n : ℕ) → n < 2 ^ 64 → length (decimalOf n) ≤ 20

@@ -1,9 +1,8 @@
 -- `close` meets its contract: the last line is taken, then the reader is closed; a refusal stays.
 use borrow.Author.Needs.{needs}
-use Prim.Native.Nat.{ℕ, _-_}
+use Prim.Native.Nat.{ℕ}
 use mathlib.Core.List.{List}
 use mathlib.Core.Path.{_≡_, ap}
-use Rattle.image.specs.Hex.{closeOf as closing}
 use Rattle.listing.specs.Text.{stopped}
 use Rattle.listing.specs.Feed.{Progress, state, paperBlame, paperReading, lastOf, shutOf, fedClosing, progressClosed}
 use Rattle.listing.specs.declared.text.Blame.{Blame}

@@ -1,13 +1,48 @@
 -- `feed` meets its contract: feeding what is left, from here, gives what was to be given.
-use Prim.Native.Nat.{_≤_, _-_}
-use mathlib.Core.Path.{_≡_, refl, sym, _∙_}
+use Prim.Native.Nat.{ℕ, _+_, _-_, _≤_, _<_}
+use mathlib.Core.List.{List}
+use mathlib.Core.Path.{_≡_, refl, sym, ap, _∙_}
+use native.Mathlib.Numerals.{add-one}
+use native.Mathlib.Omega.{arith}
 use borrow.Author.Needs.{needs}
-use lib.ListN.{length, drop}
+use lib.ListN.{length, getD, take, drop, take-append-drop, length-drop, drop-of-length-le}
+use lib.Seq.{drop-cons, drop-drop, take-all}
 use Rattle.basis.specs.Board.{flashSize}
-use Rattle.listing.specs.Feed.{paperReading, state, feedOf}
-use Rattle.listing.specs.Laws.Feed.{rest-lent, feed-next, feed-end}
+use Rattle.listing.specs.Feed.{paperReading, Fed, state, byteOf, feedOf}
+use Rattle.listing.specs.Laws.Feed.{feed-append}
 use Rattle.listing.proofs.text.Reading.feed.Statement.{statement}
 use Rattle.listing.proofs.text.Reading.feed.Tie as tie
+
+-- what is lent of a text from a place on
+rest-lent : (t : List ℕ) (i : ℕ) → take (length t - i) (drop i t) ≡ drop i t
+rest-lent t i = take-all (length t - i) (drop i t) (omega (arith, length-drop i t))
+
+module _ (size : ℕ) where
+  -- a stretch of a text and the byte after it
+  feed-next : (s q r : Fed) (t u : List ℕ) (i n : ℕ) → i < length t → u ≡ drop i t → n ≤ length u - 1
+      → q ≡ feedOf size s (take n u) → r ≡ byteOf size q (getD t (i + n) 0)
+      → feedOf size r (drop (i + n + 1) t) ≡ feedOf size s (drop i t)
+  unfolding feedOf
+  feed-next s q r t u i n h d k e f =
+      ap (λ (x : Fed). feedOf size x (drop (i + n + 1) t)) f
+      ∙ one
+      ∙ ap (λ (x : List ℕ). feedOf size q x) (sym (drop-drop n i t))
+      ∙ ap (λ (x : Fed). feedOf size x (drop n (drop i t)))
+      (e ∙ ap (λ (x : List ℕ). feedOf size s (take n x)) d)
+      ∙ sym (feed-append size s (take n (drop i t)) (drop n (drop i t)))
+      ∙ ap (λ (x : List ℕ). feedOf size s x) (take-append-drop n (drop i t))
+    where
+      inside : i + n < length t
+      inside = omega (arith, length-drop i t, ap length d)
+
+      one : feedOf size (byteOf size q (getD t (i + n) 0)) (drop (i + n + 1) t)
+          ≡ feedOf size q (drop (i + n) t)
+      one = rw (add-one, drop-cons t (i + n) 0 inside)
+
+  -- the text's end
+  feed-end : (s : Fed) (t : List ℕ) (i : ℕ) → length t ≤ i → feedOf size s (drop i t) ≡ s
+  unfolding feedOf
+  feed-end s t i h = rw (drop-of-length-le t h)
 
 abbrev Inv-loop : tie.InvT-loop
 Inv-loop bytes line₀ image₀ map₀ reading₀ i₀ line image map reading i = (i ≤ length bytes) × (length line ≡ length line₀) × (length image ≡ length image₀) × (length map ≡ length map₀) × (feedOf flashSize (state (paperReading reading) line image map) (drop i bytes) ≡ feedOf flashSize (state (paperReading reading₀) line₀ image₀ map₀) bytes)

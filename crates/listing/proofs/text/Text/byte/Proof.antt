@@ -2,7 +2,7 @@
 use mathlib.Core.Path.{ap, _∙_, _≡_, sym}
 use Rattle.listing.specs.Text.{trimmedOf}
 use borrow.Author.Needs.{needs}
-use Prim.Native.Nat.{ℕ, _-_}
+use Prim.Native.Nat.{ℕ}
 use mathlib.Core.List.{List}
 use lib.ListN.{take}
 use Rattle.image.specs.Hex.{settled, recordIn}

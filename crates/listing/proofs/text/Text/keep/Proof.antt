@@ -1,18 +1,33 @@
 -- `keep` meets its contract: each byte of the stretch is kept, as one by one.
 use Prim.Native.Nat.{_≤_, _-_, ℕ, _+_, _<_}
-use mathlib.Core.Path.{_≡_, refl}
+use mathlib.Core.Path.{_≡_, refl, sym, ap, _∙_}
 use borrow.Author.Needs.{needs}
 use lib.ListN.{length, getD, set, take}
+use lib.Seq.{take-suc}
+use native.Mathlib.Numerals.{add-one}
 use Rattle.basis.specs.Board.{flashSize}
 use Rattle.listing.specs.Text.{going}
-use Rattle.listing.specs.Feed.{feedOf, Progress, state, withKept, keepOneOf, Keeps}
-use mathlib.Core.List.{List}
+use Rattle.listing.specs.Feed.{Fed, byteOf, feedOf, Progress, state, withKept, keepOneOf, Keeps}
+use mathlib.Core.List.{List, [], _∷_, _++_}
 use native.Mathlib.Omega.{arith}
-use Rattle.listing.specs.Laws.Feed.{feed-more}
+use Rattle.listing.specs.Laws.Feed.{feed-append}
 use Rattle.listing.specs.declared.text.Text.{Text}
 use Rattle.listing.proofs.Texts.{kept-by}
 use Rattle.listing.proofs.text.Text.keep.Statement.{statement}
 use Rattle.listing.proofs.text.Text.keep.Tie as tie
+
+module _ (size : ℕ) where
+  -- one byte of a stretch more
+  feed-more : (s q r : Fed) (t : List ℕ) (i : ℕ) → i < length t → q ≡ feedOf size s (take i t)
+      → r ≡ byteOf size q (getD t i 0) → r ≡ feedOf size s (take (i + 1) t)
+  unfolding feedOf
+  feed-more s q r t i h e f =
+      f ∙ ap (λ (x : Fed). byteOf size x (getD t i 0)) e
+      ∙ sym (feed-append size s (take i t) (getD t i 0 ∷ []))
+      ∙ ap (λ (x : List ℕ). feedOf size s x) grown
+    where
+      grown : take i t ++ (getD t i 0 ∷ []) ≡ take (i + 1) t
+      grown = rw (add-one, take-suc t i 0 h)
 
 module _ (size : ℕ) (t : Text) (line bytes : List ℕ) where
   -- so many bytes are gone through, and n are kept

@@ -2,7 +2,6 @@
 use mathlib.Core.Path.{sym, ap, _∙_, _≡_}
 use borrow.Author.Needs.{needs}
 use Rattle.image.specs.Paper.{paperRead}
-use Prim.Native.Nat.{_-_}
 use Rattle.basis.specs.Refusals.{Answer}
 use Rattle.image.specs.Hex.{closeOf as closing}
 use Rattle.image.specs.declared.hex.Hex.{Hex}

@@ -1,9 +1,8 @@
 -- `take` meets its contract: the record's outcome, with the line counted.
 use borrow.Author.Needs.{needs}
-use Prim.Native.Nat.{ℕ, _-_}
+use Prim.Native.Nat.{ℕ}
 use mathlib.Core.List.{List}
 use mathlib.Core.Path.{_≡_}
-use lib.ListN.{take}
 use Rattle.image.specs.Hex.{Settled, settledAs}
 use Rattle.image.specs.Paper.{paperRead, paperRefusal}
 use Rattle.image.specs.declared.hex.Hex.{Hex}
