@@ -3,30 +3,28 @@ use Prim.Native.Nat.{ℕ}
 use mathlib.Core.List.{List}
 use mathlib.Core.Path.{_≡_, sym, ap}
 use lib.ListN.{set}
-use Rattle.basis.specs.Refusals.{Answer}
 use Rattle.image.specs.Hex.{Settled, settledAs}
 use Rattle.image.specs.Paper.{paperRead}
-use Rattle.image.specs.declared.hex.Hex.{Hex}
 use Rattle.image.specs.declared.hex.Read.{Read}
 use Rattle.listing.specs.Laws.Feed.{byte-kept}
 use Rattle.listing.specs.Text.{going}
-use Rattle.listing.specs.Feed.{Progress, state, afterRecord, fedRecord, withKept, keepOneOf, fedByte}
+use Rattle.listing.specs.Feed.{Progress, state, afterLine, fedAfter, withKept, keepOneOf, fedByte}
 use Rattle.listing.specs.declared.text.Text.{Text}
 
--- progress, image and map that an outcome gives
-abbrev pub Shown : (Answer Hex → Progress) → Progress → List ℕ → List ℕ → Settled → Type 0
-Shown by p image map o = (p ≡ by (o .answer)) × (image ≡ o .image) × (map ≡ o .map)
+-- progress, image and map that an outcome gives after line n
+abbrev pub Shown : ℕ → Progress → List ℕ → List ℕ → Settled → Type 0
+Shown n p image map o = (p ≡ afterLine n (o .answer)) × (image ≡ o .image) × (map ≡ o .map)
 
-pub shown : (by : Answer Hex → Progress) (r x : Read) (i m : List ℕ) (o : Settled) → r ≡ x
-    → settledAs (paperRead r) i m ≡ o → Shown by (by (paperRead x)) i m o
-shown by r x i m o e f =
+pub shown : (n : ℕ) (r x : Read) (i m : List ℕ) (o : Settled) → r ≡ x
+    → settledAs (paperRead r) i m ≡ o → Shown n (afterLine n (paperRead x)) i m o
+shown n r x i m o e f =
     let g : settledAs (paperRead x) i m ≡ o = rw e at f in
-    (ap (λ (y : Settled). by (y .answer)) g, ap (λ (y : Settled). y .image) g, ap (λ (y : Settled). y .map) g)
+    (ap (λ (y : Settled). afterLine n (y .answer)) g, ap (λ (y : Settled). y .image) g, ap (λ (y : Settled). y .map) g)
 
 -- the same with the line buffer
-pub took-shown : (t : Text) (p : Progress) (line i m : List ℕ) (o : Settled) → Shown (afterRecord t) p i m o
-    → state p line i m ≡ fedRecord t o line
-took-shown t p line i m o s = rw (s .0, s .1, s .2)
+pub fed-shown : (n : ℕ) (p : Progress) (line i m : List ℕ) (o : Settled) → Shown n p i m o
+    → state p line i m ≡ fedAfter n o line
+fed-shown n p line i m o s = rw (s .0, s .1, s .2)
 
 -- a byte that does not end the line is kept
 module _ (size : ℕ) (t : Text) (b : ℕ) (line image map : List ℕ) where

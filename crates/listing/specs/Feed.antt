@@ -39,26 +39,25 @@ pub record Fed : Type 0 where
 abbrev pub state : Progress → List ℕ → List ℕ → List ℕ → Fed
 state p line image map = record { progress = p; line = line; image = image; map = map }
 
--- a text at its start
-abbrev pub afterStart : Answer Hex → Progress
-afterStart = atLine 0 (λ h. record { hex = h; lines = 0; len = 0 })
+-- n lines are taken, and none is open
+abbrev pub textAt : ℕ → Hex → Text
+textAt n h = record { hex = h; lines = n; len = 0 }
 
-abbrev pub fedStart : Settled → List ℕ → Fed
-fedStart o line = state (afterStart (o .answer)) line (o .image) (o .map)
+-- after line n, by what the hex reader answered to it; after line 0, by its start
+abbrev pub afterLine : ℕ → Answer Hex → Progress
+afterLine n = atLine n (textAt n)
+
+abbrev pub fedAfter : ℕ → Settled → List ℕ → Fed
+fedAfter n o line = state (afterLine n (o .answer)) line (o .image) (o .map)
 
 -- the number of the next line, in 64 bits
 abbrev pub nextLine : Text → ℕ
 nextLine t = (t .lines + 1) % 2 ^ 64
 
--- the next line is a record
-abbrev pub afterRecord : Text → Answer Hex → Progress
-afterRecord t = atLine (nextLine t) (λ h. record { hex = h; lines = nextLine t; len = 0 })
-
-abbrev pub fedRecord : Text → Settled → List ℕ → Fed
-fedRecord t o line = state (afterRecord t (o .answer)) line (o .image) (o .map)
-
+-- the line l as the next record
 abbrev pub fedLine : ℕ → Text → List ℕ → List ℕ → List ℕ → List ℕ → Fed
-fedLine size t l line image map = fedRecord t (settled (recordIn size (t .hex) l image map) image map) line
+fedLine size t l line image map =
+    fedAfter (nextLine t) (settled (recordIn size (t .hex) l image map) image map) line
 
 -- one byte of the open line more is kept where the line buffer has room
 unfoldable pub keepOneOf : ℕ → List ℕ → ℕ
@@ -85,7 +84,7 @@ unfoldable pub feedOf : ℕ → Fed → List ℕ → Fed
 feedOf size s [] = s
 feedOf size s (b ∷ t) = feedOf size (byteOf size s b) t
 
--- a stretch of the open line, without the last byte that came: as its bytes one by one, whatever image and map
+-- a stretch of the open line, never the last byte that came: as its bytes one by one, whatever image and map
 abbrev pub Keeps : ℕ → Progress → List ℕ → List ℕ → Progress → List ℕ → ℕ → Type 0
 Keeps size p line bytes q kept n =
     (n ≤ length bytes - 1)

@@ -4,7 +4,7 @@ ghost use lib.ListN.{set, take};
 ghost use Rattle.basis.specs.Board.{flashSize};
 ghost use Rattle.image.specs.Hex.{settled, startIn, recordIn};
 ghost use Rattle.listing.specs.Text.{going, result, trimmedOf, readIn};
-ghost use Rattle.listing.specs.Feed.{paperReading, paperEnded, endedOf, state, afterStart, afterRecord, keepOneOf, withKept, fedByte, byteOf, feedOf, Keeps, lastOf, shutOf, closeOf};
+ghost use Rattle.listing.specs.Feed.{paperReading, paperEnded, endedOf, state, nextLine, afterLine, keepOneOf, withKept, fedByte, byteOf, feedOf, Keeps, lastOf, shutOf, closeOf};
 use image::hex::Hex;
 use image::hex::Read;
 use image::record::Refusal;
@@ -48,7 +48,7 @@ impl Reading {
         ensures { λ r. ⌜
             (let o = settled (startIn flashSize (now (image .entry)) (now (map .entry))) (now (image .entry))
             (now (map .entry)) in
-            (paperReading r ≡ afterStart (o .answer)) × (now (image .exit) ≡ o .image)
+            (paperReading r ≡ afterLine 0 (o .answer)) × (now (image .exit) ≡ o .image)
             × (now (map .exit) ≡ o .map))
             ⌝ }
     {
@@ -217,7 +217,7 @@ impl Text {
             (let o = settled
             (recordIn flashSize (self .hex) (now (line .entry)) (now (image .entry)) (now (map .entry)))
             (now (image .entry)) (now (map .entry)) in
-            (paperReading r ≡ afterRecord self (o .answer)) × (now (image .exit) ≡ o .image)
+            (paperReading r ≡ afterLine (nextLine self) (o .answer)) × (now (image .exit) ≡ o .image)
             × (now (map .exit) ≡ o .map))
             ⌝ }
     {

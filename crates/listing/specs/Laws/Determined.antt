@@ -9,25 +9,29 @@ use Rattle.image.specs.Laws.Determined.{refusal-one}
 use Rattle.session.specs.Laws.Determined.{refusal-one as session-one}
 use Rattle.listing.specs.Feed.{paperBlame, paperReading, paperEnded, Fed, state}
 use Rattle.listing.specs.Plan.{paperBegun}
-use Rattle.listing.specs.Text.{Result, result}
+use Rattle.listing.specs.Text.{Blame, stopped, going, Result, result}
 use Rattle.listing.specs.declared.plan.Begun.{Begun}
 use Rattle.listing.specs.declared.plan.Listing.{Listing}
-use Rattle.listing.specs.Text as Paper
-use Rattle.listing.specs.declared.text.Blame.{Blame}
+use Rattle.listing.specs.declared.text.Blame as Code
 use Rattle.listing.specs.declared.text.Ended.{Ended}
 use Rattle.listing.specs.declared.text.Reading.{Reading}
 
-blame-one : (a b : Blame) → paperBlame a ≡ paperBlame b → a ≡ b
+-- what is stopped is not going on
+lined-apart : {A : Type 0} {b : Blame} {x : A} → stopped b ≡ going x → ⊥
+lined-apart e = let z : _≡_ {A = ℕ} 0 1 = cc in omega arith
+
+-- a refusal and its line
+blame-one : (a b : Code.Blame) → paperBlame a ≡ paperBlame b → a ≡ b
 blame-one a b e =
-    let f = ap (λ (x : Paper.Blame). x .line) e in
-    let g = refusal-one (a .refusal) (b .refusal) (ap (λ (x : Paper.Blame). x .number) e) in
+    let f = ap (λ (x : Blame). x .line) e in
+    let g = refusal-one (a .refusal) (b .refusal) (ap (λ (x : Blame). x .number) e) in
     λ i. record { line = f i; refusal = g i }
 
 -- a text as it comes
 reading-one : (r s : Reading) → paperReading r ≡ paperReading s → r ≡ s
 reading-one (Reading.Open t) (Reading.Open u) e = let f : t ≡ u = cc in ap Reading.Open f
-reading-one (Reading.Open t) (Reading.Refused b) e = absurd (let z : _≡_ {A = ℕ} 0 1 = cc in omega arith)
-reading-one (Reading.Refused a) (Reading.Open u) e = absurd (let z : _≡_ {A = ℕ} 0 1 = cc in omega arith)
+reading-one (Reading.Open t) (Reading.Refused b) e = absurd (lined-apart (sym e))
+reading-one (Reading.Refused a) (Reading.Open u) e = absurd (lined-apart e)
 reading-one (Reading.Refused a) (Reading.Refused b) e = ap Reading.Refused (blame-one a b (cc))
 
 pub feed-determined : {f : Fed} (r s : Reading) (a b i j m n : List ℕ) → state (paperReading r) a i m ≡ f
@@ -43,8 +47,8 @@ feed-determined r s a b i j m n p q =
 -- a whole text
 ended-one : (r s : Ended) → paperEnded r ≡ paperEnded s → r ≡ s
 ended-one Ended.File Ended.File e = refl
-ended-one Ended.File (Ended.Refused b) e = absurd (let z : _≡_ {A = ℕ} 0 1 = cc in omega arith)
-ended-one (Ended.Refused a) Ended.File e = absurd (let z : _≡_ {A = ℕ} 0 1 = cc in omega arith)
+ended-one Ended.File (Ended.Refused b) e = absurd (lined-apart (sym e))
+ended-one (Ended.Refused a) Ended.File e = absurd (lined-apart e)
 ended-one (Ended.Refused a) (Ended.Refused b) e = ap Ended.Refused (blame-one a b (cc))
 
 pub read-determined : {x : Result} (r s : Ended) (i j m n : List ℕ) → result (paperEnded r) i m ≡ x

@@ -1,4 +1,4 @@
--- Laws of a text as it comes: how it is cut does not matter, and what it comes to is what its lines give.
+-- Laws of a text as it comes: how it is cut does not matter, and a byte ends the line or is kept.
 use Prim.Native.Nat.{ℕ, _+_, _≤_, _<_}
 use mathlib.Core.List.{List, [], _∷_, _++_}
 use mathlib.Core.Path.{_≡_, refl}

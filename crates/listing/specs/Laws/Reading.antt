@@ -16,7 +16,7 @@ use Rattle.image.specs.Hex.{File, file, settled, rightSizesIn, startIn, recordI
 use Rattle.image.specs.Hex.{closeOf as closing}
 use Rattle.image.specs.declared.hex.Hex.{Hex}
 use Rattle.listing.specs.Text.{Blame, stopped, going, atLine, Result, result, lineRoom, trimmedOf, linesFrom, unlessRefused, readFrom, readIn}
-use Rattle.listing.specs.Feed.{Fed, state, fedStart, nextLine, fedRecord, withKept, keepOneOf, byteOf, feedOf, lastOf, afterClosing, shutOf, fedClosing, endedOf, fedResult, cameTo}
+use Rattle.listing.specs.Feed.{Fed, state, textAt, fedAfter, nextLine, withKept, keepOneOf, fedByte, byteOf, feedOf, lastOf, afterClosing, shutOf, fedClosing, endedOf, fedResult, cameTo}
 use Rattle.listing.specs.Laws.Feed.{byte-ends, byte-kept, keep-more, keep-none}
 use Rattle.listing.specs.declared.text.Text.{Text}
 
@@ -26,11 +26,7 @@ module _ (size : ℕ) (h : Hex) (image map : List ℕ) where
   -- by its first character c
   abbrev early : ℕ → Answer File
   early c =
-      first
-      (20 when not (rightSizesIn size (length image) (length map))
-      ∷ 21 when h .ended
-      ∷ 22 when not (eqb c 0x3A) ∷ [])
-      (refused 23)
+      first (20 when sizeWrong size image map ∷ 21 when h .ended ∷ 22 when not (eqb c 0x3A) ∷ []) (refused 23)
 
   long-record : (l : List ℕ) → 521 < length l → recordIn size h l image map ≡ early (getD l 0 0)
   unfolding first recordIn
@@ -76,7 +72,9 @@ module _ (size : ℕ) (h : Hex) (image map : List ℕ) where
       overlong size h image map (trimmedOf (take n l)) (trimmedOf l)
       (omega (arith, trimmed-length (take n l)))
       (omega (arith, trimmed-length l))
-      (trimmed-first (take n l) (omega arith) ∙ getD-take n l 0 0 (omega arith) ∙ sym (trimmed-first l (omega arith))))
+      (trimmed-first (take n l) (omega arith)
+      ∙ getD-take n l 0 0 (omega arith)
+      ∙ sym (trimmed-first l (omega arith))))
       (λ t. rw (take-all n l (ltb-false n (length l) t)))
 
 -- ---- the open line, as much of it as the buffer has room for
@@ -100,8 +98,12 @@ module _ (l : List ℕ) (t : Text) (line : List ℕ) (h : Held l t line) where
       (λ z. let k = ltb-true (t .len) (length line) z in
       let short : length l ≡ t .len = omega (arith, held-length, length-take (length line) l) in
       let e : take (t .len) line ≡ l = h .1 ∙ take-all (length line) l (omega arith) in
-      rw (keep-more (t .len) line k)
-      (simp length-set (omega arith), rw (add-one, take-suc-set line (t .len) b k, e) (sym (take-all (length (set line (t .len) b)) (l ++ (b ∷ [])) (simp (length-append, length-set) (omega arith))))))
+      rw (keep-more (t .len) line k) (
+        simp length-set (omega arith),
+        rw (add-one, take-suc-set line (t .len) b k, e)
+            (sym (take-all (length (set line (t .len) b)) (l ++ (b ∷ []))
+            (simp (length-append, length-set) (omega arith)))),
+      ))
       (λ z. let k = ltb-false (t .len) (length line) z in
       let long : length line ≤ length l = omega (arith, held-length, length-take (length line) l, h .0) in
       rw (keep-none (t .len) line k, set-out line (t .len) b k)
@@ -125,33 +127,36 @@ module _ (size : ℕ) where
   feed-stopped x line image map [] = refl
   feed-stopped x line image map (b ∷ text) = feed-stopped x line image map text
 
-  abbrev fresh : Text → Hex → Text
-  fresh t h = record { hex = h; lines = nextLine t; len = 0 }
-
-  went : (t : Text) (line image map text : List ℕ) (a : Answer File) (g : File → Result)
-      → nextLine t ≡ t .lines + 1
-      → ((f : File) → cameTo size (state (going (fresh t (f .reader))) line (f .image) (f .map)) text ≡ g f)
-      → cameTo size (fedRecord t (settled a image map) line) text ≡ unlessRefused (t .lines + 1) image map a g
-  went t line image map text (refused k) g e ih = rw (feed-stopped (record { line = nextLine t; number = k }) line image map text, e)
-  went t line image map text (given f) g e ih = ih f
+  -- what comes after line n, where the lines that follow give g
+  went : (n : ℕ) (line image map text : List ℕ) (a : Answer File) (g : File → Result)
+      → ((f : File) → cameTo size (state (going (textAt n (f .reader))) line (f .image) (f .map)) text ≡ g f)
+      → cameTo size (fedAfter n (settled a image map) line) text ≡ unlessRefused n image map a g
+  went n line image map text (refused k) g ih =
+      rw (feed-stopped (record { line = n; number = k }) line image map text)
+  went n line image map text (given f) g ih = ih f
 
   module _ (line : List ℕ) (room : lineRoom ≤ length line) where
     -- the end: the open line is the last one, and nothing is none
     ends : (l : List ℕ) (t : Text) (image map : List ℕ) → Held l t line → nextLine t ≡ t .lines + 1
-        → cameTo size (state (going t) line image map) [] ≡ readFrom size (t .lines) (linesFrom l []) (file (t .hex) image map)
+        → cameTo size (state (going t) line image map) []
+        ≡ readFrom size (t .lines) (linesFrom l []) (file (t .hex) image map)
     unfolding Held feedOf linesFrom readFrom lastOf shutOf
     ends l t image map h e =
+        let held = held-length l t line h in
+        let kept = length-take (length line) l in
         decide (eqb (length l) 0)
-        (λ z. let n : t .len ≡ 0 = omega (arith, held-length l t line h, length-take (length line) l, eqb-true (length l) 0 z) in
+        (λ z. let n : t .len ≡ 0 = omega (arith, held, kept, eqb-true (length l) 0 z) in
         rw (z, eq-eqb (t .len) 0 n) (ap (λ v. result v image map) (verdict-shut t (closing (t .hex)))))
-        (λ z. let n : t .len ≡ 0 → ⊥ = λ q. eqb-false (length l) 0 z (omega (arith, held-length l t line h, length-take (length line) l)) in
-        rw (z, ne-eqb (t .len) 0 n, h .1, record-kept size (t .hex) image map (length line) l room)
-        (last (recordIn size (t .hex) l image map)))
+        (λ z. let n : t .len ≡ 0 → ⊥ = λ q. eqb-false (length l) 0 z (omega (arith, held, kept)) in
+        rw (z, ne-eqb (t .len) 0 n, h .1, record-kept size (t .hex) image map (length line) l room, e)
+        (last (t .lines + 1) (recordIn size (t .hex) l image map)))
       where
-        last : (a : Answer File)
-            → fedResult (fedClosing (fedRecord t (settled a image map) line)) ≡ unlessRefused (t .lines + 1) image map a (readFrom size (t .lines + 1) [])
-        last (refused k) = rw e
-        last (given f) = ap (λ v. result v (f .image) (f .map)) (verdict-shut (fresh t (f .reader)) (closing (f .reader)))
+        last : (n : ℕ) (a : Answer File)
+            → fedResult (fedClosing (fedAfter n (settled a image map) line))
+            ≡ unlessRefused n image map a (readFrom size n [])
+        last n (refused k) = refl
+        last n (given f) =
+            ap (λ v. result v (f .image) (f .map)) (verdict-shut (textAt n (f .reader)) (closing (f .reader)))
 
   numbered : (n k : ℕ) → n + k + 1 < 2 ^ 64 → (n + 1) % 2 ^ 64 ≡ n + 1
   numbered n k l = mod-eq-of-lt (omega arith)
@@ -171,36 +176,53 @@ module _ (size : ℕ) where
   fed-on s b text = refl
 
   read-on : (n : ℕ) (l : List ℕ) (ls : List (List ℕ)) (f : File)
-      → readFrom size n (l ∷ ls) f ≡ unlessRefused (n + 1) (f .image) (f .map) (recordIn size (f .reader) l (f .image) (f .map)) (readFrom size (n + 1) ls)
+      → readFrom size n (l ∷ ls) f
+      ≡ unlessRefused (n + 1) (f .image) (f .map) (recordIn size (f .reader) l (f .image) (f .map))
+      (readFrom size (n + 1) ls)
   unfolding readFrom
   read-on n l ls f = refl
+
+  -- 0A: the open line is the next record
+  line-taken : (l : List ℕ) (t : Text) (line image map : List ℕ) → lineRoom ≤ length line → Held l t line
+      → nextLine t ≡ t .lines + 1 → (b : ℕ) → b ≡ 0x0A
+      → fedByte size t b line image map
+      ≡ fedAfter (t .lines + 1) (settled (recordIn size (t .hex) (trimmedOf l) image map) image map) line
+  line-taken l t line image map room h next b e =
+      byte-ends size t b line image map e
+      ∙ rw (next, held-is l t line h, record-trimmed size (t .hex) image map (length line) l room)
 
   -- from any state on: the open line and what comes, as lines
   reads : (text l line image map : List ℕ) (t : Text) → lineRoom ≤ length line → Held l t line
       → t .lines + length text + 1 < 2 ^ 64
-      → cameTo size (state (going t) line image map) text ≡ readFrom size (t .lines) (linesFrom l text) (file (t .hex) image map)
-  reads [] l line image map t room h few = ends line room l t image map h (numbered (t .lines) 0 (omega arith))
+      → cameTo size (state (going t) line image map) text
+      ≡ readFrom size (t .lines) (linesFrom l text) (file (t .hex) image map)
+  reads [] l line image map t room h few =
+      ends line room l t image map h (numbered (t .lines) 0 (omega arith))
   reads (b ∷ text) l line image map t room h few =
       let next : nextLine t ≡ t .lines + 1 = numbered (t .lines) (length text) (omega arith) in
       let f : File = file (t .hex) image map in
+      let lines-are : List (List ℕ) → Result = λ ls. readFrom size (t .lines) ls f in
+      let on : Fed → Result = λ s. cameTo size s text in
       fed-on (state (going t) line image map) b text
       ∙ decide (eqb b 0x0A)
-      (λ z. ap (λ (s : Fed). cameTo size s text) (byte-ends size t b line image map (eqb-true b 0x0A z) ∙ ap (λ (a : Answer File). fedRecord t (settled a image map) line) (ap (λ (k : List ℕ). recordIn size (t .hex) (trimmedOf k) image map) (held-is l t line h) ∙ record-trimmed size (t .hex) image map (length line) l room))
-      ∙ went t line image map text (recordIn size (t .hex) (trimmedOf l) image map) (readFrom size (t .lines + 1) (linesFrom [] text)) next
-      (λ g. reads text [] line (g .image) (g .map) (fresh t (g .reader)) room (held-none (fresh t (g .reader)) line refl) (omega (arith, next))
-      ∙ ap (λ (n : ℕ). readFrom size n (linesFrom [] text) g) next)
-      ∙ sym (ap (λ (ls : List (List ℕ)). readFrom size (t .lines) ls f) (lines-end l text b z) ∙ read-on (t .lines) (trimmedOf l) (linesFrom [] text) f))
-      (λ z. ap (λ (s : Fed). cameTo size s text) (byte-kept size t b line image map (eqb-false b 0x0A z))
-      ∙ reads text (l ++ (b ∷ [])) (set line (t .len) b) image map (withKept t (keepOneOf (t .len) line)) (simp length-set room) (held-byte l t line h b) (omega arith)
-      ∙ sym (ap (λ (ls : List (List ℕ)). readFrom size (t .lines) ls f) (lines-on l text b z)))
+      (λ z. ap on (line-taken l t line image map room h next b (eqb-true b 0x0A z))
+      ∙ went (t .lines + 1) line image map text (recordIn size (t .hex) (trimmedOf l) image map)
+      (readFrom size (t .lines + 1) (linesFrom [] text))
+      (λ g. let u = textAt (t .lines + 1) (g .reader) in
+      reads text [] line (g .image) (g .map) u room (held-none u line refl) (omega arith))
+      ∙ sym (ap lines-are (lines-end l text b z) ∙ read-on (t .lines) (trimmedOf l) (linesFrom [] text) f))
+      (λ z. let u = withKept t (keepOneOf (t .len) line) in
+      ap on (byte-kept size t b line image map (eqb-false b 0x0A z))
+      ∙ reads text (l ++ (b ∷ [])) (set line (t .len) b) image map u
+      (simp length-set room) (held-byte l t line h b) (omega arith)
+      ∙ sym (ap lines-are (lines-on l text b z)))
 
   -- from the start on, however the text was cut: what the paper says of its lines
   pub text-reads : (text line image map : List ℕ) → lineRoom ≤ length line → length text + 1 < 2 ^ 64
-      → cameTo size (fedStart (settled (startIn size image map) image map) line) text ≡ readIn size text image map
+      → cameTo size (fedAfter 0 (settled (startIn size image map) image map) line) text
+      ≡ readIn size text image map
   unfolding readIn
-  text-reads text line image map room few = go (startIn size image map)
-    where
-      go : (a : Answer File)
-          → cameTo size (fedStart (settled a image map) line) text ≡ unlessRefused 0 image map a (readFrom size 0 (linesFrom [] text))
-      go (refused k) = rw (feed-stopped (record { line = 0; number = k }) line image map text)
-      go (given f) = reads text [] line (f .image) (f .map) (record { hex = f .reader; lines = 0; len = 0 }) room (held-none (record { hex = f .reader; lines = 0; len = 0 }) line refl) (omega arith)
+  text-reads text line image map room few =
+      went 0 line image map text (startIn size image map) (readFrom size 0 (linesFrom [] text))
+      (λ f. let u = textAt 0 (f .reader) in
+      reads text [] line (f .image) (f .map) u room (held-none u line refl) (omega arith))

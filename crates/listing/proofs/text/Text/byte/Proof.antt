@@ -7,18 +7,18 @@ use mathlib.Core.List.{List}
 use lib.ListN.{take}
 use Rattle.image.specs.Hex.{settled, recordIn}
 use Rattle.listing.specs.Laws.Feed.{byte-ends}
-use Rattle.listing.specs.Feed.{Progress, state, afterRecord, fedByte}
+use Rattle.listing.specs.Feed.{Progress, state, nextLine, fedByte}
 use Rattle.listing.specs.declared.text.Text.{Text}
-use Rattle.listing.proofs.Texts.{Shown, took-shown, kept-by}
+use Rattle.listing.proofs.Texts.{Shown, fed-shown, kept-by}
 use Rattle.listing.proofs.text.Text.byte.Statement.{statement}
 use Rattle.listing.proofs.text.Text.byte.Tie as tie
 
 module _ (size : ℕ) (t : Text) (b : ℕ) (line image map : List ℕ) where
   ended-by : (l i m : List ℕ) (p : Progress) → b ≡ 0x0A → l ≡ trimmedOf (take (t .len) line)
-      → Shown (afterRecord t) p i m (settled (recordIn size (t .hex) l image map) image map)
+      → Shown (nextLine t) p i m (settled (recordIn size (t .hex) l image map) image map)
       → state p line i m ≡ fedByte size t b line image map
   ended-by l i m p e el s =
-      took-shown t p line i m (settled (recordIn size (t .hex) (trimmedOf (take (t .len) line)) image map) image map) (rw el at s)
+      fed-shown (nextLine t) p line i m (settled (recordIn size (t .hex) (trimmedOf (take (t .len) line)) image map) image map) (rw el at s)
       ∙ sym (byte-ends size t b line image map e)
 
 kept-requires : tie.Need-kept-requires

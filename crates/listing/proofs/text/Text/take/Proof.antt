@@ -4,25 +4,17 @@ use Prim.Native.Nat.{ℕ}
 use mathlib.Core.List.{List}
 use mathlib.Core.Path.{_≡_}
 use Rattle.image.specs.Hex.{Settled, settledAs}
-use Rattle.image.specs.Paper.{paperRead, paperRefusal}
-use Rattle.image.specs.declared.hex.Hex.{Hex}
+use Rattle.image.specs.Paper.{paperRead}
 use Rattle.image.specs.declared.hex.Read.{Read}
-use Rattle.image.specs.declared.record.Refusal.{Refusal}
-use Rattle.listing.specs.Text.{going, refusedAt}
-use Rattle.listing.specs.Feed.{nextLine, afterRecord}
-use Rattle.listing.specs.declared.text.Text.{Text}
+use Rattle.listing.specs.Feed.{afterLine}
 use Rattle.listing.proofs.Texts.{Shown, shown}
 use Rattle.listing.proofs.text.Text.take.Statement.{statement}
 use Rattle.listing.proofs.text.Text.take.Tie as tie
 
-module _ (t : Text) (n : ℕ) (e : n ≡ nextLine t) (i m : List ℕ) (o : Settled) (r : Read) where
-  took-given : (h : Hex) → r ≡ Read.Taken h → settledAs (paperRead r) i m ≡ o
-      → Shown (afterRecord t) (going (record { hex = h; lines = n; len = 0 })) i m o
-  took-given h f g = rw e (shown (afterRecord t) r (Read.Taken h) i m o f g)
-
-  took-refused : (x : Refusal) → r ≡ Read.Refused x → settledAs (paperRead r) i m ≡ o
-      → Shown (afterRecord t) (refusedAt n (paperRefusal x)) i m o
-  took-refused x f g = rw e (shown (afterRecord t) r (Read.Refused x) i m o f g)
+-- the number that was counted is the next line's
+took : (n k : ℕ) → n ≡ k → (r x : Read) (i m : List ℕ) (o : Settled) → r ≡ x
+    → settledAs (paperRead r) i m ≡ o → Shown k (afterLine n (paperRead x)) i m o
+took n k e r x i m o f g = rw e (shown k r x i m o f g)
 
 wrapping-add-u64-requires : tie.Need-wrapping-add-u64-requires
 wrapping-add-u64-requires c κs = search needs
@@ -43,7 +35,7 @@ same-length-2 : tie.Need-same-length-2
 same-length-2 c = search needs
 
 returns : tie.Need-returns
-returns c = took-given (c .before .before .before .before .before .before .before .before .before .before .before .before .before .before .before .args .self) _ (c .before .before .before .before .before .before .before .before .before .before .wrapping-add-u64 .ensures) _ _ _ _ _ (c .before .next .given .1) (c .before .before .before .before .before .before .before .«record» .ensures)
+returns c = took _ _ (c .before .before .before .before .before .before .before .before .before .before .wrapping-add-u64 .ensures) _ _ _ _ _ (c .before .next .given .1) (c .before .before .before .before .before .before .before .«record» .ensures)
 
 same-length-3 : tie.Need-same-length-3
 same-length-3 c = search needs
@@ -52,7 +44,7 @@ same-length-4 : tie.Need-same-length-4
 same-length-4 c = search needs
 
 returns-2 : tie.Need-returns-2
-returns-2 c = took-refused (c .before .before .before .before .before .before .before .before .before .before .before .before .before .before .before .args .self) _ (c .before .before .before .before .before .before .before .before .before .before .wrapping-add-u64 .ensures) _ _ _ _ _ (c .before .refusal .given .1) (c .before .before .before .before .before .before .before .«record» .ensures)
+returns-2 c = took _ _ (c .before .before .before .before .before .before .before .before .before .before .wrapping-add-u64 .ensures) _ _ _ _ _ (c .before .refusal .given .1) (c .before .before .before .before .before .before .before .«record» .ensures)
 
 pub take-spec : {M : Type 1} → statement M
 take-spec =
