@@ -16,6 +16,7 @@ use Rattle.listing.specs.declared.text.Ended.{Ended}
 use Rattle.listing.specs.declared.text.Reading.{Reading}
 use Rattle.listing.specs.declared.text.Text.{Text}
 
+-- of a text so far: refused, or open
 abbrev pub Progress : Type 0
 Progress = Lined Text
 

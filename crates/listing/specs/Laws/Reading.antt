@@ -201,7 +201,7 @@ module _ (size : ℕ) where
   reads (b ∷ text) l line image map t room h few =
       let next : nextLine t ≡ t .lines + 1 = numbered (t .lines) (length text) (omega arith) in
       let f : File = file (t .hex) image map in
-      let lines-are : List (List ℕ) → Result = λ ls. readFrom size (t .lines) ls f in
+      let by-lines : List (List ℕ) → Result = λ ls. readFrom size (t .lines) ls f in
       let on : Fed → Result = λ s. cameTo size s text in
       fed-on (state (going t) line image map) b text
       ∙ decide (eqb b 0x0A)
@@ -210,12 +210,12 @@ module _ (size : ℕ) where
       (readFrom size (t .lines + 1) (linesFrom [] text))
       (λ g. let u = textAt (t .lines + 1) (g .reader) in
       reads text [] line (g .image) (g .map) u room (held-none u line refl) (omega arith))
-      ∙ sym (ap lines-are (lines-end l text b z) ∙ read-on (t .lines) (trimmedOf l) (linesFrom [] text) f))
+      ∙ sym (ap by-lines (lines-end l text b z) ∙ read-on (t .lines) (trimmedOf l) (linesFrom [] text) f))
       (λ z. let u = withKept t (keepOneOf (t .len) line) in
       ap on (byte-kept size t b line image map (eqb-false b 0x0A z))
       ∙ reads text (l ++ (b ∷ [])) (set line (t .len) b) image map u
       (simp length-set room) (held-byte l t line h b) (omega arith)
-      ∙ sym (ap lines-are (lines-on l text b z)))
+      ∙ sym (ap by-lines (lines-on l text b z)))
 
   -- from the start on, however the text was cut: what the paper says of its lines
   pub text-reads : (text line image map : List ℕ) → lineRoom ≤ length line → length text + 1 < 2 ^ 64
