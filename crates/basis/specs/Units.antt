@@ -17,3 +17,8 @@ pageGroupOf p = p / 4
 -- the first address of a page
 abbrev pub startOf : ℕ → ℕ
 startOf p = p * pageSize
+
+-- a board is told by how many pages it has: its flash ends where one page more would start,
+-- and its map has one bit for each byte
+abbrev pub mapOf : ℕ → ℕ
+mapOf board = startOf board / 8

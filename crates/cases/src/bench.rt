@@ -26,8 +26,8 @@ pub struct Lent {
     pub log: usize,
 }
 
-// The session counts for nothing until one is started. `whole`: the line's outcome is due, and `said`: it has begun.
-// `over`: no line follows. `lost`: what is printed from now on is lost.
+// The session counts for nothing until one is started. `whole`: the line's outcome is due, and `said`:
+// it has begun. `over`: no line follows. `lost`: what is printed from now on is lost.
 pub struct Bench {
     pub loader: LoaderState,
     pub hex: HexState,

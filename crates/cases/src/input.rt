@@ -18,8 +18,8 @@ pub struct Input {
     pub open: bool,
 }
 
-// The next line, or the next part of it: `len` bytes, of which `case` are to be answered. `whole`: it ends here.
-// `over`: nothing follows.
+// The next line, or the next part of it: `len` bytes, of which `case` are to
+// be answered. `whole`: it ends here. `over`: nothing follows.
 pub struct Line {
     pub input: Input,
     pub len: usize,

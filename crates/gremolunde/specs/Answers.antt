@@ -1,5 +1,5 @@
--- The paper's answers as C gets them: 0 and what is given, or the refusal's number; a refusal hands a state back as
--- it came.
+-- The paper's answers as C gets them: 0 and what is given, or the
+-- refusal's number; a refusal hands a state back as it came.
 use Prim.Native.Nat.{ℕ}
 use mathlib.Core.Bool.{Bool}
 use Rattle.basis.specs.Refusals.{Answer, refused, given}

@@ -1,5 +1,5 @@
--- What the states that a C caller keeps stand for, and how the library shows them. Every value of every field stands
--- for something.
+-- What the states that a C caller keeps stand for, and how the library
+-- shows them. Every value of every field stands for something.
 use Prim.Native.Nat.{ℕ}
 use mathlib.Core.Bool.{Bool, not}
 use lib.Dec.{eqb}

@@ -1,6 +1,7 @@
 // The service log for C.
 ghost use mathlib.Core.Path.{_≡_};
 ghost use lib.ListN.{length};
+ghost use Rattle.basis.specs.Board.{pages};
 ghost use Rattle.basis.specs.Lists.{overlay};
 ghost use Rattle.basis.specs.Refusals.{counted, written};
 ghost use Rattle.gremolunde.specs.Answers.{lengthAnswer, recordAnswer};
@@ -31,7 +32,7 @@ pub struct LogRecord {
 #[no_mangle]
 pub extern "C" fn gremolunde_log_write(session: SessionState, buffer: &mut [u8]) -> Length
     ensures { λ r. ⌜
-        (let b = writeOf (length (now (buffer .entry))) (sessionMeant session) in
+        (let b = writeOf pages (length (now (buffer .entry))) (sessionMeant session) in
         (r ≡ lengthAnswer (counted b)) × (now (buffer .exit) ≡ overlay (written b) (now (buffer .entry))))
         ⌝ }
 {
@@ -52,7 +53,7 @@ fn length_answer(answer: Written) -> Length
 
 #[no_mangle]
 pub extern "C" fn gremolunde_log_read(input: &[u8]) -> LogRecord
-    ensures { λ r. ⌜ r ≡ recordAnswer (readOf (now (input .entry))) ⌝ }
+    ensures { λ r. ⌜ r ≡ recordAnswer (readOf pages (now (input .entry))) ⌝ }
 {
     record_answer(read(input))
 }

@@ -1,5 +1,6 @@
 // A rehearsal for C: a whole load over a line that loses what it is told to.
 ghost use mathlib.Core.Path.{_≡_};
+ghost use Rattle.basis.specs.Board.{pages};
 ghost use Rattle.gremolunde.specs.Answers.{rehearsedAnswer};
 ghost use Rattle.gremolunde.specs.States.{loaderMeant, runMeant};
 ghost use Rattle.line.specs.Line.{lossAt, rehearseOf, loaded, leftFlash};
@@ -32,7 +33,7 @@ pub extern "C" fn gremolunde_rehearse(
     flash: &mut [u8],
 ) -> Rehearsal
     ensures { λ r. ⌜
-        (let a = rehearseOf (now (image .entry)) (now (map .entry)) (runMeant run) (loaderMeant loader)
+        (let a = rehearseOf pages (now (image .entry)) (now (map .entry)) (runMeant run) (loaderMeant loader)
         (lossAt (now (losses .entry))) (now (flash .entry)) in
         (r ≡ rehearsedAnswer loader (loaded a)) × (now (flash .exit) ≡ leftFlash (now (flash .entry)) a))
         ⌝ }

@@ -1,6 +1,7 @@
 // The host session for C.
 ghost use mathlib.Core.Path.{_≡_};
 ghost use lib.ListN.{length};
+ghost use Rattle.basis.specs.Board.{pages};
 ghost use Rattle.basis.specs.Lists.{overlay};
 ghost use Rattle.gremolunde.specs.Answers.{noSession, steppedAnswer, markAnswer};
 ghost use Rattle.gremolunde.specs.States.{isSet, runMeant, sessionMeant};
@@ -40,7 +41,7 @@ pub extern "C" fn gremolunde_session_start(
     buffer: &mut [u8],
 ) -> SessionStepped
     ensures { λ r. ⌜
-        (let a = started (now (image .entry)) (now (map .entry)) (length (now (buffer .entry)))
+        (let a = started pages (now (image .entry)) (now (map .entry)) (length (now (buffer .entry)))
         (runMeant run) in
         (r ≡ steppedAnswer noSession (measured a))
         × (now (buffer .exit) ≡ overlay (sentBytes a) (now (buffer .entry))))
@@ -76,7 +77,7 @@ pub extern "C" fn gremolunde_session_step(
     buffer: &mut [u8],
 ) -> SessionStepped
     ensures { λ r. ⌜
-        (let a = stepOf (now (image .entry)) (now (map .entry)) (length (now (buffer .entry)))
+        (let a = stepOf pages (now (image .entry)) (now (map .entry)) (length (now (buffer .entry)))
         (sessionMeant session) (classifyOf (isSet silent) (now (answer .entry))) in
         (r ≡ steppedAnswer session (measured a))
         × (now (buffer .exit) ≡ overlay (sentBytes a) (now (buffer .entry))))
@@ -112,7 +113,7 @@ pub extern "C" fn gremolunde_session_proved(
     map: &[u8],
     address: u32,
 ) -> SessionMark
-    ensures { λ r. ⌜ r ≡ markAnswer (provedOf (now (map .entry)) (sessionMeant session) address) ⌝ }
+    ensures { λ r. ⌜ r ≡ markAnswer (provedOf pages (now (map .entry)) (sessionMeant session) address) ⌝ }
 {
     let meant = session_meant(session);
     mark_answer(meant.proved(map, Address(address)))

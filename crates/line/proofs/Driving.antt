@@ -1,5 +1,5 @@
 -- One turn of a load: an exchange leads from the moment after i exchanges to that after i + 1; the load ends.
-use Prim.Native.Nat.{ℕ, _+_, _≤_, _<_}
+use Prim.Native.Nat.{ℕ, _+_, _≤_}
 use mathlib.Core.Bool.{true, false}
 use mathlib.Core.List.{List}
 use mathlib.Core.Path.{_≡_, sym, ap, _∙_}
@@ -7,7 +7,7 @@ use native.Mathlib.Numerals.{add-one}
 use native.Mathlib.Omega.{arith}
 use lib.ListN.{length, take}
 use lib.Seq.{length-take-le}
-use Rattle.basis.specs.Board.{flashSize, mapSize}
+use Rattle.basis.specs.Board.{flashSize, pages}
 use Rattle.basis.specs.Lists.{Bytes, overlay}
 use Rattle.basis.specs.Refusals.{Answer, refused, given}
 use Rattle.line.proofs.Delivering.{Begins, overlay-begins}
@@ -16,10 +16,9 @@ use Rattle.line.specs.Line.{Moment, begun, between, stepped, stepsOn, ex
 use Rattle.line.specs.declared.exchange.Link.{Link}
 use Rattle.line.specs.declared.exchange.Loss.{Loss}
 use Rattle.loader.specs.declared.state.Loader.{Loader}
-use Rattle.runs.specs.Pieces.{namedCount}
 use Rattle.session.specs.Phases.{ended}
 use Rattle.session.specs.Plan.{total}
-use Rattle.session.specs.Session.{Sent, sentBytes}
+use Rattle.session.specs.Session.{Sent, sentBytes, Loadable}
 use Rattle.session.specs.declared.phase.RunKind.{RunKind}
 
 -- ---- what an exchange leaves in the packet buffer is what is on the wire
@@ -29,52 +28,52 @@ module _ (image m : List ℕ) (o : Loss) (link : Link) (before old : List ℕ)
   abbrev here : Moment
   here = momentIn link before old
 
-  wired : (a : Answer Sent) → Begins (stepsOn (between o here) a .wire) (overlay (sentBytes a) old)
+  wired : (a : Answer Sent) → Begins (stepsOn (between pages o here) a .wire) (overlay (sentBytes a) old)
   wired (refused n) =
       let e = length-take-le (link .len) old fits in
       (omega (arith, e), ap (λ (k : ℕ). take k old) e)
   wired (given s) = overlay-begins (s .packet) old
 
   module _ {oldAnswer flash packet answer : List ℕ} {r : Link}
-      (x : Exchanges image m o here old oldAnswer r flash packet answer) where
+      (x : Exchanges pages image m o here old oldAnswer r flash packet answer) where
     pub len-fits : r .len ≤ length packet
     unfolding exchangeOf
-    len-fits = rw (x .len-is, x .packet-is) (wired (stepped image m o here) .0)
+    len-fits = rw (x .len-is, x .packet-is) (wired (stepped pages image m o here) .0)
 
-    wire : take (r .len) packet ≡ exchangeOf image m o here .wire
+    wire : take (r .len) packet ≡ exchangeOf pages image m o here .wire
     unfolding exchangeOf
-    wire = rw (x .len-is, x .packet-is) (wired (stepped image m o here) .1)
+    wire = rw (x .len-is, x .packet-is) (wired (stepped pages image m o here) .1)
 
-    pub exchanged : momentIn r flash packet ≡ exchangeOf image m o here
+    pub exchanged : momentIn r flash packet ≡ exchangeOf pages image m o here
     exchanged = λ i.
         record { loader = x .loader-is i; flash = x .flash-is i; session = x .session-is i; wire = wire i }
 
 -- ---- turns
 
 module _ (image m : List ℕ) (losses : ℕ → Loss) (start : Moment) where
-  pub done : (i : ℕ) (x : Moment) → x ≡ momentAt image m losses start i → i ≤ total m + 1
-      → ended (x .session .phase) ≡ true → momentAt image m losses start (total m + 1) ≡ x
+  pub done : (i : ℕ) (x : Moment) → x ≡ momentAt pages image m losses start i → i ≤ total pages m + 1
+      → ended (x .session .phase) ≡ true → momentAt pages image m losses start (total pages m + 1) ≡ x
   done i x e b t =
-      stays image m losses start i (total m + 1) b
+      stays pages image m losses start i (total pages m + 1) b
       (sym (ap (λ (y : Moment). ended (y .session .phase)) e) ∙ t) ∙ sym e
 
-  pub again : (i : ℕ) (x : Moment) (o : Loss) → x ≡ momentAt image m losses start i
+  pub again : (i : ℕ) (x : Moment) (o : Loss) → x ≡ momentAt pages image m losses start i
       → ended (x .session .phase) ≡ false → o ≡ losses i
-      → exchangeOf image m o x ≡ momentAt image m losses start (i + 1)
+      → exchangeOf pages image m o x ≡ momentAt pages image m losses start (i + 1)
   again i x o e t q =
       rw add-one
-      (ap (λ (y : Loss). exchangeOf image m y x) q
-      ∙ ap (exchangeOf image m (losses i)) e
-      ∙ sym (follows image m losses start i (sym (ap (λ (y : Moment). ended (y .session .phase)) e) ∙ t)))
+      (ap (λ (y : Loss). exchangeOf pages image m y x) q
+      ∙ ap (exchangeOf pages image m (losses i)) e
+      ∙ sym (follows pages image m losses start i
+      (sym (ap (λ (y : Moment). ended (y .session .phase)) e) ∙ t)))
 
-module _ (image m before : List ℕ) (right : length image ≡ flashSize) (long : length m ≡ mapSize)
-    (some : 0 < namedCount m) (bytes : Bytes image) (kind : RunKind) (l : Loader)
-    (size : length before ≡ flashSize) (losses : ℕ → Loss) where
-  pub not-past : (start : Moment) → start ≡ begun m kind l before → (i : ℕ) (x : Moment)
-      → x ≡ momentAt image m losses start i → ended (x .session .phase) ≡ false → i ≤ total m
+module _ (image m before : List ℕ) (file : Loadable pages image m) (bytes : Bytes image) (kind : RunKind)
+    (l : Loader) (size : length before ≡ flashSize) (losses : ℕ → Loss) where
+  pub not-past : (start : Moment) → start ≡ begun pages m kind l before → (i : ℕ) (x : Moment)
+      → x ≡ momentAt pages image m losses start i → ended (x .session .phase) ≡ false → i ≤ total pages m
   not-past start fresh i x e t =
-      going image m before right long some bytes kind l size losses i
+      going pages (omega arith) image m before file bytes kind l size losses i
       (sym (ap (λ (y : Moment). ended (y .session .phase)) (e ∙ since)) ∙ t)
     where
-      since : momentAt image m losses start i ≡ loadAt image m kind l losses before i
-      since = ap (λ (y : Moment). momentAt image m losses y i) fresh
+      since : momentAt pages image m losses start i ≡ loadAt pages image m kind l losses before i
+      since = ap (λ (y : Moment). momentAt pages image m losses y i) fresh

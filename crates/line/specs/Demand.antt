@@ -18,12 +18,12 @@ use Rattle.session.specs.declared.phase.Phase.{Phase}
 use Rattle.session.specs.declared.session.Session.{Session}
 
 -- the byte is marked proved: the session's own `proved` says so
-abbrev pub Proved : List ℕ → Session → ℕ → Type 0
-Proved m s a = provedOf m s a ≡ given true
+abbrev pub Proved : ℕ → List ℕ → Session → ℕ → Type 0
+Proved board m s a = provedOf board m s a ≡ given true
 
 -- every file byte is proved
-abbrev pub AllProved : List ℕ → Session → Type 0
-AllProved m s = (a : ℕ) → named m a ≡ true → Proved m s a
+abbrev pub AllProved : ℕ → List ℕ → Session → Type 0
+AllProved board m s = (a : ℕ) → named m a ≡ true → Proved board m s a
 
 -- the byte stands in flash as in the file
 abbrev pub Stands : List ℕ → List ℕ → ℕ → Type 0
@@ -38,14 +38,14 @@ abbrev pub Valid : Session → Type 0
 Valid s = s .phase ≡ Phase.Ended Outcome.Valid
 
 -- the moment is safe, where flash was `before` at the start
-pub record Safe (image m before : List ℕ) (x : Moment) : Type 0 where
+pub record Safe (board : ℕ) (image m before : List ℕ) (x : Moment) : Type 0 where
   -- each byte marked proved stands in flash as in the file
-  pub proved-stands : (a : ℕ) → Proved m (x .session) a → Stands (x .flash) image a
+  pub proved-stands : (a : ℕ) → Proved board m (x .session) a → Stands (x .flash) image a
   -- pages the file does not touch are as before
   pub untouched-stays : (a : ℕ) → touched m (pageOf a) ≡ false → Stands (x .flash) before a
   -- no run packet goes out and no session ends valid until every file byte is proved
-  pub run-proved : RunOut x → AllProved m (x .session)
-  pub valid-proved : Valid (x .session) → AllProved m (x .session)
+  pub run-proved : RunOut x → AllProved board m (x .session)
+  pub valid-proved : Valid (x .session) → AllProved board m (x .session)
 
 -- no touched page lies in a protected group, and reading is not protected
 pub record Free (m : List ℕ) (l : Loader) : Type 0 where

@@ -2,7 +2,7 @@
 ghost use mathlib.Core.Path.{_≡_};
 ghost use Prim.Native.Nat.{_≤_};
 ghost use lib.ListN.{length};
-ghost use Rattle.basis.specs.Board.{answerMost};
+ghost use Rattle.basis.specs.Board.{answerMost, pages};
 ghost use Rattle.packet.specs.Packet.{packetMost};
 ghost use Rattle.line.specs.Line.{lossOf, lossAt, momentIn, Lent, Delivers, Exchanges};
 use loader::state::Loader;
@@ -69,12 +69,12 @@ pub fn exchange(
     answer: &mut [u8],
 ) -> Link
     requires { ⌜
-        (Lent (now image) (now map) (now flash) (now packet) (now answer)) × (link .len ≤ packetMost)
+        (Lent pages (now image) (now map) (now flash) (now packet) (now answer)) × (link .len ≤ packetMost)
         ⌝ }
     ensures { λ r. ⌜
         (let x = momentIn link (now (flash .entry)) (now (packet .entry)) in
-        Exchanges (now (image .entry)) (now (map .entry)) loss x (now (packet .entry)) (now (answer .entry))
-        r (now (flash .exit)) (now (packet .exit)) (now (answer .exit)))
+        Exchanges pages (now (image .entry)) (now (map .entry)) loss x (now (packet .entry))
+        (now (answer .entry)) r (now (flash .exit)) (now (packet .exit)) (now (answer .exit)))
         ⌝ }
 {
     let loader = link.loader;
@@ -110,7 +110,7 @@ fn deliver(
 ) -> Delivered
     requires { ⌜ length (now answer) ≡ answerMost ⌝ }
     ensures { λ r. ⌜
-        Delivers loss loader (now (packet .entry)) (now (flash .entry)) (now (answer .entry))
+        Delivers pages loss loader (now (packet .entry)) (now (flash .entry)) (now (answer .entry))
         (r .loader) (r .arrived) (now (flash .exit)) (now (answer .exit))
         ⌝ }
 {

@@ -3,7 +3,7 @@ ghost use mathlib.Core.Path.{_≡_};
 ghost use mathlib.Core.Bool.{not};
 ghost use Prim.Native.Nat.{_+_, _<_, _≤_};
 ghost use lib.ListN.{length};
-ghost use Rattle.basis.specs.Board.{flashSize, answerMost};
+ghost use Rattle.basis.specs.Board.{flashSize, answerMost, pages};
 ghost use Rattle.packet.specs.Packet.{packetMost};
 ghost use Rattle.line.specs.Line.{begun, momentAt, lossAt, rehearseOf, momentIn, Lent, Rehearses};
 ghost use Rattle.line.specs.Paper.{paperRehearsed};
@@ -43,8 +43,8 @@ pub fn rehearse(
     flash: &mut [u8],
 ) -> Rehearsed
     ensures { λ r. ⌜
-        (let x = rehearseOf (now (image .entry)) (now (map .entry)) kind loader (lossAt (now (losses .entry)))
-        (now (flash .entry)) in
+        (let x = rehearseOf pages (now (image .entry)) (now (map .entry)) kind loader
+        (lossAt (now (losses .entry))) (now (flash .entry)) in
         Rehearses x (now (flash .entry)) (paperRehearsed r) (now (flash .exit)))
         ⌝ }
 {
@@ -82,8 +82,8 @@ fn begin(
         × (length (now answer) ≡ answerMost)
         ⌝ }
     ensures { λ r. ⌜
-        (let x = rehearseOf (now (image .entry)) (now (map .entry)) kind loader (lossAt (now (losses .entry)))
-        (now (flash .entry)) in
+        (let x = rehearseOf pages (now (image .entry)) (now (map .entry)) kind loader
+        (lossAt (now (losses .entry))) (now (flash .entry)) in
         Rehearses x (now (flash .entry)) (paperRehearsed r) (now (flash .exit)))
         ⌝ }
 {
@@ -115,16 +115,16 @@ fn drive(
     answer: &mut [u8],
 ) -> Link
     requires { ⌜
-        (Lent (now image) (now map) (now flash) (now packet) (now answer))
-        × (0 < namedCount (now map))
+        (Lent pages (now image) (now map) (now flash) (now packet) (now answer))
+        × (0 < namedCount pages (now map))
         × (first .len ≤ packetMost)
         × (momentIn first (now flash) (now packet)
-        ≡ begun (now map) (first .session .kind) (first .loader) (now flash))
+        ≡ begun pages (now map) (first .session .kind) (first .loader) (now flash))
         ⌝ }
     ensures { λ r. ⌜
         (let start = momentIn first (now (flash .entry)) (now (packet .entry)) in
-        let x = momentAt (now (image .entry)) (now (map .entry)) (lossAt (now (losses .entry))) start
-        (total (now (map .entry)) + 1) in
+        let x = momentAt pages (now (image .entry)) (now (map .entry)) (lossAt (now (losses .entry))) start
+        (total pages (now (map .entry)) + 1) in
         (r .loader ≡ x .loader) × (r .session ≡ x .session) × (now (flash .exit) ≡ x .flash))
         ⌝ }
 {

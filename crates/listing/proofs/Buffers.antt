@@ -37,8 +37,11 @@ module _ (old : List ℕ) where
   put-first s c e r f = (omega (arith, f .0), f .1 .0)
 
   pub put-next : (s t c d : List ℕ) (e k r : ℕ) → Put old s c e → Field c e t d k r → Put old (s ++ t) d k
-  put-next s t c d e k r p f =
-      (omega (arith, length-append s t, p .0, f .0), f .1 .0 ∙ copy-then old 0 s t c e (omega (arith, p .0)) (p .1))
+  put-next s t c d e k r p f = (
+    omega (arith, length-append s t, p .0, f .0),
+    f .1 .0
+        ∙ copy-then old 0 s t c e (omega (arith, p .0)) (p .1),
+  )
 
   -- all of it, over what the buffer held
   pub put-over : (s c : List ℕ) (e : ℕ) → Put old s c e → e ≤ length old

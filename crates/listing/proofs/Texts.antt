@@ -18,8 +18,11 @@ Shown n p image map o = (p ≡ afterLine n (o .answer)) × (image ≡ o .image) 
 pub shown : (n : ℕ) (r x : Read) (i m : List ℕ) (o : Settled) → r ≡ x
     → settledAs (paperRead r) i m ≡ o → Shown n (afterLine n (paperRead x)) i m o
 shown n r x i m o e f =
-    let g : settledAs (paperRead x) i m ≡ o = rw e at f in
-    (ap (λ (y : Settled). afterLine n (y .answer)) g, ap (λ (y : Settled). y .image) g, ap (λ (y : Settled). y .map) g)
+    let g : settledAs (paperRead x) i m ≡ o = rw e at f in (
+      ap (λ (y : Settled). afterLine n (y .answer)) g,
+      ap (λ (y : Settled). y .image) g,
+      ap (λ (y : Settled). y .map) g,
+    )
 
 -- the same with the line buffer
 pub fed-shown : (n : ℕ) (p : Progress) (line i m : List ℕ) (o : Settled) → Shown n p i m o

@@ -1,17 +1,15 @@
 -- A plan as text, and its listing sheet by sheet.
-use Prim.Native.Nat.{ℕ, zero, suc, _+_, _-_, _≤_, _<_}
+use Prim.Native.Nat.{ℕ, zero, suc, _+_, _-_, _≤_}
 use mathlib.Core.List.{List, [], _∷_, _++_}
 use mathlib.Core.Path.{_≡_}
 use lib.Dec.{ltb}
 use lib.ListN.{length, drop}
-use Rattle.basis.specs.Board.{flashSize, mapSize}
 use Rattle.basis.specs.Choice.{pick}
 use Rattle.basis.specs.Refusals.{Answer, refused, given}
-use Rattle.runs.specs.Pieces.{namedCount}
 use Rattle.session.specs.Paper.{paperRefusal}
 use Rattle.session.specs.Phases.{packetAt as sessionPacketAt, phaseAt}
 use Rattle.session.specs.Plan.{plan, total}
-use Rattle.session.specs.Session.{Sent}
+use Rattle.session.specs.Session.{Sent, Loadable}
 use Rattle.session.specs.declared.phase.Outcome.{Outcome}
 use Rattle.session.specs.declared.phase.Phase.{Phase}
 use Rattle.session.specs.declared.phase.RunKind.{RunKind}
@@ -25,38 +23,37 @@ stepLines n [] = []
 stepLines n (p ∷ ps) = stepLine (n + 1) p ++ stepLines (n + 1) ps
 
 -- what the plan program prints of a file
-unfoldable pub planText : List ℕ → List ℕ → List ℕ
-planText image m = headLine ++ (stepLines 0 (plan image m RunKind.Reset) ++ totalLine (total m))
+unfoldable pub planText : ℕ → List ℕ → List ℕ → List ℕ
+planText board image m =
+    headLine ++ (stepLines 0 (plan board image m RunKind.Reset) ++ totalLine (total board m))
 
 -- ---- a listing
 
 -- the packet after n listed ones
-abbrev pub packetAt : List ℕ → List ℕ → ℕ → List ℕ
-packetAt image m n = sessionPacketAt image m RunKind.Reset n
+abbrev pub packetAt : ℕ → List ℕ → List ℕ → ℕ → List ℕ
+packetAt board image m n = sessionPacketAt board image m RunKind.Reset n
 
 -- its phase; after the last packet the session ends
-abbrev pub phaseAfter : List ℕ → ℕ → Phase
-phaseAfter m n = pick (ltb n (total m)) (phaseAt m n) (Phase.Ended Outcome.Valid)
+abbrev pub phaseAfter : ℕ → List ℕ → ℕ → Phase
+phaseAfter board m n = pick (ltb n (total board m)) (phaseAt board m n) (Phase.Ended Outcome.Valid)
 
-abbrev pub listingAt : List ℕ → ℕ → Listing
-listingAt m n = record { phase = phaseAfter m n; listed = n; total = total m }
+abbrev pub listingAt : ℕ → List ℕ → ℕ → Listing
+listingAt board m n = record { phase = phaseAfter board m n; listed = n; total = total board m }
 
 -- a listing of this file
-pub record Listed (image m : List ℕ) (l : Listing) : Type 0 where
-  pub right : length image ≡ flashSize
-  pub long : length m ≡ mapSize
-  pub some : 0 < namedCount m
-  pub stands : l ≡ listingAt m (l .listed)
-  pub within : l .listed ≤ total m
+pub record Listed (board : ℕ) (image m : List ℕ) (l : Listing) : Type 0 where
+  pub file : Loadable board image m
+  pub stands : l ≡ listingAt board m (l .listed)
+  pub within : l .listed ≤ total board m
 
 abbrev pub paperBegun : Begun → Answer Listing
 paperBegun (Begun.Listing l) = given l
 paperBegun (Begun.Refused x) = refused (paperRefusal x)
 
 -- refused as the session's start is, else nothing is listed
-abbrev pub listingBy : List ℕ → Answer Sent → Answer Listing
-listingBy m (refused n) = refused n
-listingBy m (given x) = given (listingAt m 0)
+abbrev pub listingBy : ℕ → List ℕ → Answer Sent → Answer Listing
+listingBy board m (refused n) = refused n
+listingBy board m (given x) = given (listingAt board m 0)
 
 -- ---- a sheet
 
@@ -86,4 +83,5 @@ sheetOf room n (p ∷ ps) =
 unfoldable pub sheets : ℕ → ℕ → ℕ → List (List ℕ) → List ℕ
 sheets zero room n ps = []
 sheets (suc k) room n ps =
-    sheetOf room n ps .text ++ sheets k room (sheetOf room n ps .listed) (drop (sheetOf room n ps .listed - n) ps)
+    sheetOf room n ps .text ++ sheets k room (sheetOf room n ps .listed)
+    (drop (sheetOf room n ps .listed - n) ps)

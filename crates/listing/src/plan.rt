@@ -2,7 +2,7 @@
 ghost use mathlib.Core.Path.{_≡_};
 ghost use Prim.Native.Nat.{_+_, _*_, _≤_, _<_};
 ghost use lib.ListN.{length, getD, drop};
-ghost use Rattle.basis.specs.Board.{mapSize};
+ghost use Rattle.basis.specs.Board.{mapSize, pages};
 ghost use Rattle.basis.specs.Lists.{overlay, copyOf};
 ghost use Rattle.packet.specs.Packet.{packetMost};
 ghost use Rattle.runs.specs.Pieces.{namedCount};
@@ -50,20 +50,21 @@ impl Listing {
     pub fn start(image: &[u8], map: &[u8]) -> Begun
         ensures { λ r. ⌜
             paperBegun r
-            ≡ listingBy (now (map .entry))
-            (started (now (image .entry)) (now (map .entry)) packetMost RunKind.Reset)
+            ≡ listingBy pages (now (map .entry))
+            (started pages (now (image .entry)) (now (map .entry)) packetMost RunKind.Reset)
             ⌝ }
     {
         let mut packet = [0u8; PACKET];
         Listing::start_with(image, map, &mut packet)
     }
 
-    // The packet's buffer is lent from a function of its own: its 259 bytes would stand in every fact of this one.
+    // The packet's buffer is lent from another function: its 259 bytes would stand in every fact of this one.
     fn start_with(image: &[u8], map: &[u8], packet: &mut [u8]) -> Begun
         ensures { λ r. ⌜
             paperBegun r
-            ≡ listingBy (now (map .entry))
-            (started (now (image .entry)) (now (map .entry)) (length (now (packet .entry))) RunKind.Reset)
+            ≡ listingBy pages (now (map .entry))
+            (started pages (now (image .entry)) (now (map .entry)) (length (now (packet .entry)))
+            RunKind.Reset)
             ⌝ }
     {
         match Session::start(RunKind::Reset, image, map, packet) {
@@ -75,9 +76,10 @@ impl Listing {
     // Nothing is listed; the first packet is the one that follows the greeting.
     fn opening(map: &[u8], session: Session) -> Listing
         requires { ⌜
-            (length (now map) ≡ mapSize) × (0 < namedCount (now map)) × (session .total ≡ total (now map))
+            (length (now map) ≡ mapSize) × (0 < namedCount pages (now map))
+            × (session .total ≡ total pages (now map))
             ⌝ }
-        ensures { λ r. ⌜ r ≡ listingAt (now (map .entry)) 0 ⌝ }
+        ensures { λ r. ⌜ r ≡ listingAt pages (now (map .entry)) 0 ⌝ }
     {
         Listing {
             phase: after(map, Phase::Greeting),
@@ -88,11 +90,11 @@ impl Listing {
 
     // Whole lines of the packets that are left, as long as the longest one has room.
     pub fn sheet(self, image: &[u8], map: &[u8], buffer: &mut [u8]) -> Sheet
-        requires { ⌜ Listed (now image) (now map) self ⌝ }
+        requires { ⌜ Listed pages (now image) (now map) self ⌝ }
         ensures { λ r. ⌜
             (let g = sheetOf (length (now (buffer .entry))) (self .listed)
-            (drop (self .listed) (plan (now (image .entry)) (now (map .entry)) RunKind.Reset)) in
-            (r .listing ≡ listingAt (now (map .entry)) (g .listed)) × (r .len ≡ length (g .text))
+            (drop (self .listed) (plan pages (now (image .entry)) (now (map .entry)) RunKind.Reset)) in
+            (r .listing ≡ listingAt pages (now (map .entry)) (g .listed)) × (r .len ≡ length (g .text))
             × (now (buffer .exit) ≡ overlay (g .text) (now (buffer .entry))))
             ⌝ }
     {
@@ -112,13 +114,13 @@ impl Listing {
     // The next packet's line, from `at` on.
     fn line(self, image: &[u8], map: &[u8], buffer: &mut [u8], at: usize) -> Sheet
         requires { ⌜
-            Listed (now image) (now map) self × (self .listed < self .total)
+            Listed pages (now image) (now map) self × (self .listed < self .total)
             × (at + longestLine ≤ length (now buffer))
             ⌝ }
         ensures { λ r. ⌜
             (let s = stepLine (self .listed + 1)
-            (packetAt (now (image .entry)) (now (map .entry)) (self .listed)) in
-            (r .listing ≡ listingAt (now (map .entry)) (self .listed + 1)) × (r .len ≡ at + length s)
+            (packetAt pages (now (image .entry)) (now (map .entry)) (self .listed)) in
+            (r .listing ≡ listingAt pages (now (map .entry)) (self .listed + 1)) × (r .len ≡ at + length s)
             × (now (buffer .exit) ≡ copyOf (now (buffer .entry)) at s) × (length s ≤ longestLine))
             ⌝ }
     {
@@ -136,13 +138,13 @@ impl Listing {
         at: usize,
     ) -> Sheet
         requires { ⌜
-            Listed (now image) (now map) self × (self .listed < self .total)
+            Listed pages (now image) (now map) self × (self .listed < self .total)
             × (length (now packet) ≡ packetMost) × (at + longestLine ≤ length (now buffer))
             ⌝ }
         ensures { λ r. ⌜
             (let s = stepLine (self .listed + 1)
-            (packetAt (now (image .entry)) (now (map .entry)) (self .listed)) in
-            (r .listing ≡ listingAt (now (map .entry)) (self .listed + 1)) × (r .len ≡ at + length s)
+            (packetAt pages (now (image .entry)) (now (map .entry)) (self .listed)) in
+            (r .listing ≡ listingAt pages (now (map .entry)) (self .listed + 1)) × (r .len ≡ at + length s)
             × (now (buffer .exit) ≡ copyOf (now (buffer .entry)) at s) × (length s ≤ longestLine))
             ⌝ }
     {

@@ -12,11 +12,13 @@ use Rattle.loader.specs.Verify.{equalsOf}
 use Rattle.packet.specs.Turn.{restoredOf}
 
 module _ (flash : List ℕ) (at i : ℕ) (s : List ℕ) where
-  pub equals-on : i < length s → getD flash (at + i) 0 ≡ restoredOf (getD s i 0) → equalsOf flash (at + i) (drop i s) ≡ equalsOf flash (at + (i + 1)) (drop (i + 1) s)
+  pub equals-on : i < length s → getD flash (at + i) 0 ≡ restoredOf (getD s i 0)
+      → equalsOf flash (at + i) (drop i s) ≡ equalsOf flash (at + (i + 1)) (drop (i + 1) s)
   unfolding equalsOf
   equals-on h e = rw (← add-assoc at i 1, add-one i, drop-cons s i 0, eq-eqb _ _ e)
 
-  pub equals-differs : i < length s → (getD flash (at + i) 0 ≡ restoredOf (getD s i 0) → ⊥) → equalsOf flash (at + i) (drop i s) ≡ false
+  pub equals-differs : i < length s → (getD flash (at + i) 0 ≡ restoredOf (getD s i 0) → ⊥)
+      → equalsOf flash (at + i) (drop i s) ≡ false
   unfolding equalsOf
   equals-differs h e = rw (drop-cons s i 0, ne-eqb _ _ e)
 

@@ -1,4 +1,5 @@
--- What each command does to a serving loader of k pages. A refusal leaves loader and flash as they were.
+-- What each command does to a serving loader on a board of so many pages.
+-- A refusal leaves loader and flash as they were.
 use Prim.Native.Nat.{ℕ, _+_, _-_, _*_}
 use mathlib.Core.Bool.{Bool, not}
 use mathlib.Core.List.{List, [], _∷_}
@@ -35,35 +36,36 @@ massErase a n = both (eqb n 0) (eqb a 0)
 
 -- otherwise the address is rounded down to its page
 unfoldable pub eraseRows : ℕ → Loader → ℕ → ℕ → List Rule
-eraseRows k l a n =
-    7 when either (eqb n 0) (either (leb (startOf k) a) (ltb k (pageOf a + n)))
+eraseRows board l a n =
+    7 when either (eqb n 0) (either (leb (startOf board) a) (ltb board (pageOf a + n)))
     ∷ 8 when protectedPages (l .protection) (pageOf a) (pageOf a + n)
     ∷ []
 
 unfoldable pub erasing : ℕ → Loader → ℕ → ℕ → List ℕ → Answer Effect
-erasing k l a n f =
+erasing board l a n f =
     first (9 when l .sequence .opened ∷ [])
     (pick (massErase a n)
     (given (record { loader = clearedOf l; flash = eraseOf f 0 (length f) }))
-    (first (eraseRows k l a n)
+    (first (eraseRows board l a n)
     (given (record { loader = l; flash = eraseOf f (startOf (pageOf a)) (n * pageSize) }))))
 
 -- W: each byte becomes old AND new
 unfoldable pub writeRows : ℕ → Loader → ℕ → ℕ → List Rule
-writeRows k l a x =
+writeRows board l a x =
     9 when l .sequence .opened
-    ∷ 7 when ltb (startOf k) (a + x)
+    ∷ 7 when ltb (startOf board) (a + x)
     ∷ 8 when protectedBytes (l .protection) a (a + x)
     ∷ []
 
 unfoldable pub writing : ℕ → Loader → ℕ → List ℕ → List ℕ → Answer Effect
-writing k l a d f = first (writeRows k l a (length d)) (given (record { loader = l; flash = storeOf f a d }))
+writing board l a d f =
+    first (writeRows board l a (length d)) (given (record { loader = l; flash = storeOf f a d }))
 
 -- V: accepted when all bytes, turned back, equal flash
 unfoldable pub verifyRows : ℕ → Loader → ℕ → List ℕ → List ℕ → List Rule
-verifyRows k l a d f =
+verifyRows board l a d f =
     9 when l .sequence .opened
-    ∷ 7 when ltb (startOf k) (a + length d)
+    ∷ 7 when ltb (startOf board) (a + length d)
     ∷ 8 when l .protection .read
     ∷ 10 when not (equalsOf f a d)
     ∷ []
@@ -74,12 +76,12 @@ opening l = first (9 when l .sequence .opened ∷ []) (given (withAdded l none))
 
 -- type 0x0F adds the group of the address; just past flash it means read protection, and higher is 7
 abbrev pub addedOf : ℕ → Protection → ℕ → Protection
-addedOf k p a = pick (ltb a (startOf k)) (withGroup p (groupOf a)) (withRead p)
+addedOf board p a = pick (ltb a (startOf board)) (withGroup p (groupOf a)) (withRead p)
 
 unfoldable pub adding : ℕ → Loader → ℕ → Answer Loader
-adding k l a =
-    first (9 when not (l .sequence .opened) ∷ 7 when leb (startOf k + groupSize) a ∷ [])
-    (given (withAdded l (addedOf k (l .sequence .added) a)))
+adding board l a =
+    first (9 when not (l .sequence .opened) ∷ 7 when leb (startOf board + groupSize) a ∷ [])
+    (given (withAdded l (addedOf board (l .sequence .added) a)))
 
 -- type 0x01 joins the added groups to the protection in force, records the address as key, and closes
 unfoldable pub closing : Loader → ℕ → Answer Loader
@@ -87,7 +89,7 @@ closing l a = first (9 when not (l .sequence .opened) ∷ []) (given (joinedOf l
 
 -- the command table has let no other type through (6)
 unfoldable pub protecting : ℕ → Loader → ℕ → ℕ → Answer Loader
-protecting k l a t = pick (eqb t 0x00) (opening l) (pick (eqb t 0x0F) (adding k l a) (closing l a))
+protecting board l a t = pick (eqb t 0x00) (opening l) (pick (eqb t 0x0F) (adding board l a) (closing l a))
 
 -- R: address 0 (jump) or 1 (software reset)
 unfoldable pub running : Loader → ℕ → Answer Loader
@@ -100,11 +102,11 @@ keeping f (given l) = given (record { loader = l; flash = f })
 
 -- the command c with its address and the bytes d after it; the command table has let no other through (5)
 unfoldable pub obeyOf : ℕ → Loader → ℕ → ℕ → List ℕ → List ℕ → Answer Effect
-obeyOf k l c a d f =
-    pick (eqb c 0x45) (erasing k l a (getD d 0 0) f)
-    (pick (eqb c 0x57) (writing k l a d f)
-    (pick (eqb c 0x56) (keeping f (first (verifyRows k l a d f) (given l)))
-    (pick (eqb c 0x50) (keeping f (protecting k l a (getD d 0 0)))
+obeyOf board l c a d f =
+    pick (eqb c 0x45) (erasing board l a (getD d 0 0) f)
+    (pick (eqb c 0x57) (writing board l a d f)
+    (pick (eqb c 0x56) (keeping f (first (verifyRows board l a d f) (given l)))
+    (pick (eqb c 0x50) (keeping f (protecting board l a (getD d 0 0)))
     (keeping f (running l a)))))
 
 -- what a function that obeys shows: verdict, next loader and flash are those of x;
@@ -113,7 +115,8 @@ abbrev pub loaderAfter : Loader → Answer Loader → Loader
 loaderAfter l (refused n) = l
 loaderAfter l (given m) = m
 
-pub record Changes (x : Answer Loader) (l : Loader) (verdict : Answer (Unit {0})) (next : Loader) : Type 0 where
+pub record Changes (x : Answer Loader) (l : Loader) (verdict : Answer (Unit {0}))
+    (next : Loader) : Type 0 where
   pub verdict-is : verdict ≡ bare x
   pub loader-is : next ≡ loaderAfter l x
 

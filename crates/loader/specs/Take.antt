@@ -38,11 +38,11 @@ sentData s p = take (p .size) (drop (p .place) s)
 
 -- serving reads the input and obeys it
 abbrev pub obeyed : ℕ → Loader → List ℕ → List ℕ → Answer Parts → Answer Effect
-obeyed k l s f (refused n) = refused n
-obeyed k l s f (given p) = obeyOf k l (p .command) (p .address) (sentData s p) f
+obeyed board l s f (refused n) = refused n
+obeyed board l s f (given p) = obeyOf board l (p .command) (p .address) (sentData s p) f
 
 unfoldable pub serveOf : ℕ → Loader → List ℕ → List ℕ → Answer Effect
-serveOf k l s f = obeyed k l s f (readOf s)
+serveOf board l s f = obeyed board l s f (readOf s)
 
 -- 11: left, or waiting and the input is not the single 08
 abbrev pub unheard : Condition → List ℕ → Bool
@@ -50,18 +50,18 @@ unheard c s = either (left c) (both (waiting c) (not (opensBoard s)))
 
 -- waiting takes that byte and serves
 unfoldable pub hearOf : ℕ → Loader → List ℕ → List ℕ → Answer Effect
-hearOf k l s f =
+hearOf board l s f =
     first (11 when unheard (l .condition) s ∷ [])
     (pick (waiting (l .condition)) (given (record { loader = withCondition l Serving; flash = f }))
-    (serveOf k l s f))
+    (serveOf board l s f))
 
 -- 20: flash not its size, or answer buffer under 24
 abbrev pub sizesWrong : ℕ → List ℕ → ℕ → Bool
-sizesWrong k f room = either (not (eqb (length f) (startOf k))) (ltb room answerMost)
+sizesWrong board f room = either (not (eqb (length f) (startOf board))) (ltb room answerMost)
 
 -- in the paper's order: 20 here, 11 in hearOf, 1 to 6 in the packet's readOf, then 9, 7, 8, 10 of the command
 unfoldable pub takeOf : ℕ → Loader → List ℕ → List ℕ → ℕ → Answer Effect
-takeOf k l s f room = first (20 when sizesWrong k f room ∷ []) (hearOf k l s f)
+takeOf board l s f room = first (20 when sizesWrong board f room ∷ []) (hearOf board l s f)
 
 -- 20, 11, 1 and 2 are not answered
 abbrev pub quiet : ℕ → Bool

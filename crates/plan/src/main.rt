@@ -1,4 +1,5 @@
-// Reads hex text on standard input and prints the packets of a load that ends with a reset, or one line on a refusal.
+// Reads hex text on standard input and prints the packets of a load
+// that ends with a reset, or one line on a refusal.
 ghost use Prim.Native.Nat.{_≤_};
 ghost use lib.ListN.{length};
 ghost use Rattle.listing.specs.Plan.{longestLine};

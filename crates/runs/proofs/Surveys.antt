@@ -17,31 +17,39 @@ use Rattle.runs.proofs.Tallies.{tally-none}
 
 module _ (m : List ℕ) (q : ℕ) where
   -- the two tallies
-  pub tallies-bytes : {s : Tallies} → s ≡ talliesAt m q → s .bytes ≡ tallyAt (named m) pieceMost (startOf q)
+  pub tallies-bytes : {s : Tallies} → s ≡ talliesAt pages m q
+      → s .bytes ≡ tallyAt (named m) pieceMost (startOf q)
   unfolding talliesAt
   tallies-bytes e = ap (λ (s : Tallies). s .bytes) e
 
-  pub tallies-pages : {s : Tallies} → s ≡ talliesAt m q → s .pages ≡ tallyAt (touched m) pages q
+  pub tallies-pages : {s : Tallies} → s ≡ talliesAt pages m q → s .pages ≡ tallyAt (touched m) pages q
   unfolding talliesAt
   tallies-pages e = ap (λ (s : Tallies). s .pages) e
 
-  pub tallies-of : {b p : Tally} → b ≡ tallyAt (named m) pieceMost (startOf q) → p ≡ tallyAt (touched m) pages q → record { bytes = b; pages = p } ≡ talliesAt m q
+  pub tallies-of : {b p : Tally} → b ≡ tallyAt (named m) pieceMost (startOf q)
+      → p ≡ tallyAt (touched m) pages q → record { bytes = b; pages = p } ≡ talliesAt pages m q
   unfolding talliesAt
   tallies-of e f = rw (e, f)
 
 -- a walk begins with nothing
-pub tallies-none : (m : List ℕ) → record { bytes = record { passed = 0; pieces = 0; off = 0 }; pages = record { passed = 0; pieces = 0; off = 0 } } ≡ talliesAt m 0
+pub tallies-none : (m : List ℕ)
+    → record {
+      bytes = record { passed = 0; pieces = 0; off = 0 };
+      pages =
+          record { passed = 0; pieces = 0; off = 0 };
+    } ≡ talliesAt pages m 0
 tallies-none m = tallies-of m 0 (tally-none (named m) pieceMost) (tally-none (touched m) pages)
 
 -- the survey from the tallies below the place, at it, behind it and in all
-pub surveyed : (m : List ℕ) (a q : ℕ) {below here all : Tallies} {place next : Tally} → q ≡ pageOf a → below ≡ talliesAt m q → here ≡ talliesAt m (q + 1) → all ≡ talliesAt m pages
+pub surveyed : (m : List ℕ) (a q : ℕ) {below here all : Tallies} {place next : Tally} → q ≡ pageOf a
+    → below ≡ talliesAt pages m q → here ≡ talliesAt pages m (q + 1) → all ≡ talliesAt pages m pages
     → place ≡ tallyAt (named m) pieceMost a → next ≡ tallyAt (named m) pieceMost (a + 1)
     → record {
       all = record { runs = all .pages .pieces; pieces = all .bytes .pieces; named = all .bytes .passed };
       below = record { runs = below .pages .pieces; pieces = place .pieces; named = place .passed };
       run = ltb (below .pages .pieces) (here .pages .pieces);
       piece = ltb (place .pieces) (next .pieces);
-    } ≡ surveyOf m a
+    } ≡ surveyOf pages m a
 unfolding surveyOf talliesAt tallyAt
 surveyed m a q f e b h p n =
-    rw (e, b, h, p, n, f, count-tells (runStarts m) (pageOf a), count-tells (pieceStarts m) a)
+    rw (e, b, h, p, n, f, count-tells (runStarts pages m) (pageOf a), count-tells (pieceStarts m) a)

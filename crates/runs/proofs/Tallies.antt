@@ -26,15 +26,18 @@ module _ (p : ℕ → Bool) (cap : ℕ) where
   unfolding tallyAt tookOf count off starts
   tally-next n = simp add-one
 
-  pub tally-again : (n : ℕ) {t r : Tally} {b : Bool} → t ≡ tallyAt p cap n → b ≡ p n → r ≡ tookOf cap t b → r ≡ tallyAt p cap (n + 1)
+  pub tally-again : (n : ℕ) {t r : Tally} {b : Bool} → t ≡ tallyAt p cap n → b ≡ p n → r ≡ tookOf cap t b
+      → r ≡ tallyAt p cap (n + 1)
   tally-again n e f g = g ∙ ap₂ (tookOf cap) e f ∙ tally-next n ∙ rw add-one
 
   -- what a tally has is bounded by the places that it has met
-  pub tally-le : 0 < cap → (n : ℕ) {t : Tally} → t ≡ tallyAt p cap n → (t .passed ≤ n) × (t .pieces ≤ n) × (t .off < cap)
+  pub tally-le : 0 < cap → (n : ℕ) {t : Tally} → t ≡ tallyAt p cap n
+      → (t .passed ≤ n) × (t .pieces ≤ n) × (t .off < cap)
   unfolding tallyAt
   tally-le z n e = rw e (count-le p n, count-le (starts p cap) n, off-below p cap z n)
 
 -- the tallies of the bytes below a page's start and below its end tell whether it is touched
-pub tallies-touched : (m : List ℕ) (cap q : ℕ) {t u : Tally} → t ≡ tallyAt (named m) cap (startOf q) → u ≡ tallyAt (named m) cap (startOf (q + 1)) → ltb (t .passed) (u .passed) ≡ touched m q
+pub tallies-touched : (m : List ℕ) (cap q : ℕ) {t u : Tally} → t ≡ tallyAt (named m) cap (startOf q)
+    → u ≡ tallyAt (named m) cap (startOf (q + 1)) → ltb (t .passed) (u .passed) ≡ touched m q
 unfolding tallyAt
 tallies-touched m cap q e f = rw (e, f) (sym (touched-counts m q))

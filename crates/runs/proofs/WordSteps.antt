@@ -16,7 +16,9 @@ use Rattle.runs.specs.Tally.{tookOf, tookBits, joinsOf, cutOf}
 -- ---- one place
 
 module _ (cap : ℕ) (t : Tally) {b : Bool} where
-  took-no : b ≡ false → (tookOf cap t b .passed ≡ t .passed) × (tookOf cap t b .pieces ≡ t .pieces) × (tookOf cap t b .off ≡ 0)
+  took-no : b ≡ false
+      → (tookOf cap t b .passed ≡ t .passed) × (tookOf cap t b .pieces ≡ t .pieces)
+      × (tookOf cap t b .off ≡ 0)
   unfolding tookOf
   took-no d = rw d (refl, refl, refl)
 
@@ -153,7 +155,8 @@ inner-odd : (w : ℕ) → w % 2 ≡ 1 → inner w ≡ w / 2 % 2 + inner (w / 2)
 inner-odd w o =
     decide (eqb (w / 2 % 2) 1)
     (λ d. let e : w / 2 % 2 ≡ 1 = eqb-true _ _ d in rw e (inner-step w 1 (rw (o, e)) (omega arith)))
-    (λ d. let e : w / 2 % 2 ≡ 0 = omega (arith, eqb-false (w / 2 % 2) 1 d) in rw e (inner-step w 0 (rw (o, e)) (omega arith)))
+    (λ d. let e : w / 2 % 2 ≡ 0 = omega (arith, eqb-false (w / 2 % 2) 1 d) in
+    rw e (inner-step w 0 (rw (o, e)) (omega arith)))
 
 -- ---- whether the open piece takes the row in
 
@@ -176,7 +179,8 @@ module _ (o r cap : ℕ) where
   unfolding joinsOf
   joins-yes f g l = rw (ne-eqb o 0 f, ne-eqb r 0 g, le-ltb cap (o + r) l)
 
--- a place that passes, with a row of r behind it: o is open before the place and u after it, P pieces have started before it and Q after it,
+-- a place that passes, with a row of r behind it: o is open before the place and u after it, P pieces have
+-- started before it and Q after it,
 -- and v tells whether the row is none
 join-more : (cap o u r v P Q : ℕ) → o < cap → r < cap → (o ≡ 0 → Q ≡ P + 1) → ((o ≡ 0 → ⊥) → Q ≡ P)
     → (o + 1 ≡ cap → u ≡ 0) → ((o + 1 ≡ cap → ⊥) → u ≡ o + 1) → (r ≡ 0 → v ≡ 0) → ((r ≡ 0 → ⊥) → v ≡ 1)
@@ -184,22 +188,51 @@ join-more : (cap o u r v P Q : ℕ) → o < cap → r < cap → (o ≡ 0 → Q �
 join-more cap o u r v P Q ho hr start inside wrap more none some =
     decide (eqb r 0)
     (λ d. let r0 = eqb-true r 0 d in decide (eqb o 0)
-    (λ e. let o0 = eqb-true o 0 e in omega (arith, joins-none u r cap r0, joins-closed o (suc r) cap o0, start o0, none r0))
-    (λ e. let o1 = eqb-false o 0 e in omega (arith, joins-none u r cap r0, joins-yes o (suc r) cap o1 (λ q. omega arith) (omega arith), inside o1, none r0)))
+    (λ e. let o0 = eqb-true o 0 e in
+    omega (arith, joins-none u r cap r0, joins-closed o (suc r) cap o0, start o0, none r0))
+    (λ e. let o1 = eqb-false o 0 e in
+    omega (
+      arith,
+      joins-none u r cap r0,
+      joins-yes o (suc r) cap o1 (λ q. omega arith) (omega arith),
+      inside o1,
+      none r0,
+    )))
     (λ d. let r1 = eqb-false r 0 d in decide (eqb o 0)
     (λ e. let o0 = eqb-true o 0 e in
     let u1 : u ≡ 1 = omega (arith, more (λ q. omega arith)) in
-    omega (arith, joins-closed o (suc r) cap o0, joins-yes u r cap (λ q. omega arith) r1 (omega arith), start o0, some r1))
+    omega (
+      arith,
+      joins-closed o (suc r) cap o0,
+      joins-yes u r cap (λ q. omega arith) r1 (omega arith),
+      start o0,
+      some r1,
+    ))
     (λ e. let o1 = eqb-false o 0 e in decide (eqb (o + 1) cap)
-    (λ f. let w = eqb-true (o + 1) cap f in omega (arith, joins-closed u r cap (wrap w), joins-cut o (suc r) cap (omega arith), inside o1, some r1))
+    (λ f. let w = eqb-true (o + 1) cap f in
+    omega (arith, joins-closed u r cap (wrap w), joins-cut o (suc r) cap (omega arith), inside o1, some r1))
     (λ f. let w = eqb-false (o + 1) cap f in let um = more w in decide (ltb cap (o + suc r))
-    (λ g. omega (arith, joins-cut o (suc r) cap (ltb-true _ _ g), joins-cut u r cap (omega (arith, ltb-true cap (o + suc r) g)), inside o1, some r1))
-    (λ g. omega (arith, joins-yes o (suc r) cap o1 (λ q. omega arith) (ltb-false cap (o + suc r) g), joins-yes u r cap (λ q. omega arith) r1 (omega (arith, ltb-false cap (o + suc r) g)), inside o1, some r1)))))
+    (λ g. omega (
+      arith,
+      joins-cut o (suc r) cap (ltb-true _ _ g),
+      joins-cut u r cap (omega (arith, ltb-true cap (o + suc r) g)),
+      inside o1,
+      some r1,
+    ))
+    (λ g. omega (
+      arith,
+      joins-yes o (suc r) cap o1 (λ q. omega arith) (ltb-false cap (o + suc r) g),
+      joins-yes u r cap (λ q. omega arith) r1 (omega (arith, ltb-false cap (o + suc r) g)),
+      inside o1,
+      some r1,
+    )))))
 
 -- the first place of a word, and what the others leave of the claim
 module _ (cap k w P : ℕ) (t : Tally) (h : w < 2 ^ suc k) (l : suc k ≤ cap) (o : t .off < cap)
-    (ih : P + inner (w / 2) + joinsOf (tookOf cap t (eqb (w % 2) 1) .off) (row k (w / 2)) cap ≡ tookOf cap t (eqb (w % 2) 1) .pieces + ones (w / 2)) where
-  pieces-even : eqb (w % 2) 1 ≡ false → P + inner w + joinsOf (t .off) (row (suc k) w) cap ≡ t .pieces + ones w
+    (ih : P + inner (w / 2) + joinsOf (tookOf cap t (eqb (w % 2) 1) .off) (row k (w / 2)) cap ≡ tookOf cap t
+    (eqb (w % 2) 1) .pieces + ones (w / 2)) where
+  pieces-even : eqb (w % 2) 1 ≡ false
+      → P + inner w + joinsOf (t .off) (row (suc k) w) cap ≡ t .pieces + ones w
   pieces-even d =
       let z : w % 2 ≡ 0 = omega (arith, eqb-false (w % 2) 1 d) in
       let n = took-no cap t d in
@@ -216,7 +249,8 @@ module _ (cap k w P : ℕ) (t : Tally) (h : w < 2 ^ suc k) (l : suc k ≤ cap) (
       let z : w % 2 ≡ 1 = eqb-true _ _ d in
       let v = halved k w h in
       let j =
-      join-more cap (t .off) (tookOf cap t (eqb (w % 2) 1) .off) (row k (w / 2)) (w / 2 % 2) (t .pieces) (tookOf cap t (eqb (w % 2) 1) .pieces) o
+      join-more cap (t .off) (tookOf cap t (eqb (w % 2) 1) .off) (row k (w / 2)) (w / 2 % 2) (t .pieces)
+      (tookOf cap t (eqb (w % 2) 1) .pieces) o
       (omega (arith, row-le k (w / 2)))
       (took-start cap t d)
       (took-inside cap t d)
@@ -275,7 +309,8 @@ module _ (cap k w : ℕ) (t : Tally) (h : w < 2 ^ suc k) (l : suc k ≤ cap) (o 
   first-open = tookOf cap t (eqb (w % 2) 1) .off
 
   -- no gap: the piece goes on, or is cut and begun anew
-  open-on : gaps (suc k) w ≡ 0 → openAfter k first-open (gaps k (w / 2)) cap ≡ openAfter (suc k) (t .off) (gaps (suc k) w) cap
+  open-on : gaps (suc k) w ≡ 0
+      → openAfter k first-open (gaps k (w / 2)) cap ≡ openAfter (suc k) (t .off) (gaps (suc k) w) cap
   unfolding first-open
   open-on g =
       let d : eqb (w % 2) 1 ≡ true = eq-eqb (w % 2) 1 (omega (arith, gaps-low k w h)) in
@@ -284,35 +319,61 @@ module _ (cap k w : ℕ) (t : Tally) (h : w < 2 ^ suc k) (l : suc k ≤ cap) (o 
       decide (eqb (t .off + 1) cap)
       (λ f. let e = eqb-true (t .off + 1) cap f in
       let z = took-wrap cap t d e in
-      omega (arith, open-whole k u (gaps k (w / 2)) cap g2 (omega arith), open-wrap (suc k) (t .off) (gaps (suc k) w) cap g (omega arith)))
+      omega (
+        arith,
+        open-whole k u (gaps k (w / 2)) cap g2 (omega arith),
+        open-wrap (suc k) (t .off) (gaps (suc k) w) cap g (omega arith),
+      ))
       (λ f. let z = took-more cap t d (eqb-false (t .off + 1) cap f) in decide (ltb (t .off + suc k) cap)
-      (λ q. omega (arith, open-whole k u (gaps k (w / 2)) cap g2 (omega (arith, ltb-true (t .off + suc k) cap q)), open-whole (suc k) (t .off) (gaps (suc k) w) cap g (ltb-true _ _ q)))
-      (λ q. omega (arith, open-wrap k u (gaps k (w / 2)) cap g2 (omega (arith, ltb-false (t .off + suc k) cap q)), open-wrap (suc k) (t .off) (gaps (suc k) w) cap g (ltb-false _ _ q))))
+      (λ q. omega (
+        arith,
+        open-whole k u (gaps k (w / 2)) cap g2 (omega (arith, ltb-true (t .off + suc k) cap q)),
+        open-whole (suc k) (t .off) (gaps (suc k) w) cap g (ltb-true _ _ q),
+      ))
+      (λ q. omega (
+        arith,
+        open-wrap k u (gaps k (w / 2)) cap g2 (omega (arith, ltb-false (t .off + suc k) cap q)),
+        open-wrap (suc k) (t .off) (gaps (suc k) w) cap g (ltb-false _ _ q),
+      )))
 
   -- a gap: the row above the highest one is open
-  open-anew : (gaps (suc k) w ≡ 0 → ⊥) → openAfter k first-open (gaps k (w / 2)) cap ≡ openAfter (suc k) (t .off) (gaps (suc k) w) cap
+  open-anew : (gaps (suc k) w ≡ 0 → ⊥)
+      → openAfter k first-open (gaps k (w / 2)) cap ≡ openAfter (suc k) (t .off) (gaps (suc k) w) cap
   unfolding first-open
   open-anew n =
       let u = tookOf cap t (eqb (w % 2) 1) .off in
-      let e = open-gap (suc k) (t .off) (gaps (suc k) w) cap n ∙ leading-half k (gaps (suc k) w) n ∙ ap (leadingZeros k) (gaps-half k w h) in
+      let e = open-gap (suc k) (t .off) (gaps (suc k) w) cap n ∙ leading-half k (gaps (suc k) w) n
+      ∙ ap (leadingZeros k) (gaps-half k w h) in
       decide (eqb (gaps k (w / 2)) 0)
       (λ f. let g = eqb-true (gaps k (w / 2)) 0 f in
-      let d : eqb (w % 2) 1 ≡ false = ne-eqb (w % 2) 1 (λ q. omega (arith, gaps-low k w h, gaps-half k w h)) in
-      omega (arith, open-whole k u (gaps k (w / 2)) cap g (omega (arith, took-no cap t d .2)), took-no cap t d .2, e, ap (leadingZeros k) g, leading-of-zero k))
+      let d : eqb (w % 2) 1 ≡ false = ne-eqb (w % 2) 1
+      (λ q. omega (arith, gaps-low k w h, gaps-half k w h)) in
+      omega (
+        arith,
+        open-whole k u (gaps k (w / 2)) cap g (omega (arith, took-no cap t d .2)),
+        took-no cap t d .2,
+        e,
+        ap (leadingZeros k) g,
+        leading-of-zero k,
+      ))
       (λ f. open-gap k u (gaps k (w / 2)) cap (eqb-false _ _ f) ∙ sym e)
 
-word-open : (cap k w : ℕ) (t : Tally) → w < 2 ^ k → k ≤ cap → t .off < cap → tookBits cap t w k .off ≡ openAfter k (t .off) (gaps k w) cap
+word-open : (cap k w : ℕ) (t : Tally) → w < 2 ^ k → k ≤ cap → t .off < cap
+    → tookBits cap t w k .off ≡ openAfter k (t .off) (gaps k w) cap
 unfolding tookBits first-open
 word-open cap zero w t h l o =
     let g : gaps zero w ≡ 0 = gaps-none w in
     omega (arith, open-whole zero (t .off) (gaps zero w) cap g (omega arith))
 word-open cap (suc k) w t h l o =
-    word-open cap k (w / 2) (tookOf cap t (eqb (w % 2) 1)) (halved k w h) (omega arith) (took-below cap t (eqb (w % 2) 1) o)
-    ∙ decide (eqb (gaps (suc k) w) 0) (λ d. open-on cap k w t h l o (eqb-true _ _ d)) (λ d. open-anew cap k w t h l o (eqb-false _ _ d))
+    word-open cap k (w / 2) (tookOf cap t (eqb (w % 2) 1)) (halved k w h) (omega arith)
+    (took-below cap t (eqb (w % 2) 1) o)
+    ∙ decide (eqb (gaps (suc k) w) 0) (λ d. open-on cap k w t h l o (eqb-true _ _ d))
+    (λ d. open-anew cap k w t h l o (eqb-false _ _ d))
 
 -- ---- a word of 64 places
 
-same-tally : (t : Tally) {a b c : ℕ} → a ≡ t .passed → b ≡ t .pieces → c ≡ t .off → record { passed = a; pieces = b; off = c } ≡ t
+same-tally : (t : Tally) {a b c : ℕ} → a ≡ t .passed → b ≡ t .pieces → c ≡ t .off
+    → record { passed = a; pieces = b; off = c } ≡ t
 same-tally t x y z = rw (x, y, z)
 
 module _ (cap w : ℕ) (t : Tally) (fits : w < 2 ^ 64) (wide : 64 ≤ cap) (below : t .off < cap) where
@@ -323,8 +384,14 @@ module _ (cap w : ℕ) (t : Tally) (fits : w < 2 ^ 64) (wide : 64 ≤ cap) (belo
   word-runs j e = omega (arith, word-pieces cap 64 w t fits wide below)
 
   -- some pass and some fail
-  pub word-mixed : (j : ℕ) → j ≡ joinsOf (t .off) (trailingZeros 64 (2 ^ 64 - 1 - w)) cap → (2 ^ 64 - 1 - w ≡ 0 → ⊥)
-      → record { passed = t .passed + ones w; pieces = t .pieces + ones w - ones (bitAnd w (w / 2)) - j; off = leadingZeros 64 (2 ^ 64 - 1 - w) } ≡ tookBits cap t w 64
+  pub word-mixed : (j : ℕ) → j ≡ joinsOf (t .off) (trailingZeros 64 (2 ^ 64 - 1 - w)) cap
+      → (2 ^ 64 - 1 - w ≡ 0 → ⊥)
+      → record {
+        passed = t .passed + ones w;
+        pieces = t .pieces + ones w - ones (bitAnd w (w / 2)) - j;
+        off =
+            leadingZeros 64 (2 ^ 64 - 1 - w);
+      } ≡ tookBits cap t w 64
   unfolding gaps
   word-mixed j e n =
       same-tally (tookBits cap t w 64)
@@ -340,19 +407,29 @@ module _ (cap w : ℕ) (t : Tally) (fits : w < 2 ^ 64) (wide : 64 ≤ cap) (belo
       let i : inner w ≡ 0 = ap inner e ∙ inner-zero in
       same-tally (tookBits cap t w 64)
       (omega (arith, word-passed cap 64 w t fits))
-      (omega (arith, word-pieces cap 64 w t fits wide below, joins-none (t .off) (row 64 w) cap (row-none 64 w fits (omega arith))))
+      (omega (
+        arith,
+        word-pieces cap 64 w t fits wide below,
+        joins-none (t .off) (row 64 w) cap (row-none 64 w fits (omega arith)),
+      ))
       (leading-unique 64 (2 ^ 64 - 1 - w) 0 64 refl (omega arith) (omega arith)
-      ∙ sym (word-open cap 64 w t fits wide below ∙ open-gap 64 (t .off) (2 ^ 64 - 1 - w) cap (λ q. omega arith)))
+      ∙ sym (word-open cap 64 w t fits wide below
+      ∙ open-gap 64 (t .off) (2 ^ 64 - 1 - w) cap (λ q. omega arith)))
 
   -- all pass
   pub word-whole : w ≡ 2 ^ 64 - 1 → (j : ℕ) → j ≡ joinsOf (t .off) 64 cap
-      → (j ≤ t .pieces + 1) × ((o : ℕ) → o ≡ cutOf (t .off + 64) cap → record { passed = t .passed + 64; pieces = t .pieces + 1 - j; off = o } ≡ tookBits cap t w 64)
+      → (j ≤ t .pieces + 1)
+      × ((o : ℕ) → o ≡ cutOf (t .off + 64) cap
+      → record { passed = t .passed + 64; pieces = t .pieces + 1 - j; off = o } ≡ tookBits cap t w 64)
   unfolding gaps row inner
   word-whole e j f =
       let g : 2 ^ 64 - 1 - w ≡ 0 = omega arith in
       let n : ones w ≡ 64 = ap ones e ∙ ones-ones 64 in
-      let i : ones (bitAnd w (w / 2)) ≡ 63 = ap (λ (x : ℕ). ones (bitAnd x (x / 2))) e ∙ ap ones (and-mask (2 ^ 64 - 1) 63) ∙ ones-ones 63 in
-      let r : joinsOf (t .off) (trailingZeros 64 (2 ^ 64 - 1 - w)) cap ≡ j = ap (λ (x : ℕ). joinsOf (t .off) (trailingZeros 64 x) cap) g ∙ ap (λ (x : ℕ). joinsOf (t .off) x cap) (trailing-of-zero 64) ∙ sym f in
+      let i : ones (bitAnd w (w / 2)) ≡ 63 = ap (λ (x : ℕ). ones (bitAnd x (x / 2))) e
+      ∙ ap ones (and-mask (2 ^ 64 - 1) 63) ∙ ones-ones 63 in
+      let r : joinsOf (t .off) (trailingZeros 64 (2 ^ 64 - 1 - w)) cap ≡ j = ap
+      (λ (x : ℕ). joinsOf (t .off) (trailingZeros 64 x) cap) g
+      ∙ ap (λ (x : ℕ). joinsOf (t .off) x cap) (trailing-of-zero 64) ∙ sym f in
       let p = word-pieces cap 64 w t fits wide below in (
         omega arith,
         λ o h. same-tally (tookBits cap t w 64)

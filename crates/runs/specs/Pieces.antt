@@ -1,8 +1,8 @@
--- The pieces of a file's named bytes and the runs of its touched pages, on the board of the paper.
+-- The pieces of a file's named bytes and the runs of its touched pages, on a board of so many pages.
 use Prim.Native.Nat.{ℕ}
 use mathlib.Core.List.{List}
 use mathlib.Core.Bool.{Bool}
-use Rattle.basis.specs.Board.{pages, flashSize}
+use Rattle.basis.specs.Units.{startOf}
 use Rattle.runs.specs.Map.{named}
 use Rattle.runs.specs.Pages.{touched}
 use Rattle.runs.specs.Runs.{count, starts, len}
@@ -19,18 +19,18 @@ abbrev pub pieceLen : List ℕ → ℕ → ℕ
 pieceLen m a = len (named m) a pieceMost
 
 -- a run of touched pages starts at the page, and this long it is; no run has more pages than there are
-abbrev pub runStarts : List ℕ → ℕ → Bool
-runStarts m = starts (touched m) pages
+abbrev pub runStarts : ℕ → List ℕ → ℕ → Bool
+runStarts board m = starts (touched m) board
 
-abbrev pub runLen : List ℕ → ℕ → ℕ
-runLen m q = len (touched m) q pages
+abbrev pub runLen : ℕ → List ℕ → ℕ → ℕ
+runLen board m q = len (touched m) q board
 
 -- how many runs of pages (e), pieces (w) and named bytes the file has
-abbrev pub runCount : List ℕ → ℕ
-runCount m = count (runStarts m) pages
+abbrev pub runCount : ℕ → List ℕ → ℕ
+runCount board m = count (runStarts board m) board
 
-abbrev pub pieceCount : List ℕ → ℕ
-pieceCount m = count (pieceStarts m) flashSize
+abbrev pub pieceCount : ℕ → List ℕ → ℕ
+pieceCount board m = count (pieceStarts m) (startOf board)
 
-abbrev pub namedCount : List ℕ → ℕ
-namedCount m = count (named m) flashSize
+abbrev pub namedCount : ℕ → List ℕ → ℕ
+namedCount board m = count (named m) (startOf board)

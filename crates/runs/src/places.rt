@@ -65,7 +65,8 @@ pub fn row_len(map: &[u8], from: Address, cap: u32) -> u32
     n
 }
 
-// The next step of a row: eight addresses where a whole byte of the map names them, else one, or 0 at the row's end.
+// The next step of a row: eight addresses where a whole byte of the
+// map names them, else one, or 0 at the row's end.
 fn stride(map: &[u8], from: Address, most: u32) -> u32
     requires { ⌜ 0 < most ⌝ }
     ensures { λ r. ⌜ Stride (now (map .entry)) (from .0) most r ⌝ }

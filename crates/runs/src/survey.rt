@@ -2,7 +2,7 @@
 ghost use mathlib.Core.Path.{_≡_};
 ghost use Prim.Native.Nat.{_*_, _<_, _≤_};
 ghost use lib.ListN.{length};
-ghost use Rattle.basis.specs.Board.{flashSize, mapSize};
+ghost use Rattle.basis.specs.Board.{flashSize, mapSize, pages};
 ghost use Rattle.basis.specs.Units.{startOf};
 ghost use Rattle.runs.specs.Map.{named};
 ghost use Rattle.runs.specs.Pieces.{pieceMost};
@@ -36,7 +36,7 @@ pub struct Surveyed {
 // The page's words up to `at` are taken once more, to rank `at` itself.
 pub fn survey(map: &[u8], at: Address) -> Surveyed
     requires { ⌜ (length (now map) ≡ mapSize) × (at .0 < flashSize) ⌝ }
-    ensures { λ r. ⌜ r ≡ surveyOf (now (map .entry)) (at .0) ⌝ }
+    ensures { λ r. ⌜ r ≡ surveyOf pages (now (map .entry)) (at .0) ⌝ }
 {
     let none = Tally {
         passed: 0,

@@ -2,6 +2,7 @@
 ghost use mathlib.Core.Path.{_≡_};
 ghost use Prim.Native.Nat.{_+_, _*_, _^_, _<_, _≤_};
 ghost use lib.ListN.{length};
+ghost use Rattle.basis.specs.Board.{pages};
 ghost use Rattle.basis.specs.Units.{startOf};
 ghost use Rattle.runs.specs.Map.{named};
 ghost use Rattle.runs.specs.Pieces.{pieceMost};
@@ -60,9 +61,9 @@ pub fn over_places(map: &[u8], tally: Tally, from: Address, to: Address) -> Tall
 pub fn over_pages(map: &[u8], met: Tallies, from: Page, to: Page) -> Tallies
     requires { ⌜
         (from .0 ≤ to .0) × (startOf (to .0) ≤ 8 * length (now map)) × (to .0 < 2 ^ 16)
-        × (met ≡ talliesAt (now map) (from .0))
+        × (met ≡ talliesAt pages (now map) (from .0))
         ⌝ }
-    ensures { λ r. ⌜ r ≡ talliesAt (now (map .entry)) (to .0) ⌝ }
+    ensures { λ r. ⌜ r ≡ talliesAt pages (now (map .entry)) (to .0) ⌝ }
 {
     let mut bytes = met.bytes;
     let mut pages = met.pages;

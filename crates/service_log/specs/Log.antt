@@ -1,14 +1,14 @@
--- The log record, big-endian: length 0x0008, version 01, outcome, packets acknowledged, packet total, named bytes
--- (two bytes each).
+-- The log record, big-endian: length 0x0008, version 01, outcome, packets
+-- acknowledged, packet total, named bytes (two bytes each).
 use Prim.Native.Nat.{ℕ, _/_, _%_}
 use mathlib.Core.Bool.{Bool, not}
 use mathlib.Core.List.{List, [], _∷_}
 use lib.Dec.{eqb, leb, ltb}
 use lib.ListN.{length, getD}
-use Rattle.basis.specs.Board.{flashSize}
 use Rattle.basis.specs.Choice.{pick, both, either}
 use Rattle.basis.specs.Lists.{pairAt}
 use Rattle.basis.specs.Refusals.{Answer, given, _when_, first}
+use Rattle.basis.specs.Units.{startOf}
 use Rattle.session.specs.Paper.{paperOutcome}
 use Rattle.session.specs.Phases.{ended}
 use Rattle.session.specs.declared.phase.Phase.{Phase}
@@ -23,15 +23,15 @@ recordSize = 10
 abbrev pub known : ℕ → Bool
 known o = either (eqb o 0) (both (leb 40 o) (leb o 43))
 
--- a false record, of outcome o, with k of t packets acknowledged and n bytes: outcome unknown, total under 4, bytes 0 or
--- above 63,488, acknowledged above total, outcome 0 unless acknowledged equals total and the reverse (the `pick`),
--- outcome 42 with any acknowledged
-unfoldable pub isFalseOf : ℕ → ℕ → ℕ → ℕ → Bool
-isFalseOf o k t n =
+-- a false record, of outcome o, with k of t packets acknowledged and n bytes: outcome unknown, total under 4,
+-- bytes 0 or above the board's (63,488), acknowledged above total, outcome 0 unless acknowledged equals total
+-- and the reverse (the `pick`), outcome 42 with any acknowledged
+unfoldable pub isFalseOf : ℕ → ℕ → ℕ → ℕ → ℕ → Bool
+isFalseOf board o k t n =
     either (not (known o))
     (either (ltb t 4)
     (either (eqb n 0)
-    (either (ltb flashSize n)
+    (either (ltb (startOf board) n)
     (either (ltb t k)
     (pick (eqb o 0) (not (eqb k t))
     (either (eqb k t)
@@ -57,14 +57,14 @@ abbrev pub recordBytes : ℕ → ℕ → ℕ → ℕ → List ℕ
 recordBytes o k t n =
     0x00 ∷ 0x08 ∷ 0x01 ∷ o ∷ k / 256 % 256 ∷ k % 256 ∷ t / 256 % 256 ∷ t % 256 ∷ n / 256 % 256 ∷ n % 256 ∷ []
 
--- writing a session into a buffer of so many bytes: 45 for one that is unfinished, or whose counts do not fit, or
--- would read as 53; then 20
-unfoldable pub writeOf : ℕ → Session → Answer (List ℕ)
-writeOf room s =
+-- writing a session into a buffer of so many bytes: 45 for one that is
+-- unfinished, or whose counts do not fit, or would read as 53; then 20
+unfoldable pub writeOf : ℕ → ℕ → Session → Answer (List ℕ)
+writeOf board room s =
     first
     (45 when not (ended (s .phase))
     ∷ 45 when not (fitTwo (s .acknowledged) (s .total) (s .named))
-    ∷ 45 when isFalseOf (outcomeIn (s .phase)) (s .acknowledged) (s .total) (s .named)
+    ∷ 45 when isFalseOf board (outcomeIn (s .phase)) (s .acknowledged) (s .total) (s .named)
     ∷ 20 when ltb room recordSize ∷ [])
     (given (recordBytes (outcomeIn (s .phase)) (s .acknowledged) (s .total) (s .named)))
 
@@ -81,12 +81,12 @@ recordAt s =
 
 -- reading: 50 under 10 bytes, 51 length field other than 8 or input longer than 10 bytes, 52 version,
 -- 53 a false record
-unfoldable pub readOf : List ℕ → Answer Record
-readOf s =
+unfoldable pub readOf : ℕ → List ℕ → Answer Record
+readOf board s =
     first
     (50 when ltb (length s) recordSize
     ∷ 51 when not (eqb (pairAt s 0) 8)
     ∷ 51 when ltb recordSize (length s)
     ∷ 52 when not (eqb (getD s 2 0) 1)
-    ∷ 53 when isFalseOf (getD s 3 0) (pairAt s 4) (pairAt s 6) (pairAt s 8) ∷ [])
+    ∷ 53 when isFalseOf board (getD s 3 0) (pairAt s 4) (pairAt s 6) (pairAt s 8) ∷ [])
     (given (recordAt s))

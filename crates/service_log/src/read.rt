@@ -1,5 +1,6 @@
 // The reader: what a record says, or why it is none.
 ghost use mathlib.Core.Path.{_≡_};
+ghost use Rattle.basis.specs.Board.{pages};
 ghost use Rattle.service_log.specs.Log.{readOf};
 ghost use Rattle.service_log.specs.Paper.{paperUnread, paperReading};
 use crate::truth::is_false;
@@ -45,7 +46,7 @@ impl Unread {
 }
 
 pub fn read(input: &[u8]) -> Reading
-    ensures { λ r. ⌜ paperReading r ≡ readOf (now (input .entry)) ⌝ }
+    ensures { λ r. ⌜ paperReading r ≡ readOf pages (now (input .entry)) ⌝ }
 {
     if input.len() < RECORD {
         return Reading::Refused(Unread::Short);

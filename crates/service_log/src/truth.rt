@@ -1,10 +1,11 @@
 // What no record may say: the writer refuses it of a session, the reader of its input.
 ghost use mathlib.Core.Path.{_≡_};
+ghost use Rattle.basis.specs.Board.{pages};
 ghost use Rattle.service_log.specs.Log.{known, isFalseOf};
 use basis::board::END;
 
 pub fn is_false(outcome: u8, acknowledged: u32, total: u32, bytes: u32) -> bool
-    ensures { λ r. ⌜ r ≡ isFalseOf outcome acknowledged total bytes ⌝ }
+    ensures { λ r. ⌜ r ≡ isFalseOf pages outcome acknowledged total bytes ⌝ }
 {
     if !is_known(outcome) {
         return true;

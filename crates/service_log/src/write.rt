@@ -1,6 +1,7 @@
 // The writer: a session that has ended, as ten bytes in the caller's buffer.
 ghost use mathlib.Core.Path.{_≡_};
 ghost use lib.ListN.{length};
+ghost use Rattle.basis.specs.Board.{pages};
 ghost use Rattle.basis.specs.Lists.{overlay};
 ghost use Rattle.basis.specs.Refusals.{counted, written};
 ghost use Rattle.service_log.specs.Log.{outcomeIn, fitTwo, writeOf};
@@ -37,7 +38,7 @@ impl Unwritten {
 
 pub fn write(session: Session, buffer: &mut [u8]) -> Written
     ensures { λ r. ⌜
-        (let b = writeOf (length (now (buffer .entry))) session in
+        (let b = writeOf pages (length (now (buffer .entry))) session in
         (paperWritten r ≡ counted b) × (now (buffer .exit) ≡ overlay (written b) (now (buffer .entry))))
         ⌝ }
 {

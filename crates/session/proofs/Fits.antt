@@ -28,21 +28,26 @@ use Rattle.session.proofs.Surveys.{Told, told}
 
 -- a cursor past the board stands nowhere
 module _ (m : List ℕ) (long : length m ≡ mapSize) where
-  past-stands : (ph : Phase) (k : ℕ) → flashSize ≤ placeOf ph → standsIn m ph k ≡ false
+  past-stands : (ph : Phase) (k : ℕ) → flashSize ≤ placeOf pages ph → standsIn pages m ph k ≡ false
   unfolding placeOf standsIn
   past-stands Phase.Greeting k l = absurd (omega arith)
   past-stands (Phase.Erase p) k l =
       decide (leb pages (p .0))
-      (λ d. both-false _ _ (starts-fail (touched m) pages (p .0) (pages-past m long (p .0) (leb-true _ _ d))))
+      (λ d. both-false _ _
+      (starts-fail (touched m) pages (p .0) (pages-past pages m long (p .0) (leb-true _ _ d))))
       (λ d. absurd (omega (arith, leb-false pages (p .0) d, rw d at l)))
-  past-stands (Phase.Write a) k l = both-false _ _ (starts-fail (named m) pieceMost (a .0) (bytes-past m long (a .0) l))
-  past-stands (Phase.Verify a) k l = both-false _ _ (starts-fail (named m) pieceMost (a .0) (bytes-past m long (a .0) l))
+  past-stands (Phase.Write a) k l =
+      both-false _ _ (starts-fail (named m) pieceMost (a .0) (bytes-past pages m long (a .0) l))
+  past-stands (Phase.Verify a) k l =
+      both-false _ _ (starts-fail (named m) pieceMost (a .0) (bytes-past pages m long (a .0) l))
   past-stands Phase.Run k l = absurd (omega arith)
   past-stands (Phase.Ended o) k l = refl
 
-  pub fits-past : (s : Session) → flashSize ≤ placeOf (s .phase) → false ≡ fitsOf m s
+  pub fits-past : (s : Session) → flashSize ≤ placeOf pages (s .phase) → false ≡ fitsOf pages m s
   unfolding fitsOf
-  fits-past s l = sym (last (ltb 0 (namedCount m)) (eqb (s .named) (namedCount m)) (eqb (s .total) (total m)) (past-stands (s .phase) (s .acknowledged) l))
+  fits-past s l =
+      sym (last (ltb 0 (namedCount pages m)) (eqb (s .named) (namedCount pages m))
+      (eqb (s .total) (total pages m)) (past-stands (s .phase) (s .acknowledged) l))
     where
       last : (a b c : Bool) {d : Bool} → d ≡ false → both a (both b (both c d)) ≡ false
       last true true true e = e
@@ -61,7 +66,8 @@ standsBy f (Phase.Ended o) k = false
 
 module _ (m : List ℕ) {f : Surveyed} (k : ℕ) where
   -- is what the file says of it
-  told-stands : (ph : Phase) → f ≡ surveyOf m (placeOf ph) → placeOf ph < flashSize → standsBy f ph k ≡ standsIn m ph k
+  told-stands : (ph : Phase) → f ≡ surveyOf pages m (placeOf pages ph) → placeOf pages ph < flashSize
+      → standsBy f ph k ≡ standsIn pages m ph k
   unfolding placeOf standsIn
   told-stands Phase.Greeting e l = refl
   told-stands (Phase.Erase p) e l =
@@ -71,37 +77,49 @@ module _ (m : List ℕ) {f : Surveyed} (k : ℕ) where
       let q : pageOf (startOf (p .0)) ≡ p .0 = omega arith in
       rw (t .run, t .runs-below, q, zero-add))
   told-stands (Phase.Write a) e l = let t = told m (a .0) e in rw (t .piece, t .runs, t .pieces-below)
-  told-stands (Phase.Verify a) e l = let t = told m (a .0) e in rw (t .piece, t .runs, t .pieces, t .pieces-below)
+  told-stands (Phase.Verify a) e l =
+      let t = told m (a .0) e in rw (t .piece, t .runs, t .pieces, t .pieces-below)
   told-stands Phase.Run e l = let t = told m 0 e in rw (t .runs, t .pieces)
   told-stands (Phase.Ended o) e l = refl
 
 -- the tests of the counts, in their order
-module _ (m : List ℕ) (s : Session) {f : Surveyed} (e : f ≡ surveyOf m (placeOf (s .phase))) where
-  t : Told m (placeOf (s .phase)) f
-  t = told m (placeOf (s .phase)) e
+module _ (m : List ℕ) (s : Session) {f : Surveyed} (e : f ≡ surveyOf pages m (placeOf pages (s .phase))) where
+  t : Told m (placeOf pages (s .phase)) f
+  t = told m (placeOf pages (s .phase)) e
 
-  pub fits-empty : f .all .named ≡ 0 → false ≡ fitsOf m s
+  pub fits-empty : f .all .named ≡ 0 → false ≡ fitsOf pages m s
   unfolding fitsOf
-  fits-empty h = let l : namedCount m ≤ 0 = omega (arith, t .bytes) in rw (le-ltb _ _ l)
+  fits-empty h = let l : namedCount pages m ≤ 0 = omega (arith, t .bytes) in rw (le-ltb _ _ l)
 
   module _ (some : f .all .named ≡ 0 → ⊥) where
-    l : 0 < namedCount m
+    l : 0 < namedCount pages m
     l = omega (arith, t .bytes)
 
-    pub fits-named : (s .named ≡ f .all .named → ⊥) → false ≡ fitsOf m s
+    pub fits-named : (s .named ≡ f .all .named → ⊥) → false ≡ fitsOf pages m s
     unfolding fitsOf
-    fits-named h = rw (lt-ltb _ _ l, ne-eqb (s .named) (namedCount m) (λ q. h (q ∙ sym (t .bytes))))
+    fits-named h = rw (lt-ltb _ _ l, ne-eqb (s .named) (namedCount pages m) (λ q. h (q ∙ sym (t .bytes))))
 
     module _ (same : s .named ≡ f .all .named) where
-      pub fits-total : (n : ℕ) → n ≡ f .all .runs + 2 * f .all .pieces + 1 → (s .total ≡ n → ⊥) → false ≡ fitsOf m s
+      pub fits-total : (n : ℕ) → n ≡ f .all .runs + 2 * f .all .pieces + 1 → (s .total ≡ n → ⊥)
+          → false ≡ fitsOf pages m s
       unfolding fitsOf
       fits-total n g h =
-          rw (lt-ltb _ _ l, eq-eqb (s .named) (namedCount m) (same ∙ t .bytes), ne-eqb (s .total) (total m) (λ q. h (omega (arith, t .runs, t .pieces))))
+          rw (
+            lt-ltb _ _ l,
+            eq-eqb (s .named) (namedCount pages m) (same ∙ t .bytes),
+            ne-eqb (s .total) (total pages m) (λ q. h (omega (arith, t .runs, t .pieces))),
+          )
 
       -- all counts are the file's, so the phase decides
-      pub fits-place : (n : ℕ) → n ≡ f .all .runs + 2 * f .all .pieces + 1 → s .total ≡ n → placeOf (s .phase) < flashSize
-          → (ph : Phase) → s .phase ≡ ph → standsBy f ph (s .acknowledged) ≡ fitsOf m s
+      pub fits-place : (n : ℕ) → n ≡ f .all .runs + 2 * f .all .pieces + 1 → s .total ≡ n
+          → placeOf pages (s .phase) < flashSize
+          → (ph : Phase) → s .phase ≡ ph → standsBy f ph (s .acknowledged) ≡ fitsOf pages m s
       unfolding fitsOf
       fits-place n g h b ph q =
-          rw (lt-ltb _ _ l, eq-eqb (s .named) (namedCount m) (same ∙ t .bytes), eq-eqb (s .total) (total m) (omega (arith, t .runs, t .pieces)))
-          (ap (λ (x : Phase). standsBy f x (s .acknowledged)) (sym q) ∙ told-stands m (s .acknowledged) (s .phase) e b)
+          rw (
+            lt-ltb _ _ l,
+            eq-eqb (s .named) (namedCount pages m) (same ∙ t .bytes),
+            eq-eqb (s .total) (total pages m) (omega (arith, t .runs, t .pieces)),
+          )
+          (ap (λ (x : Phase). standsBy f x (s .acknowledged)) (sym q)
+          ∙ told-stands m (s .acknowledged) (s .phase) e b)

@@ -26,7 +26,8 @@ same-unlike (x ∷ s) (y ∷ t) n = rest (eqb x y) (same-unlike s t (λ e. n (om
 
 -- from the i-th byte on
 module _ (s t : List ℕ) (i : ℕ) (e : length s ≡ length t) where
-  pub same-next : i < length s → getD s i 0 ≡ getD t i 0 → sameOf (drop i s) (drop i t) ≡ sameOf (drop (i + 1) s) (drop (i + 1) t)
+  pub same-next : i < length s → getD s i 0 ≡ getD t i 0
+      → sameOf (drop i s) (drop i t) ≡ sameOf (drop (i + 1) s) (drop (i + 1) t)
   unfolding sameOf
   same-next l q =
       rw (add-one, drop-cons s i 0 l, drop-cons t i 0 (omega arith), eq-eqb (getD s i 0) (getD t i 0) q)

@@ -3,7 +3,6 @@ use Prim.Native.Nat.{ℕ, _+_, _-_}
 use mathlib.Core.Bool.{Bool, true, false}
 use mathlib.Core.List.{List, []}
 use lib.Dec.{eqb, leb, ltb}
-use Rattle.basis.specs.Board.{pages, flashSize}
 use Rattle.basis.specs.Choice.{pick, both}
 use Rattle.basis.specs.Units.{startOf}
 use Rattle.runs.specs.Map.{named}
@@ -37,13 +36,13 @@ isValid (Phase.Ended Outcome.NoGreeting) = false
 isValid (Phase.Ended Outcome.Other) = false
 
 -- the packet that is out for its answer; an ending has none
-abbrev pub packetOut : List ℕ → List ℕ → RunKind → Phase → List ℕ
-packetOut image m kind Phase.Greeting = []
-packetOut image m kind (Phase.Erase p) = erasePacket m (p .0)
-packetOut image m kind (Phase.Write a) = writePacket image m (a .0)
-packetOut image m kind (Phase.Verify a) = verifyPacket image m (a .0)
-packetOut image m kind Phase.Run = runPacket kind
-packetOut image m kind (Phase.Ended o) = []
+abbrev pub packetOut : ℕ → List ℕ → List ℕ → RunKind → Phase → List ℕ
+packetOut board image m kind Phase.Greeting = []
+packetOut board image m kind (Phase.Erase p) = erasePacket board m (p .0)
+packetOut board image m kind (Phase.Write a) = writePacket image m (a .0)
+packetOut board image m kind (Phase.Verify a) = verifyPacket image m (a .0)
+packetOut board image m kind Phase.Run = runPacket kind
+packetOut board image m kind (Phase.Ended o) = []
 
 -- the phases at a page and at an address
 abbrev pub eraseAt : ℕ → Phase
@@ -56,71 +55,75 @@ abbrev pub verifyAt : ℕ → Phase
 verifyAt a = Phase.Verify (record { 0 = a })
 
 -- the phase after k acknowledgements: its packet is the k-th of the plan, counted from 0
-unfoldable pub phaseAt : List ℕ → ℕ → Phase
-phaseAt m k =
-    pick (ltb k (runCount m)) (eraseAt (select (runStarts m) k pages))
-    (pick (ltb k (beforeVerify m)) (writeAt (select (pieceStarts m) (k - runCount m) flashSize))
-    (pick (ltb k (beforeRun m))
-    (verifyAt (select (pieceStarts m) (k - beforeVerify m) flashSize))
+unfoldable pub phaseAt : ℕ → List ℕ → ℕ → Phase
+phaseAt board m k =
+    pick (ltb k (runCount board m)) (eraseAt (select (runStarts board m) k board))
+    (pick (ltb k (beforeVerify board m))
+    (writeAt (select (pieceStarts m) (k - runCount board m) (startOf board)))
+    (pick (ltb k (beforeRun board m))
+    (verifyAt (select (pieceStarts m) (k - beforeVerify board m) (startOf board)))
     Phase.Run))
 
 -- that packet: the one that is out after k acknowledgements
-abbrev pub packetAt : List ℕ → List ℕ → RunKind → ℕ → List ℕ
-packetAt image m kind k = packetOut image m kind (phaseAt m k)
+abbrev pub packetAt : ℕ → List ℕ → List ℕ → RunKind → ℕ → List ℕ
+packetAt board image m kind k = packetOut board image m kind (phaseAt board m k)
 
 -- the first touched page and the first named byte
-abbrev pub lowestRun : List ℕ → ℕ
-lowestRun m = next (touched m) 0 pages
+abbrev pub lowestRun : ℕ → List ℕ → ℕ
+lowestRun board m = next (touched m) 0 board
 
-abbrev pub lowestPiece : List ℕ → ℕ
-lowestPiece m = next (named m) 0 flashSize
+abbrev pub lowestPiece : ℕ → List ℕ → ℕ
+lowestPiece board m = next (named m) 0 (startOf board)
 
--- where the run after the one at q and the piece after the one at a start; the board's end where there is none
-abbrev pub nextRun : List ℕ → ℕ → ℕ
-nextRun m q = follow (touched m) pages pages q
+-- where the run after the one at q and the piece after the one
+-- at a start; the board's end where there is none
+abbrev pub nextRun : ℕ → List ℕ → ℕ → ℕ
+nextRun board m q = follow (touched m) board board q
 
-abbrev pub nextPiece : List ℕ → ℕ → ℕ
-nextPiece m a = follow (named m) pieceMost flashSize a
+abbrev pub nextPiece : ℕ → List ℕ → ℕ → ℕ
+nextPiece board m a = follow (named m) pieceMost (startOf board) a
 
 -- the phase that follows when the answer is the right one
-unfoldable pub afterOf : List ℕ → Phase → Phase
-afterOf m Phase.Greeting = eraseAt (lowestRun m)
-afterOf m (Phase.Erase p) =
-    pick (ltb (nextRun m (p .0)) pages) (eraseAt (nextRun m (p .0))) (writeAt (lowestPiece m))
-afterOf m (Phase.Write a) =
-    pick (ltb (nextPiece m (a .0)) flashSize) (writeAt (nextPiece m (a .0))) (verifyAt (lowestPiece m))
-afterOf m (Phase.Verify a) =
-    pick (ltb (nextPiece m (a .0)) flashSize) (verifyAt (nextPiece m (a .0))) Phase.Run
-afterOf m Phase.Run = Phase.Ended Outcome.Valid
-afterOf m (Phase.Ended o) = Phase.Ended o
+unfoldable pub afterOf : ℕ → List ℕ → Phase → Phase
+afterOf board m Phase.Greeting = eraseAt (lowestRun board m)
+afterOf board m (Phase.Erase p) =
+    pick (ltb (nextRun board m (p .0)) board) (eraseAt (nextRun board m (p .0)))
+    (writeAt (lowestPiece board m))
+afterOf board m (Phase.Write a) =
+    pick (ltb (nextPiece board m (a .0)) (startOf board)) (writeAt (nextPiece board m (a .0)))
+    (verifyAt (lowestPiece board m))
+afterOf board m (Phase.Verify a) =
+    pick (ltb (nextPiece board m (a .0)) (startOf board)) (verifyAt (nextPiece board m (a .0))) Phase.Run
+afterOf board m Phase.Run = Phase.Ended Outcome.Valid
+afterOf board m (Phase.Ended o) = Phase.Ended o
 
 -- the cursor stands where a run of pages or a piece starts
-abbrev pub atStart : List ℕ → Phase → Bool
-atStart m Phase.Greeting = true
-atStart m (Phase.Erase p) = runStarts m (p .0)
-atStart m (Phase.Write a) = pieceStarts m (a .0)
-atStart m (Phase.Verify a) = pieceStarts m (a .0)
-atStart m Phase.Run = true
-atStart m (Phase.Ended o) = true
+abbrev pub atStart : ℕ → List ℕ → Phase → Bool
+atStart board m Phase.Greeting = true
+atStart board m (Phase.Erase p) = runStarts board m (p .0)
+atStart board m (Phase.Write a) = pieceStarts m (a .0)
+atStart board m (Phase.Verify a) = pieceStarts m (a .0)
+atStart board m Phase.Run = true
+atStart board m (Phase.Ended o) = true
 
 -- the place is a start, and the k-th from base on
 abbrev pub ranked : (ℕ → Bool) → ℕ → ℕ → ℕ → Bool
 ranked starts base a k = both (starts a) (eqb (base + count starts a) k)
 
 -- the phase has the k-th packet of the file out, or waits for the greeting with none acknowledged
-unfoldable pub standsIn : List ℕ → Phase → ℕ → Bool
-standsIn m Phase.Greeting k = eqb k 0
-standsIn m (Phase.Erase p) k = ranked (runStarts m) 0 (p .0) k
-standsIn m (Phase.Write a) k = ranked (pieceStarts m) (runCount m) (a .0) k
-standsIn m (Phase.Verify a) k = ranked (pieceStarts m) (beforeVerify m) (a .0) k
-standsIn m Phase.Run k = eqb (beforeRun m) k
-standsIn m (Phase.Ended o) k = false
+unfoldable pub standsIn : ℕ → List ℕ → Phase → ℕ → Bool
+standsIn board m Phase.Greeting k = eqb k 0
+standsIn board m (Phase.Erase p) k = ranked (runStarts board m) 0 (p .0) k
+standsIn board m (Phase.Write a) k = ranked (pieceStarts m) (runCount board m) (a .0) k
+standsIn board m (Phase.Verify a) k = ranked (pieceStarts m) (beforeVerify board m) (a .0) k
+standsIn board m Phase.Run k = eqb (beforeRun board m) k
+standsIn board m (Phase.Ended o) k = false
 
 -- the address that a phase's cursor names: 0 where it has none, the board's end for a page past the board
-unfoldable pub placeOf : Phase → ℕ
-placeOf Phase.Greeting = 0
-placeOf (Phase.Erase p) = pick (leb pages (p .0)) flashSize (startOf (p .0))
-placeOf (Phase.Write a) = a .0
-placeOf (Phase.Verify a) = a .0
-placeOf Phase.Run = 0
-placeOf (Phase.Ended o) = 0
+unfoldable pub placeOf : ℕ → Phase → ℕ
+placeOf board Phase.Greeting = 0
+placeOf board (Phase.Erase p) = pick (leb board (p .0)) (startOf board) (startOf (p .0))
+placeOf board (Phase.Write a) = a .0
+placeOf board (Phase.Verify a) = a .0
+placeOf board Phase.Run = 0
+placeOf board (Phase.Ended o) = 0

@@ -5,7 +5,6 @@ use mathlib.Core.Bool.{Bool}
 use mathlib.Core.List.{List, [], _∷_, _++_, map}
 use lib.Dec.{eqb}
 use lib.ListN.{take, drop}
-use Rattle.basis.specs.Board.{pages, flashSize}
 use Rattle.basis.specs.Choice.{pick, either}
 use Rattle.basis.specs.Units.{startOf}
 use Rattle.packet.specs.Packet.{packet}
@@ -26,8 +25,8 @@ abbrev pub carriesPiece : ℕ → Bool
 carriesPiece c = either (eqb c 0x57) (eqb c 0x56)
 
 -- E for the run of pages at q, W and V for the piece at a, and R
-abbrev pub erasePacket : List ℕ → ℕ → List ℕ
-erasePacket m q = packet 0x45 (startOf q) (runLen m q ∷ [])
+abbrev pub erasePacket : ℕ → List ℕ → ℕ → List ℕ
+erasePacket board m q = packet 0x45 (startOf q) (runLen board m q ∷ [])
 
 abbrev pub writePacket : List ℕ → List ℕ → ℕ → List ℕ
 writePacket image m a = packet 0x57 a (pieceBytes image m a)
@@ -44,20 +43,20 @@ places p zero = []
 places p (suc n) = pick (p n) (places p n ++ (n ∷ [])) (places p n)
 
 -- all packets of the file
-unfoldable pub plan : List ℕ → List ℕ → RunKind → List (List ℕ)
-plan image m kind =
-    map (erasePacket m) (places (runStarts m) pages)
-    ++ (map (writePacket image m) (places (pieceStarts m) flashSize)
-    ++ (map (verifyPacket image m) (places (pieceStarts m) flashSize)
+unfoldable pub plan : ℕ → List ℕ → List ℕ → RunKind → List (List ℕ)
+plan board image m kind =
+    map (erasePacket board m) (places (runStarts board m) board)
+    ++ (map (writePacket image m) (places (pieceStarts m) (startOf board))
+    ++ (map (verifyPacket image m) (places (pieceStarts m) (startOf board))
     ++ (runPacket kind ∷ [])))
 
 -- the packets before the first V and before R, with e erases and w pieces: e + w and e + 2w
-abbrev pub beforeVerify : List ℕ → ℕ
-beforeVerify m = runCount m + pieceCount m
+abbrev pub beforeVerify : ℕ → List ℕ → ℕ
+beforeVerify board m = runCount board m + pieceCount board m
 
-abbrev pub beforeRun : List ℕ → ℕ
-beforeRun m = runCount m + 2 * pieceCount m
+abbrev pub beforeRun : ℕ → List ℕ → ℕ
+beforeRun board m = runCount board m + 2 * pieceCount board m
 
 -- with R the total is e + 2w + 1
-abbrev pub total : List ℕ → ℕ
-total m = beforeRun m + 1
+abbrev pub total : ℕ → List ℕ → ℕ
+total board m = beforeRun board m + 1

@@ -20,7 +20,7 @@ use runs::places::row_len;
 
 // The address that the cursor names: 0 where the phase has none, the board's end for a page past the board.
 pub fn place(phase: Phase) -> Address
-    ensures { λ r. ⌜ r .0 ≡ placeOf phase ⌝ }
+    ensures { λ r. ⌜ r .0 ≡ placeOf pages phase ⌝ }
 {
     match phase {
         Phase::Greeting => Address(0),
@@ -33,7 +33,7 @@ pub fn place(phase: Phase) -> Address
 }
 
 fn page_place(page: Page) -> Address
-    ensures { λ r. ⌜ r .0 ≡ placeOf (Phase.Erase page) ⌝ }
+    ensures { λ r. ⌜ r .0 ≡ placeOf pages (Phase.Erase page) ⌝ }
 {
     if PAGES <= page.0 {
         return Address(END);
@@ -43,8 +43,8 @@ fn page_place(page: Page) -> Address
 
 // What a session waits for once the right answer has come.
 pub fn after(map: &[u8], phase: Phase) -> Phase
-    requires { ⌜ (length (now map) ≡ mapSize) × (atStart (now map) phase ≡ true) ⌝ }
-    ensures { λ r. ⌜ r ≡ afterOf (now (map .entry)) phase ⌝ }
+    requires { ⌜ (length (now map) ≡ mapSize) × (atStart pages (now map) phase ≡ true) ⌝ }
+    ensures { λ r. ⌜ r ≡ afterOf pages (now (map .entry)) phase ⌝ }
 {
     match phase {
         Phase::Greeting => Phase::Erase(first_run(map)),
@@ -58,7 +58,7 @@ pub fn after(map: &[u8], phase: Phase) -> Phase
 
 fn after_erase(map: &[u8], page: Page) -> Phase
     requires { ⌜ (length (now map) ≡ mapSize) × (page .0 < pages) ⌝ }
-    ensures { λ r. ⌜ r ≡ afterOf (now (map .entry)) (Phase.Erase page) ⌝ }
+    ensures { λ r. ⌜ r ≡ afterOf pages (now (map .entry)) (Phase.Erase page) ⌝ }
 {
     let next = next_run(map, page);
     if next.0 < PAGES {
@@ -69,7 +69,7 @@ fn after_erase(map: &[u8], page: Page) -> Phase
 
 fn after_write(map: &[u8], address: Address) -> Phase
     requires { ⌜ (length (now map) ≡ mapSize) × (address .0 < flashSize) ⌝ }
-    ensures { λ r. ⌜ r ≡ afterOf (now (map .entry)) (Phase.Write address) ⌝ }
+    ensures { λ r. ⌜ r ≡ afterOf pages (now (map .entry)) (Phase.Write address) ⌝ }
 {
     let next = next_piece(map, address);
     if next.0 < END {
@@ -80,7 +80,7 @@ fn after_write(map: &[u8], address: Address) -> Phase
 
 fn after_verify(map: &[u8], address: Address) -> Phase
     requires { ⌜ (length (now map) ≡ mapSize) × (address .0 < flashSize) ⌝ }
-    ensures { λ r. ⌜ r ≡ afterOf (now (map .entry)) (Phase.Verify address) ⌝ }
+    ensures { λ r. ⌜ r ≡ afterOf pages (now (map .entry)) (Phase.Verify address) ⌝ }
 {
     let next = next_piece(map, address);
     if next.0 < END {
@@ -91,14 +91,14 @@ fn after_verify(map: &[u8], address: Address) -> Phase
 
 fn first_run(map: &[u8]) -> Page
     requires { ⌜ length (now map) ≡ mapSize ⌝ }
-    ensures { λ r. ⌜ r .0 ≡ lowestRun (now (map .entry)) ⌝ }
+    ensures { λ r. ⌜ r .0 ≡ lowestRun pages (now (map .entry)) ⌝ }
 {
     next_touched(map, Page(0), Page(PAGES))
 }
 
 fn first_piece(map: &[u8]) -> Address
     requires { ⌜ length (now map) ≡ mapSize ⌝ }
-    ensures { λ r. ⌜ r .0 ≡ lowestPiece (now (map .entry)) ⌝ }
+    ensures { λ r. ⌜ r .0 ≡ lowestPiece pages (now (map .entry)) ⌝ }
 {
     next_named(map, Address(0), Address(END))
 }
@@ -106,7 +106,7 @@ fn first_piece(map: &[u8]) -> Address
 // The run after the one at `page`, or the board's end.
 fn next_run(map: &[u8], page: Page) -> Page
     requires { ⌜ (length (now map) ≡ mapSize) × (page .0 < pages) ⌝ }
-    ensures { λ r. ⌜ r .0 ≡ nextRun (now (map .entry)) (page .0) ⌝ }
+    ensures { λ r. ⌜ r .0 ≡ nextRun pages (now (map .entry)) (page .0) ⌝ }
 {
     let end = page.0 + page_row_len(map, page, PAGES);
     next_touched(map, Page(end), Page(PAGES))
@@ -115,7 +115,7 @@ fn next_run(map: &[u8], page: Page) -> Page
 // The piece after the one at `address`, or the board's end.
 fn next_piece(map: &[u8], address: Address) -> Address
     requires { ⌜ (length (now map) ≡ mapSize) × (address .0 < flashSize) ⌝ }
-    ensures { λ r. ⌜ r .0 ≡ nextPiece (now (map .entry)) (address .0) ⌝ }
+    ensures { λ r. ⌜ r .0 ≡ nextPiece pages (now (map .entry)) (address .0) ⌝ }
 {
     let end = address.0 + row_len(map, address, PIECE);
     next_named(map, Address(end), Address(END))

@@ -3,7 +3,7 @@ ghost use mathlib.Core.Path.{_≡_};
 ghost use mathlib.Core.Bool.{true};
 ghost use Prim.Native.Nat.{_+_, _≤_};
 ghost use lib.ListN.{length, getD};
-ghost use Rattle.basis.specs.Board.{flashSize, mapSize};
+ghost use Rattle.basis.specs.Board.{flashSize, mapSize, pages};
 ghost use Rattle.basis.specs.Lists.{overlay};
 ghost use Rattle.packet.specs.Packet.{packet, packetMost};
 ghost use Rattle.packet.specs.Table.{listed, inShape};
@@ -25,10 +25,10 @@ use runs::places::row_len;
 pub fn send(image: &[u8], map: &[u8], kind: RunKind, phase: Phase, buffer: &mut [u8]) -> usize
     requires { ⌜
         (length (now image) ≡ flashSize) × (length (now map) ≡ mapSize) × (packetMost ≤ length (now buffer))
-        × (atStart (now map) phase ≡ true)
+        × (atStart pages (now map) phase ≡ true)
         ⌝ }
     ensures { λ r. ⌜
-        (let p = packetOut (now (image .entry)) (now (map .entry)) kind phase in
+        (let p = packetOut pages (now (image .entry)) (now (map .entry)) kind phase in
         (r ≡ length p) × (now (buffer .exit) ≡ overlay p (now (buffer .entry))))
         ⌝ }
 {
@@ -45,10 +45,10 @@ pub fn send(image: &[u8], map: &[u8], kind: RunKind, phase: Phase, buffer: &mut 
 fn send_erase(map: &[u8], page: Page, buffer: &mut [u8]) -> usize
     requires { ⌜
         (length (now map) ≡ mapSize) × (packetMost ≤ length (now buffer))
-        × (runStarts (now map) (page .0) ≡ true)
+        × (runStarts pages (now map) (page .0) ≡ true)
         ⌝ }
     ensures { λ r. ⌜
-        (let p = erasePacket (now (map .entry)) (page .0) in
+        (let p = erasePacket pages (now (map .entry)) (page .0) in
         (r ≡ length p) × (now (buffer .exit) ≡ overlay p (now (buffer .entry))))
         ⌝ }
 {

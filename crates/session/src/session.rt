@@ -4,7 +4,7 @@ ghost use mathlib.Core.Bool.{true};
 ghost use Prim.Native.Nat.{_+_, _*_, _^_, _<_, _≤_};
 ghost use lib.Dec.{eqb};
 ghost use lib.ListN.{length};
-ghost use Rattle.basis.specs.Board.{flashSize, mapSize};
+ghost use Rattle.basis.specs.Board.{flashSize, mapSize, pages};
 ghost use Rattle.basis.specs.Choice.{pick, both};
 ghost use Rattle.basis.specs.Lists.{overlay};
 ghost use Rattle.packet.specs.Packet.{packetMost};
@@ -91,7 +91,8 @@ impl Session {
     // Writes the byte that opens the board, and waits for its greeting.
     pub fn start(kind: RunKind, image: &[u8], map: &[u8], buffer: &mut [u8]) -> Stepped
         ensures { λ r. ⌜
-            (let a = started (now (image .entry)) (now (map .entry)) (length (now (buffer .entry))) kind in
+            (let a = started pages (now (image .entry)) (now (map .entry)) (length (now (buffer .entry)))
+            kind in
             (paperStepped r ≡ measured a)
             × (now (buffer .exit) ≡ overlay (sentBytes a) (now (buffer .entry))))
             ⌝ }
@@ -126,7 +127,8 @@ impl Session {
     ) -> Stepped
         ensures { λ r. ⌜
             (let e = classifyOf silent (now (answer .entry)) in
-            let a = stepOf (now (image .entry)) (now (map .entry)) (length (now (buffer .entry))) self e in
+            let a = stepOf pages (now (image .entry)) (now (map .entry)) (length (now (buffer .entry)))
+            self e in
             (paperStepped r ≡ measured a)
             × (now (buffer .exit) ≡ overlay (sentBytes a) (now (buffer .entry))))
             ⌝ }
@@ -147,7 +149,7 @@ impl Session {
 
     // Whether the byte is marked: the V of its piece is among the packets acknowledged.
     pub fn proved(self, map: &[u8], address: Address) -> Mark
-        ensures { λ r. ⌜ paperMark r ≡ provedOf (now (map .entry)) self (address .0) ⌝ }
+        ensures { λ r. ⌜ paperMark r ≡ provedOf pages (now (map .entry)) self (address .0) ⌝ }
     {
         if map.len() != MAP {
             return Mark::Size;
@@ -171,7 +173,7 @@ impl Session {
     // Whether some start and acknowledgements over this file lead here; one pass tells.
     fn fits(self, map: &[u8]) -> bool
         requires { ⌜ length (now map) ≡ mapSize ⌝ }
-        ensures { λ r. ⌜ r ≡ fitsOf (now (map .entry)) self ⌝ }
+        ensures { λ r. ⌜ r ≡ fitsOf pages (now (map .entry)) self ⌝ }
     {
         let phase = self.phase;
         let at = place(phase);
@@ -205,10 +207,10 @@ impl Session {
     fn sent(self, event: Event, image: &[u8], map: &[u8], buffer: &mut [u8]) -> Next
         requires { ⌜
             (length (now image) ≡ flashSize) × (length (now map) ≡ mapSize)
-            × (packetMost ≤ length (now buffer)) × (fitsOf (now map) self ≡ true)
+            × (packetMost ≤ length (now buffer)) × (fitsOf pages (now map) self ≡ true)
             ⌝ }
         ensures { λ r. ⌜
-            (let a = sentOf (now (image .entry)) (now (map .entry)) self event in
+            (let a = sentOf pages (now (image .entry)) (now (map .entry)) self event in
             (r .session ≡ a .session) × (r .len ≡ length (a .packet))
             × (now (buffer .exit) ≡ overlay (a .packet) (now (buffer .entry))))
             ⌝ }
@@ -222,10 +224,10 @@ impl Session {
 
     fn took(self, event: Event, map: &[u8]) -> Session
         requires { ⌜
-            (length (now map) ≡ mapSize) × (atStart (now map) (self .phase) ≡ true)
+            (length (now map) ≡ mapSize) × (atStart pages (now map) (self .phase) ≡ true)
             × (self .acknowledged < 2 ^ 31)
             ⌝ }
-        ensures { λ r. ⌜ r ≡ tookOf (now (map .entry)) self event ⌝ }
+        ensures { λ r. ⌜ r ≡ tookOf pages (now (map .entry)) self event ⌝ }
     {
         let phase = self.phase;
         let meaning = judge(phase, event);
@@ -235,10 +237,10 @@ impl Session {
     // On along the file, or over.
     fn heard(self, meaning: Meaning, map: &[u8]) -> Session
         requires { ⌜
-            (length (now map) ≡ mapSize) × (atStart (now map) (self .phase) ≡ true)
+            (length (now map) ≡ mapSize) × (atStart pages (now map) (self .phase) ≡ true)
             × (self .acknowledged < 2 ^ 31)
             ⌝ }
-        ensures { λ r. ⌜ r ≡ heardOf (now (map .entry)) self meaning ⌝ }
+        ensures { λ r. ⌜ r ≡ heardOf pages (now (map .entry)) self meaning ⌝ }
     {
         let phase = self.phase;
         match meaning {
@@ -304,7 +306,7 @@ fn judge_later(event: Event) -> Meaning
 }
 
 fn right_sizes(image: usize, map: usize, packet: usize) -> bool
-    ensures { λ r. ⌜ r ≡ rightSizes image map packet ⌝ }
+    ensures { λ r. ⌜ r ≡ rightSizes pages image map packet ⌝ }
 {
     if image != SIZE {
         return false;

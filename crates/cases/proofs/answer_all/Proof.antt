@@ -7,7 +7,8 @@ use Rattle.cases.proofs.answer_all.Tie as tie
 
 abbrev Inv-loop : tie.InvT-loop
 Inv-loop buffer₀ flash₀ image₀ map₀ bench₀ turns₀ buffer flash image map bench turns =
-    (length buffer ≡ length buffer₀) × (length flash ≡ length flash₀) × (length image ≡ length image₀) × (length map ≡ length map₀)
+    (length buffer ≡ length buffer₀) × (length flash ≡ length flash₀) × (length image ≡ length image₀) ×
+    (length map ≡ length map₀)
 
 abbrev μ-loop : tie.MeasureT-loop
 μ-loop buffer₀ flash₀ image₀ map₀ bench₀ turns₀ buffer flash image map bench turns = turns

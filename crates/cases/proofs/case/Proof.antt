@@ -17,10 +17,18 @@ same-length : tie.Need-same-length
 same-length c = omega (arith, c .before .before .before .before .before .before .words2 .kept)
 
 same-length-2 : tie.Need-same-length-2
-same-length-2 c = omega (arith, c .before .before .before .before .before .before .before .before .before .before .before .before .before .before .words .kept)
+same-length-2 c =
+    omega (
+      arith,
+      c .before .before .before .before .before .before .before .before .before .before .before .before .before .before .words .kept,
+    )
 
 same-length-3 : tie.Need-same-length-3
-same-length-3 c = omega (arith, c .before .before .before .before .before .before .before .before .before .before .before .before .before .before .words .kept)
+same-length-3 c =
+    omega (
+      arith,
+      c .before .before .before .before .before .before .before .before .before .before .before .before .before .before .words .kept,
+    )
 
 returns : tie.Need-returns
 returns c = search needs

@@ -1,4 +1,5 @@
--- What is shown of a state stands for that state, so a caller who passes on what was handed back goes the paper's way.
+-- What is shown of a state stands for that state, so a caller who
+-- passes on what was handed back goes the paper's way.
 use mathlib.Core.Bool.{Bool, true, false}
 use mathlib.Core.Path.{_≡_, refl}
 use Rattle.image.specs.declared.hex.Hex.{Hex}
@@ -24,13 +25,22 @@ pub loader-back : (l : Loader) → loaderMeant (loaderShown l) ≡ l
 loader-back l =
     λ i. record {
       condition = condition-back (l .condition) i;
-      sequence = record { opened = flag-back (l .sequence .opened) i; added = record { groups = l .sequence .added .groups; read = flag-back (l .sequence .added .read) i } };
+      sequence = record {
+        opened = flag-back (l .sequence .opened) i;
+        added = record { groups = l .sequence .added .groups; read = flag-back (l .sequence .added .read) i };
+      };
       protection = record { groups = l .protection .groups; read = flag-back (l .protection .read) i };
       key = l .key;
     }
 
 pub hex-back : (h : Hex) → hexMeant (hexShown h) ≡ h
-hex-back h = λ i. record { linear = h .linear; segment = h .segment; ended = flag-back (h .ended) i; taken = flag-back (h .taken) i }
+hex-back h =
+    λ i. record {
+      linear = h .linear;
+      segment = h .segment;
+      ended = flag-back (h .ended) i;
+      taken = flag-back (h .taken) i;
+    }
 
 run-back : (k : RunKind) → runMeant (runShown k) ≡ k
 run-back RunKind.Reset = refl

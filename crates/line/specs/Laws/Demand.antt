@@ -4,15 +4,15 @@
 -- There are two kinds of moment and no other: an exchange is the loader's step, which alone changes loader
 -- and flash, and then the session's, which alone changes session and wire; so what stands is either what n
 -- exchanges leave (`loadAt`), or what the loader's step of one more leaves before the session's (`between`).
-use Prim.Native.Nat.{ℕ, _+_, _<_}
+use Prim.Native.Nat.{ℕ, _+_, _≤_, _<_}
 use mathlib.Core.Bool.{true, false}
 use mathlib.Core.List.{List, []}
 use mathlib.Core.Path.{_≡_}
 use native.Mathlib.Omega.{arith}
 use lib.ListN.{length}
-use Rattle.basis.specs.Board.{flashSize, mapSize}
 use Rattle.basis.specs.Laws.Choice.{decide}
 use Rattle.basis.specs.Lists.{Bytes}
+use Rattle.basis.specs.Units.{startOf}
 use Rattle.line.specs.Demand.{Stands, Valid, Safe, Free}
 use Rattle.line.specs.Laws.Moments as moments
 use Rattle.line.specs.Laws.Stages.{stage}
@@ -20,57 +20,59 @@ use Rattle.line.specs.Line.{between, reply, loadAt}
 use Rattle.line.specs.declared.exchange.Loss.{Loss}
 use Rattle.loader.specs.declared.state.Loader.{Loader}
 use Rattle.runs.specs.Map.{named}
-use Rattle.runs.specs.Pieces.{namedCount}
 use Rattle.session.specs.Phases.{ended}
 use Rattle.session.specs.Plan.{total}
+use Rattle.session.specs.Session.{Loadable}
 use Rattle.session.specs.declared.phase.Outcome.{Outcome}
 use Rattle.session.specs.declared.phase.Phase.{Phase}
 use Rattle.session.specs.declared.phase.RunKind.{RunKind}
 
 -- one file with at least one named byte, one run kind; the loader with any protection and any key, any flash;
 -- any losses
-module _ (image m before : List ℕ) (right : length image ≡ flashSize) (long : length m ≡ mapSize)
-    (some : 0 < namedCount m) (bytes : Bytes image) (kind : RunKind) (l : Loader)
-    (size : length before ≡ flashSize) (losses : ℕ → Loss) where
+module _ (board : ℕ) (few : board ≤ 255) (image m before : List ℕ) (file : Loadable board image m)
+    (bytes : Bytes image) (kind : RunKind) (l : Loader)
+    (size : length before ≡ startOf board) (losses : ℕ → Loss) where
   -- 1. At every moment each byte marked proved stands in flash as in the file, pages the file does not touch
   --    are as before, and no run packet is out and no session has ended valid unless every file byte is
   --    proved.
-  pub safe : (n : ℕ) → Safe image m before (loadAt image m kind l losses before n)
+  pub safe : (n : ℕ) → Safe board image m before (loadAt board image m kind l losses before n)
   safe n =
-      moments.stage-safe image m before right long kind l size n (loadAt image m kind l losses before n)
-      (stage image m before right long some bytes kind l size losses n)
+      moments.stage-safe board few image m before file kind l size n
+      (loadAt board image m kind l losses before n)
+      (stage board few image m before file bytes kind l size losses n)
 
-  pub safe-amid : (n : ℕ) → ended (loadAt image m kind l losses before n .session .phase) ≡ false
-      → Safe image m before (between (losses n) (loadAt image m kind l losses before n))
+  pub safe-amid : (n : ℕ) → ended (loadAt board image m kind l losses before n .session .phase) ≡ false
+      → Safe board image m before (between board (losses n) (loadAt board image m kind l losses before n))
   safe-amid n =
-      moments.amid-safe image m before right long kind l size (losses n) n
-      (loadAt image m kind l losses before n)
-      (stage image m before right long some bytes kind l size losses n)
+      moments.amid-safe board few image m before file kind l size (losses n) n
+      (loadAt board image m kind l losses before n)
+      (stage board few image m before file bytes kind l size losses n)
 
   -- 2. With nothing lost, no touched page in a protected group and no read protection, the session ends
   --    valid, and flash has every file byte.
-  pub valid : ((n : ℕ) → losses n ≡ Loss.Whole) → Free m l → (n : ℕ) → total m < n
-      → (Valid (loadAt image m kind l losses before n .session))
-      × ((a : ℕ) → named m a ≡ true → Stands (loadAt image m kind l losses before n .flash) image a)
+  pub valid : ((n : ℕ) → losses n ≡ Loss.Whole) → Free m l → (n : ℕ) → total board m < n
+      → (Valid (loadAt board image m kind l losses before n .session))
+      × ((a : ℕ) → named m a ≡ true → Stands (loadAt board image m kind l losses before n .flash) image a)
   valid whole free n b =
-      let v = moments.ends-valid image m before right long some bytes kind l size losses whole free n b in
+      let v = moments.ends-valid board few image m before file bytes kind l size losses whole free n b in
       (v, λ a t. safe n .proved-stands a (safe n .valid-proved v a t))
 
   -- 3. If any exchange of the load brings no answer, the session ends with 40 and never valid.
-  module _ (i : ℕ) (goes-on : ended (loadAt image m kind l losses before i .session .phase) ≡ false)
-      (no-answer : reply (losses i) (loadAt image m kind l losses before i) ≡ []) where
+  module _ (i : ℕ) (goes-on : ended (loadAt board image m kind l losses before i .session .phase) ≡ false)
+      (no-answer : reply board (losses i) (loadAt board image m kind l losses before i) ≡ []) where
     pub silent : (n : ℕ) → i < n
-        → loadAt image m kind l losses before n .session .phase ≡ Phase.Ended Outcome.Silence
+        → loadAt board image m kind l losses before n .session .phase ≡ Phase.Ended Outcome.Silence
     silent =
-        moments.silent image m before right long some bytes kind l size losses i goes-on no-answer
+        moments.silent board few image m before file bytes kind l size losses i goes-on no-answer
 
-    pub never-valid : (n : ℕ) → Valid (loadAt image m kind l losses before n .session) → ⊥
+    pub never-valid : (n : ℕ) → Valid (loadAt board image m kind l losses before n .session) → ⊥
     never-valid =
-        moments.never-valid image m before right long some bytes kind l size losses i goes-on no-answer
+        moments.never-valid board few image m before file bytes kind l size losses i goes-on no-answer
 
   -- A load ends by itself, after at most e + 2w + 2 exchanges.
-  pub finite : ended (loadAt image m kind l losses before (total m + 1) .session .phase) ≡ true
+  pub finite : ended (loadAt board image m kind l losses before (total board m + 1) .session .phase) ≡ true
   finite =
-      decide (ended (loadAt image m kind l losses before (total m + 1) .session .phase)) (λ t. t)
-      (λ t. let b = moments.going image m before right long some bytes kind l size losses (total m + 1) t in
+      decide (ended (loadAt board image m kind l losses before (total board m + 1) .session .phase)) (λ t. t)
+      (λ t. let b = moments.going board few image m before file bytes kind l size losses
+      (total board m + 1) t in
       absurd (omega arith))

@@ -5,7 +5,7 @@ use mathlib.Core.List.{List, [], _∷_}
 use mathlib.Core.Path.{_≡_, refl, sym, ap, _∙_}
 use borrow.Author.Tests.{eq-eqb}
 use lib.ListN.{length}
-use Rattle.basis.specs.Board.{flashSize, mapSize, greeting, openingByte}
+use Rattle.basis.specs.Board.{greeting, openingByte}
 use Rattle.basis.specs.Choice.{pick}
 use Rattle.basis.specs.Laws.Choice.{true-false}
 use Rattle.basis.specs.Refusals.{Answer, refused, given, bare}
@@ -16,14 +16,13 @@ use Rattle.loader.specs.State.{resetOf}
 use Rattle.loader.specs.Take.{waiting, quiet, tellOf, answerBytes}
 use Rattle.loader.specs.declared.state.Condition.the-variants.{Serving}
 use Rattle.loader.specs.declared.state.Loader.{Loader}
-use Rattle.runs.specs.Pieces.{namedCount}
 use Rattle.session.specs.Laws.Events.{ack-heard, bel-heard, silence-heard}
 use Rattle.session.specs.Laws.Series.{isAck, isGreeting, not-ack, not-greeting}
 use Rattle.session.specs.Laws.States.{greeting-state, ack-next, ack-last, step-state, waiting-fits}
 use Rattle.session.specs.Laws.Steps.{step-taken}
 use Rattle.session.specs.Phases.{packetOut, packetAt}
 use Rattle.session.specs.Plan.{total}
-use Rattle.session.specs.Session.{sessionIn, atGreeting, stateAt, rightSizes, tookOf, failing}
+use Rattle.session.specs.Session.{sessionIn, atGreeting, stateAt, rightSizes, tookOf, failing, Loadable}
 use Rattle.session.specs.declared.event.Event.{Event}
 use Rattle.session.specs.declared.phase.Outcome.{Outcome}
 use Rattle.session.specs.declared.phase.Phase.{Phase}
@@ -45,113 +44,121 @@ refusal-heard n = go (quiet n)
     go false = ap isAck bel-heard
 
 -- an ACK comes from a loader that has let the packet through, and nothing was lost
-pub acked : (o : Loss) (l : Loader) (s f : List ℕ) → l .condition ≡ Serving
-    → eventIn (arrives o l s f) ≡ Event.Ack → (o ≡ Loss.Whole) × (e : Effect) × (loaderTakes l s f ≡ given e)
-acked Loss.Whole l s f c h =
-    let w = ap (λ (w : Bool). eventIn (tellOf w (bare (loaderTakes l s f)))) (ap waiting c) in
-    go (loaderTakes l s f) refl (sym (ap isAck (sym w ∙ h)))
+pub acked : (board : ℕ) (o : Loss) (l : Loader) (s f : List ℕ) → l .condition ≡ Serving
+    → eventIn (arrives board o l s f) ≡ Event.Ack
+    → (o ≡ Loss.Whole) × (e : Effect) × (loaderTakes board l s f ≡ given e)
+acked board Loss.Whole l s f c h =
+    let w = ap (λ (w : Bool). eventIn (tellOf w (bare (loaderTakes board l s f)))) (ap waiting c) in
+    go (loaderTakes board l s f) refl (sym (ap isAck (sym w ∙ h)))
   where
-    go : (x : Answer Effect) → loaderTakes l s f ≡ x → true ≡ isAck (eventIn (tellOf false (bare x)))
-        → (Loss.Whole ≡ Loss.Whole) × (e : Effect) × (loaderTakes l s f ≡ given e)
+    go : (x : Answer Effect) → loaderTakes board l s f ≡ x → true ≡ isAck (eventIn (tellOf false (bare x)))
+        → (Loss.Whole ≡ Loss.Whole) × (e : Effect) × (loaderTakes board l s f ≡ given e)
     go (refused n) e t = absurd (true-false (t ∙ refusal-heard n))
     go (given y) e t = (refl, y, e)
-acked Loss.Lost l s f c h = absurd (true-false (sym (ap isAck (sym (silence-heard []) ∙ h))))
-acked Loss.Unanswered l s f c h = absurd (true-false (sym (ap isAck (sym (silence-heard []) ∙ h))))
+acked board Loss.Lost l s f c h = absurd (true-false (sym (ap isAck (sym (silence-heard []) ∙ h))))
+acked board Loss.Unanswered l s f c h = absurd (true-false (sym (ap isAck (sym (silence-heard []) ∙ h))))
 
 -- and what it lets through it acknowledges
-pub let-acked : (l : Loader) (s f : List ℕ) (e : Effect) → l .condition ≡ Serving
-    → loaderTakes l s f ≡ given e → eventIn (arrives Loss.Whole l s f) ≡ Event.Ack
-let-acked l s f e c q =
+pub let-acked : (board : ℕ) (l : Loader) (s f : List ℕ) (e : Effect) → l .condition ≡ Serving
+    → loaderTakes board l s f ≡ given e → eventIn (arrives board Loss.Whole l s f) ≡ Event.Ack
+let-acked board l s f e c q =
     ap (λ (x : Answer Effect). eventIn (answerBytes l x)) q
     ∙ ap (λ (w : Bool). eventIn (pick w greeting (0x06 ∷ []))) (ap waiting c) ∙ ack-heard
 
 -- ---- where the session stands then
 
 -- loader and flash when the opening byte has arrived or is lost
-abbrev pub opened : Loss → Loader → List ℕ → Effect
-opened o l f = delivered o (resetOf l) (openingByte ∷ []) f
+abbrev pub opened : ℕ → Loss → Loader → List ℕ → Effect
+opened board o l f = delivered board o (resetOf l) (openingByte ∷ []) f
 
 -- the session has ended
-abbrev pub over : List ℕ → RunKind → Effect → Outcome → ℕ → Moment
-over m kind e u k = momentWith e (sessionIn m kind (Phase.Ended u) k) []
+abbrev pub over : ℕ → List ℕ → RunKind → Effect → Outcome → ℕ → Moment
+over board m kind e u k = momentWith e (sessionIn board m kind (Phase.Ended u) k) []
 
-module _ (image m : List ℕ) (kind : RunKind) where
+module _ (board : ℕ) (image m : List ℕ) (kind : RunKind) where
   -- k packets are acknowledged and the next is on the wire
   abbrev pub standing : Effect → ℕ → Moment
-  standing e k = momentWith e (stateAt m kind k) (packetAt image m kind k)
+  standing e k = momentWith e (stateAt board m kind k) (packetAt board image m kind k)
 
   -- loader and flash when that packet has arrived or is lost
   abbrev pub served : Loss → Effect → ℕ → Effect
-  served o e k = delivered o (e .loader) (packetAt image m kind k) (e .flash)
+  served o e k = delivered board o (e .loader) (packetAt board image m kind k) (e .flash)
 
   -- the session has taken what it heard, and its next packet is on the wire
   abbrev went : Effect → Session → Moment
-  went e s = momentWith e s (packetOut image m kind (s .phase))
+  went e s = momentWith e s (packetOut board image m kind (s .phase))
 
-module _ (image m : List ℕ) (right : length image ≡ flashSize) (long : length m ≡ mapSize)
-    (some : 0 < namedCount m) (kind : RunKind) where
-  right-sizes : rightSizes (length image) (length m) packetMost ≡ true
-  right-sizes = rw (eq-eqb _ _ right, eq-eqb _ _ long)
+module _ (board : ℕ) (image m : List ℕ) (file : Loadable board image m) (kind : RunKind) where
+  right-sizes : rightSizes board (length image) (length m) packetMost ≡ true
+  right-sizes = rw (eq-eqb _ _ (file .right), eq-eqb _ _ (file .long))
 
   -- a packet
-  module _ (o : Loss) (e : Effect) (k : ℕ) (l : k < total m) where
+  module _ (o : Loss) (e : Effect) (k : ℕ) (l : k < total board m) where
     abbrev here : Moment
-    here = standing image m kind e k
+    here = standing board image m kind e k
 
     abbrev heard : Event
-    heard = eventIn (reply o here)
+    heard = eventIn (reply board o here)
 
     abbrev next : Session → Moment
-    next = went image m kind (served image m kind o e k)
+    next = went board image m kind (served board image m kind o e k)
 
-    pub taken : exchangeOf image m o here ≡ next (tookOf m (stateAt m kind k) heard)
+    pub taken : exchangeOf board image m o here ≡ next (tookOf board m (stateAt board m kind k) heard)
     unfolding exchangeOf
-    taken = ap (stepsOn (between o here)) (step-state image m packetMost kind right-sizes long some k heard l)
+    taken =
+        ap (stepsOn (between board o here))
+        (step-state board image m packetMost kind right-sizes (file .long) (file .some) k heard l)
 
-    pub on-ack : k + 1 < total m → heard ≡ Event.Ack
-        → exchangeOf image m o here ≡ standing image m kind (served image m kind o e k) (k + 1)
+    pub on-ack : k + 1 < total board m → heard ≡ Event.Ack
+        → exchangeOf board image m o here
+        ≡ standing board image m kind (served board image m kind o e k) (k + 1)
     on-ack n h =
-        taken ∙ ap (λ (v : Event). next (tookOf m (stateAt m kind k) v)) h
-        ∙ ap next (ack-next m long some kind k n)
+        taken ∙ ap (λ (v : Event). next (tookOf board m (stateAt board m kind k) v)) h
+        ∙ ap next (ack-next board m (file .long) (file .some) kind k n)
 
-    pub on-last : k + 1 ≡ total m → heard ≡ Event.Ack
-        → exchangeOf image m o here ≡ over m kind (served image m kind o e k) Outcome.Valid (total m)
+    pub on-last : k + 1 ≡ total board m → heard ≡ Event.Ack
+        → exchangeOf board image m o here
+        ≡ over board m kind (served board image m kind o e k) Outcome.Valid (total board m)
     on-last n h =
-        taken ∙ ap (λ (v : Event). next (tookOf m (stateAt m kind k) v)) h
-        ∙ ap next (ack-last m long some kind k n)
+        taken ∙ ap (λ (v : Event). next (tookOf board m (stateAt board m kind k) v)) h
+        ∙ ap next (ack-last board m (file .long) (file .some) kind k n)
 
     pub on-else : isAck heard ≡ false
         → (u : Outcome) × (failing u k ≡ true)
-        × (exchangeOf image m o here ≡ over m kind (served image m kind o e k) u k)
-    on-else h = let f = not-ack m long some kind k heard h l in (f .0, f .1, taken ∙ ap next (f .2))
+        × (exchangeOf board image m o here ≡ over board m kind (served board image m kind o e k) u k)
+    on-else h =
+        let f = not-ack board m (file .long) (file .some) kind k heard h l in
+        (f .0, f .1, taken ∙ ap next (f .2))
 
   -- the opening byte
   module _ (o : Loss) (l : Loader) (f : List ℕ) where
     abbrev start : Moment
-    start = begun m kind l f
+    start = begun board m kind l f
 
     abbrev first-heard : Event
-    first-heard = eventIn (reply o start)
+    first-heard = eventIn (reply board o start)
 
     abbrev first-next : Session → Moment
-    first-next = went image m kind (opened o l f)
+    first-next = went board image m kind (opened board o l f)
 
-    pub taken-first : exchangeOf image m o start ≡ first-next (tookOf m (atGreeting m kind) first-heard)
+    pub taken-first : exchangeOf board image m o start
+        ≡ first-next (tookOf board m (atGreeting board m kind) first-heard)
     unfolding exchangeOf
     taken-first =
-        ap (stepsOn (between o start))
-        (step-taken image m packetMost (atGreeting m kind) first-heard right-sizes refl
-        (waiting-fits m long some kind))
+        ap (stepsOn (between board o start))
+        (step-taken board image m packetMost (atGreeting board m kind) first-heard right-sizes refl
+        (waiting-fits board m (file .long) (file .some) kind))
 
     pub on-greeting : first-heard ≡ Event.Greeting
-        → exchangeOf image m o start ≡ standing image m kind (opened o l f) 0
+        → exchangeOf board image m o start ≡ standing board image m kind (opened board o l f) 0
     on-greeting h =
         taken-first
-        ∙ ap (λ (v : Event). first-next (tookOf m (atGreeting m kind) v)) h
-        ∙ ap first-next (greeting-state m long some kind)
+        ∙ ap (λ (v : Event). first-next (tookOf board m (atGreeting board m kind) v)) h
+        ∙ ap first-next (greeting-state board m (file .long) (file .some) kind)
 
     pub on-silence : first-heard ≡ Event.Silence
-        → (u : Outcome) × (failing u 0 ≡ true) × (exchangeOf image m o start ≡ over m kind (opened o l f) u 0)
+        → (u : Outcome) × (failing u 0 ≡ true)
+        × (exchangeOf board image m o start ≡ over board m kind (opened board o l f) u 0)
     on-silence h =
-        let g = not-greeting m long some kind first-heard (ap isGreeting h) in
+        let g = not-greeting board m (file .long) (file .some) kind first-heard (ap isGreeting h) in
         (g .0, g .1, taken-first ∙ ap first-next (g .2))

@@ -1,5 +1,5 @@
 -- With nothing lost and no protection in the way every packet is let through, and makes room for the next.
-use Prim.Native.Nat.{ℕ, suc, _+_, _-_, _≤_, _<_}
+use Prim.Native.Nat.{ℕ, suc, _+_, _≤_, _<_}
 use mathlib.Core.Bool.{true, false}
 use mathlib.Core.List.{List, map}
 use mathlib.Core.Path.{_≡_, refl, sym, ap, subst, _∙_}
@@ -9,7 +9,6 @@ use lib.Dec.{eqb}
 use lib.ListN.{length, getD, take, drop, length-map}
 use lib.Seq.{getD-take, getD-drop}
 use Rattle.basis.specs.Bits.{bit}
-use Rattle.basis.specs.Board.{pages, flashSize, mapSize}
 use Rattle.basis.specs.Laws.Choice.{decide}
 use Rattle.basis.specs.Laws.Lists.{bytes-take, bytes-drop}
 use Rattle.basis.specs.Lists.{Bytes}
@@ -39,10 +38,11 @@ use Rattle.runs.specs.Map.{named}
 use Rattle.runs.specs.Pages.{touched}
 use Rattle.runs.specs.Pieces.{pieceMost, pieceStarts, pieceLen, runStarts, runLen, runCount, pieceCount}
 use Rattle.runs.specs.Runs.{count}
-use Rattle.session.specs.Laws.Starts.{piece-carried}
+use Rattle.session.specs.Laws.Starts.{run-below, piece-carried}
 use Rattle.session.specs.Laws.Out.{Ranked, Out, erases, writes, verifies, runs}
 use Rattle.session.specs.Phases.{packetOut, packetAt}
 use Rattle.session.specs.Plan.{erasePacket, writePacket, pieceBytes, runAddress, beforeRun}
+use Rattle.session.specs.Session.{Loadable}
 use Rattle.session.specs.declared.phase.Phase.{Phase}
 use Rattle.session.specs.declared.phase.RunKind.{RunKind}
 
@@ -50,80 +50,88 @@ use Rattle.session.specs.declared.phase.RunKind.{RunKind}
 abbrev pieceRank : List ℕ → ℕ → ℕ
 pieceRank m a = count (pieceStarts m) (a + 1)
 
-abbrev runRank : List ℕ → ℕ → ℕ
-runRank m a = count (runStarts m) (pageOf a + 1)
+abbrev runRank : ℕ → List ℕ → ℕ → ℕ
+runRank board m a = count (runStarts board m) (pageOf a + 1)
 
 -- flash after k acknowledgements: the bytes whose W is among them stand, those whose E is and whose W is not
 -- are blank
-pub record Grows (image m : List ℕ) (k : ℕ) (f : List ℕ) : Type 0 where
-  pub size : length f ≡ flashSize
-  pub written : (a : ℕ) → named m a ≡ true → runCount m + pieceRank m a ≤ k → getD f a 0 ≡ getD image a 0
-  pub blank : (a : ℕ) → named m a ≡ true → runRank m a ≤ k → k < runCount m + pieceRank m a
+pub record Grows (board : ℕ) (image m : List ℕ) (k : ℕ) (f : List ℕ) : Type 0 where
+  pub size : length f ≡ startOf board
+  pub written : (a : ℕ) → named m a ≡ true → runCount board m + pieceRank m a ≤ k
+      → getD f a 0 ≡ getD image a 0
+  pub blank : (a : ℕ) → named m a ≡ true → runRank board m a ≤ k → k < runCount board m + pieceRank m a
       → getD f a 0 ≡ 0xFF
 
 -- the packet is let through, and leaves this
-pub record Lets (image m : List ℕ) (l : Loader) (s f : List ℕ) (k : ℕ) (e : Effect) : Type 0 where
-  pub let-is : loaderTakes l s f ≡ given e
-  pub grows : Grows image m (k + 1) (e .flash)
-  pub loader-is : k < beforeRun m → e .loader ≡ l
+pub record Lets (board : ℕ) (image m : List ℕ) (l : Loader) (s f : List ℕ) (k : ℕ) (e : Effect) : Type 0 where
+  pub let-is : loaderTakes board l s f ≡ given e
+  pub grows : Grows board image m (k + 1) (e .flash)
+  pub loader-is : k < beforeRun board m → e .loader ≡ l
 
-module _ (image m : List ℕ) (right : length image ≡ flashSize) (long : length m ≡ mapSize)
+module _ (board : ℕ) (few : board ≤ 255) (image m : List ℕ) (file : Loadable board image m)
     (bytes : Bytes image) (kind : RunKind) (l : Loader) (serves : Serves l) (free : Free m l)
-    (f : List ℕ) (k : ℕ) (h : Grows image m k f) where
+    (f : List ℕ) (k : ℕ) (h : Grows board image m k f) where
   -- the ranks of a named byte
   ranks : (a : ℕ) → named m a ≡ true
-      → (0 < pieceRank m a) × (pieceRank m a ≤ pieceCount m) × (runRank m a ≤ runCount m)
+      → (0 < pieceRank m a) × (pieceRank m a ≤ pieceCount board m) × (runRank board m a ≤ runCount board m)
   ranks a t =
-      let b = passes-below (named m) pieceMost flashSize (omega arith) (bytes-past m long) a t in (
+      let b = passes-below (named m) (startOf board) (bytes-past board m (file .long)) a t in (
         rank-some (named m) pieceMost (omega arith) a t,
-        count-mono (pieceStarts m) flashSize (a + 1) (omega arith),
-        count-mono (runStarts m) pages (pageOf a + 1) (omega arith),
+        count-mono (pieceStarts m) (startOf board) (a + 1) (omega arith),
+        count-mono (runStarts board m) board (pageOf a + 1) (omega arith),
       )
 
   -- ---- E
 
-  module _ (q : ℕ) (r : Ranked (runStarts m) q k) (b : k < runCount m) where
-    inside : q + runLen m q ≤ pages
-    inside = file-run m long q (r .begins)
+  module _ (q : ℕ) (r : Ranked (runStarts board m) q k) (b : k < runCount board m) where
+    some-page : 0 < board
+    some-page = omega (arith, run-below board m (file .long) q (r .begins))
+
+    inside : q + runLen board m q ≤ board
+    inside = file-run board m (file .long) q (r .begins)
 
     -- a byte of a run with this rank lies in the run
-    run-home : (a : ℕ) → named m a ≡ true → runRank m a ≡ k + 1 → (q ≤ pageOf a) × (pageOf a < q + runLen m q)
+    run-home : (a : ℕ) → named m a ≡ true → runRank board m a ≡ k + 1
+        → (q ≤ pageOf a) × (pageOf a < q + runLen board m q)
     run-home a t e =
-        rank-home (touched m) pages (omega arith) q (pageOf a) (r .begins) (named-touched m a t)
+        rank-home (touched m) board some-page q (pageOf a) (r .begins) (named-touched m a t)
         (omega (arith, e, r .rank-is))
 
-    erase-grows : Grows image m (k + 1) (erasedRun f m q)
+    erase-grows : Grows board image m (k + 1) (erasedRun board f m q)
     erase-grows =
         record {
-          size = length-erase f (startOf q) (startOf (runLen m q)) ∙ h .size;
+          size = length-erase f (startOf q) (startOf (runLen board m q)) ∙ h .size;
           written = λ a t c. absurd (omega (arith, ranks a t .0));
-          blank = λ a t c d. erase-or f (startOf q) (startOf (runLen m q)) a
-              (λ i u e. subst (λ (x : ℕ). getD (erasedRun f m q) x 0 ≡ 0xFF) e
-              (erase-at f (startOf q) (startOf (runLen m q)) i u (omega (arith, inside, h .size))))
-              (λ out same. decide (eqb (runRank m a) (k + 1))
-              (λ e. let n = run-home a t (eqb-true (runRank m a) (k + 1) e) in
+          blank = λ a t c d. erase-or f (startOf q) (startOf (runLen board m q)) a
+              (λ i u e. subst (λ (x : ℕ). getD (erasedRun board f m q) x 0 ≡ 0xFF) e
+              (erase-at f (startOf q) (startOf (runLen board m q)) i u (omega (arith, inside, h .size))))
+              (λ out same. decide (eqb (runRank board m a) (k + 1))
+              (λ e. let n = run-home a t (eqb-true (runRank board m a) (k + 1) e) in
               absurd (out (omega (arith, n .0)) (omega (arith, n .1))))
-              (λ e. same ∙ h .blank a t (omega (arith, eqb-false (runRank m a) (k + 1) e)) (omega arith)));
+              (λ e. same ∙ h .blank a t (omega (arith, eqb-false (runRank board m a) (k + 1) e))
+              (omega arith)));
         }
 
-    run-free : protectedPages (l .protection) q (q + runLen m q) ≡ false
+    run-free : protectedPages (l .protection) q (q + runLen board m q) ≡ false
     run-free =
-        let n = piece-some (touched m) pages (omega arith) q (r .begins) in
-        free-pages (l .protection) q (q + runLen m q) (omega arith)
-        (λ p u v. free .unprotected p (piece-passes (touched m) pages q p u v))
+        let n = piece-some (touched m) board some-page q (r .begins) in
+        free-pages (l .protection) q (q + runLen board m q) (omega arith)
+        (λ p u v. free .unprotected p (piece-passes (touched m) board q p u v))
 
-    erase-lets : packetAt image m kind k ≡ erasePacket m q
-        → Lets image m l (packetAt image m kind k) f k (record { loader = l; flash = erasedRun f m q })
+    erase-lets : packetAt board image m kind k ≡ erasePacket board m q
+        → Lets board image m l (packetAt board image m kind k) f k
+        (record { loader = l; flash = erasedRun board f m q })
     erase-lets e =
-        let n = piece-some (touched m) pages (omega arith) q (r .begins) in
+        let n = piece-some (touched m) board some-page q (r .begins) in
         let i = inside in
         record {
-          let-is = ap (λ (s : List ℕ). loaderTakes l s f) e
-              ∙ takes-erase image m right long l serves f (h .size) q (r .begins)
-              ∙ erase-passes pages l (startOf q) (runLen m q)
-              (given (record { loader = l; flash = erasedRun f m q }))
+          let-is = ap (λ (s : List ℕ). loaderTakes board l s f) e
+              ∙ takes-erase board few image m file l serves f (h .size) q (r .begins)
+              ∙ erase-passes board l (startOf q) (runLen board m q)
+              (given (record { loader = l; flash = erasedRun board f m q }))
               (λ z. omega arith) (omega arith) (omega arith)
-              (ap (λ (p : ℕ). protectedPages (l .protection) p (p + runLen m q)) (page-start q) ∙ run-free);
+              (ap (λ (p : ℕ). protectedPages (l .protection) p (p + runLen board m q)) (page-start q)
+              ∙ run-free);
           grows = erase-grows;
           loader-is = λ z. refl;
         }
@@ -135,10 +143,10 @@ module _ (image m : List ℕ) (right : length image ≡ flashSize) (long : lengt
     piece = pieceBytes image m s
 
     long-is : length piece ≡ pieceLen m s
-    long-is = piece-carried m long image s right (r .begins) .0
+    long-is = piece-carried board m (file .long) image s (file .right) (r .begins) .0
 
-    fits : s + pieceLen m s ≤ flashSize
-    fits = file-piece m long s (r .begins)
+    fits : s + pieceLen m s ≤ startOf board
+    fits = file-piece board m (file .long) s (r .begins)
 
     -- its bytes are named, and their rank is the piece's
     held : (i : ℕ) → i < pieceLen m s → (named m (s + i) ≡ true) × (pieceRank m (s + i) ≡ suc j)
@@ -155,7 +163,7 @@ module _ (image m : List ℕ) (right : length image ≡ flashSize) (long : lengt
     piece-bytes : Bytes piece
     piece-bytes = bytes-take (pieceLen m s) (drop s image) (bytes-drop s image bytes)
 
-    module _ (t : k ≡ runCount m + j) where
+    module _ (t : k ≡ runCount board m + j) where
       abbrev stored : List ℕ
       stored = storeOf f s piece
 
@@ -172,7 +180,7 @@ module _ (image m : List ℕ) (right : length image ≡ flashSize) (long : lengt
           ∙ getD-take (pieceLen m s) (drop s image) i 0 (omega (arith, long-is))
           ∙ getD-drop s image i 0
 
-      write-grows : Grows image m (k + 1) stored
+      write-grows : Grows board image m (k + 1) stored
       write-grows =
           record {
             size = length-store f s piece ∙ h .size;
@@ -195,13 +203,13 @@ module _ (image m : List ℕ) (right : length image ≡ flashSize) (long : lengt
           (λ b u v. subst (λ (g : ℕ). bit (l .protection .groups) g ≡ false) (omega arith)
           (free .unprotected (pageOf b) (piece-touched m pieceMost s b u (omega (arith, long-is)))))
 
-      write-lets : packetAt image m kind k ≡ writePacket image m s
-          → Lets image m l (packetAt image m kind k) f k (record { loader = l; flash = stored })
+      write-lets : packetAt board image m kind k ≡ writePacket image m s
+          → Lets board image m l (packetAt board image m kind k) f k (record { loader = l; flash = stored })
       write-lets e =
           record {
-            let-is = ap (λ (x : List ℕ). loaderTakes l x f) e
-                ∙ takes-write image m right long l serves f (h .size) s (r .begins)
-                ∙ write-passes pages l s (length piece) (given (record { loader = l; flash = stored }))
+            let-is = ap (λ (x : List ℕ). loaderTakes board l x f) e
+                ∙ takes-write board few image m file l serves f (h .size) s (r .begins)
+                ∙ write-passes board l s (length piece) (given (record { loader = l; flash = stored }))
                 (serves .sequence-is) (omega (arith, long-is, fits)) piece-free;
             grows = write-grows;
             loader-is = λ z. refl;
@@ -209,7 +217,7 @@ module _ (image m : List ℕ) (right : length image ≡ flashSize) (long : lengt
 
     -- ---- V
 
-    verify-same : runCount m + pieceCount m ≤ k → equalsOf f s (map turnedOf piece) ≡ true
+    verify-same : runCount board m + pieceCount board m ≤ k → equalsOf f s (map turnedOf piece) ≡ true
     verify-same c =
         stands-same f s (map turnedOf piece)
         (omega (arith, length-map piece turnedOf, long-is, fits, h .size))
@@ -219,7 +227,7 @@ module _ (image m : List ℕ) (right : length image ≡ flashSize) (long : lengt
         ∙ sym (undone restoredOf turnedOf restored-turned piece piece-bytes))
 
   -- past the last W nothing more is to be written
-  late-grows : runCount m + pieceCount m ≤ k → Grows image m (k + 1) f
+  late-grows : runCount board m + pieceCount board m ≤ k → Grows board image m (k + 1) f
   late-grows c =
       record {
         size = h .size;
@@ -227,22 +235,22 @@ module _ (image m : List ℕ) (right : length image ≡ flashSize) (long : lengt
         blank = λ a n d e. absurd (omega (arith, ranks a n .1));
       }
 
-  pub lets : Out m k → (e : Effect) × Lets image m l (packetAt image m kind k) f k e
+  pub lets : Out board m k → (e : Effect) × Lets board image m l (packetAt board image m kind k) f k e
   lets (erases q e r b) = (
-    record { loader = l; flash = erasedRun f m q },
-    erase-lets q r b (ap (packetOut image m kind) e),
+    record { loader = l; flash = erasedRun board f m q },
+    erase-lets q r b (ap (packetOut board image m kind) e),
   )
   lets (writes s j e r t b) = (
     record { loader = l; flash = stored s j r t },
-    write-lets s j r t (ap (packetOut image m kind) e),
+    write-lets s j r t (ap (packetOut board image m kind) e),
   )
   lets (verifies s j e r t b) = (
     record { loader = l; flash = f },
     record {
-      let-is = ap (λ (ph : Phase). loaderTakes l (packetOut image m kind ph) f) e
-          ∙ takes-verify image m right long l serves f (h .size) s (r .begins)
+      let-is = ap (λ (ph : Phase). loaderTakes board l (packetOut board image m kind ph) f) e
+          ∙ takes-verify board few image m file l serves f (h .size) s (r .begins)
           ∙ ap (keeping f)
-          (verify-passes pages l s (map turnedOf (pieceBytes image m s)) f (given l) (serves .sequence-is)
+          (verify-passes board l s (map turnedOf (pieceBytes image m s)) f (given l) (serves .sequence-is)
           (omega (arith, length-map (piece s j r) turnedOf, long-is s j r, fits s j r)) (free .readable)
           (verify-same s j r (omega arith)));
       grows = late-grows (omega arith);
@@ -252,8 +260,8 @@ module _ (image m : List ℕ) (right : length image ≡ flashSize) (long : lengt
   lets (runs e t) = (
     record { loader = withCondition l Left; flash = f },
     record {
-      let-is = ap (λ (ph : Phase). loaderTakes l (packetOut image m kind ph) f) e
-          ∙ takes-run image m right long l serves f (h .size) kind
+      let-is = ap (λ (ph : Phase). loaderTakes board l (packetOut board image m kind ph) f) e
+          ∙ takes-run board few image m file l serves f (h .size) kind
           ∙ ap (keeping f) (run-passes l (runAddress kind) (serves .sequence-is) (low kind));
       grows = late-grows (omega arith);
       loader-is = λ z. absurd (omega arith);

@@ -8,13 +8,13 @@ use native.Mathlib.Omega.{arith}
 use borrow.Author.Tests.{eqb-true, eqb-false, ltb-true, ltb-false}
 use lib.Dec.{eqb, ltb}
 use lib.ListN.{length}
-use Rattle.basis.specs.Board.{pages, flashSize, mapSize, openingByte}
+use Rattle.basis.specs.Board.{openingByte}
 use Rattle.basis.specs.Choice.{pick}
 use Rattle.basis.specs.Laws.Choice.{decide, true-false}
 use Rattle.basis.specs.Laws.Refusals.{given-one}
 use Rattle.basis.specs.Lists.{Bytes}
 use Rattle.basis.specs.Refusals.{Answer, given}
-use Rattle.basis.specs.Units.{pageOf, startOf}
+use Rattle.basis.specs.Units.{pageOf, startOf, mapOf}
 use Rattle.line.specs.Demand.{AllProved, RunOut, Valid, Safe, Free}
 use Rattle.line.specs.Laws.Exchange.{silence-is, let-acked, opened, standing, served, taken, on-ack, on-last, taken-first, on-greeting}
 use Rattle.line.specs.Laws.Liveness.{Grows, Lets, lets}
@@ -32,15 +32,16 @@ use Rattle.runs.specs.Laws.Pages.{named-touched}
 use Rattle.runs.specs.Laws.Pieces.{rank-some}
 use Rattle.runs.specs.Map.{named}
 use Rattle.runs.specs.Pages.{touched}
-use Rattle.runs.specs.Pieces.{pieceMost, runLen, namedCount}
+use Rattle.runs.specs.Pieces.{pieceMost, runLen}
 use Rattle.session.specs.Laws.Events.{greeting-heard}
 use Rattle.session.specs.Laws.Marks.{proved-is, all-marked}
 use Rattle.session.specs.Laws.Series.{silence-ends}
+use Rattle.session.specs.Laws.Starts.{some-page}
 use Rattle.session.specs.Laws.States.{phase-open}
 use Rattle.session.specs.Laws.Out.{Out, erases, writes, verifies, runs, out-after}
 use Rattle.session.specs.Phases.{ended, packetAt}
 use Rattle.session.specs.Plan.{pieceBytes, total, beforeRun}
-use Rattle.session.specs.Session.{atGreeting, stateAt, marked, tookOf, failing}
+use Rattle.session.specs.Session.{atGreeting, stateAt, marked, tookOf, failing, Loadable}
 use Rattle.session.specs.declared.event.Event.{Event}
 use Rattle.session.specs.declared.phase.Outcome.{Outcome}
 use Rattle.session.specs.declared.phase.Phase.{Phase}
@@ -49,9 +50,9 @@ use Rattle.session.specs.declared.session.Session.{Session}
 
 -- ---- the moments of any start
 
-module _ (image m : List ℕ) (losses : ℕ → Loss) (x : Moment) where
+module _ (board : ℕ) (image m : List ℕ) (losses : ℕ → Loss) (x : Moment) where
   abbrev at : ℕ → Moment
-  at = momentAt image m losses x
+  at = momentAt board image m losses x
 
   -- after the end nothing changes
   pub stays : (i n : ℕ) → i ≤ n → ended (at i .session .phase) ≡ true → at n ≡ at i
@@ -61,43 +62,45 @@ module _ (image m : List ℕ) (losses : ℕ → Loss) (x : Moment) where
       decide (eqb i (suc n))
       (λ t. ap at (sym (eqb-true i (suc n) t)))
       (λ t. let e = stays i n (omega (arith, eqb-false i (suc n) t)) h in
-      ap (λ (y : Bool). pick y (at n) (exchangeOf image m (losses n) (at n)))
+      ap (λ (y : Bool). pick y (at n) (exchangeOf board image m (losses n) (at n)))
       (ap (λ (y : Moment). ended (y .session .phase)) e ∙ h) ∙ e)
 
   -- while the session goes on the next exchange takes place
   pub follows : (n : ℕ) → ended (at n .session .phase) ≡ false
-      → at (suc n) ≡ exchangeOf image m (losses n) (at n)
+      → at (suc n) ≡ exchangeOf board image m (losses n) (at n)
   unfolding momentAt
-  follows n h = ap (λ (y : Bool). pick y (at n) (exchangeOf image m (losses n) (at n))) h
+  follows n h = ap (λ (y : Bool). pick y (at n) (exchangeOf board image m (losses n) (at n))) h
 
 -- ---- what flash holds makes a moment safe, if R and the verdict come late enough
 
-holds-safe : (image m before : List ℕ) (long : length m ≡ mapSize) (k : ℕ) (x : Moment)
-    → x .session .acknowledged ≡ k → Holds image m before k (x .flash)
-    → (RunOut x → beforeRun m ≤ k)
-    → (Valid (x .session) → beforeRun m ≤ k) → Safe image m before x
-holds-safe image m before long k x c h run val =
+holds-safe : (board : ℕ) (image m before : List ℕ) (long : length m ≡ mapOf board) (k : ℕ) (x : Moment)
+    → x .session .acknowledged ≡ k → Holds board image m before k (x .flash)
+    → (RunOut x → beforeRun board m ≤ k)
+    → (Valid (x .session) → beforeRun board m ≤ k) → Safe board image m before x
+holds-safe board image m before long k x c h run val =
     record {
-      proved-stands = λ a p. h .stands a (sym (is a) ∙ given-one (sym (proved-is m long (x .session) a) ∙ p));
+      proved-stands = λ a p. h .stands a
+          (sym (is a) ∙ given-one (sym (proved-is board m long (x .session) a) ∙ p));
       untouched-stays = h .untouched;
       run-proved = λ r. all (run r);
       valid-proved = λ v. all (val v);
     }
   where
-    is : (a : ℕ) → marked m (x .session .acknowledged) a ≡ marked m k a
-    is a = ap (λ (j : ℕ). marked m j a) c
+    is : (a : ℕ) → marked board m (x .session .acknowledged) a ≡ marked board m k a
+    is a = ap (λ (j : ℕ). marked board m j a) c
 
-    all : beforeRun m ≤ k → AllProved m (x .session)
-    all b a t = proved-is m long (x .session) a ∙ ap given (is a ∙ all-marked m long k a b ∙ t)
+    all : beforeRun board m ≤ k → AllProved board m (x .session)
+    all b a t = proved-is board m long (x .session) a ∙ ap given (is a ∙ all-marked board m long k a b ∙ t)
 
 -- on the wire R comes after every V
-run-late : (image m : List ℕ) (long : length m ≡ mapSize) (kind : RunKind) (k : ℕ) → k < total m
-    → command (packetAt image m kind k) ≡ 0x52 → beforeRun m ≤ k
-run-late image m long kind k b = go (out-after m long k b)
+run-late : (board : ℕ) (image m : List ℕ) (long : length m ≡ mapOf board) (kind : RunKind) (k : ℕ)
+    → k < total board m
+    → command (packetAt board image m kind k) ≡ 0x52 → beforeRun board m ≤ k
+run-late board image m long kind k b = go (out-after board m long k b)
   where
-    go : Out m k → command (packetAt image m kind k) ≡ 0x52 → beforeRun m ≤ k
+    go : Out board m k → command (packetAt board image m kind k) ≡ 0x52 → beforeRun board m ≤ k
     go (erases q e r c) h =
-        absurd (omega (arith, sym (packet-command 0x45 (startOf q) (runLen m q ∷ [])) ∙ (rw e at h)))
+        absurd (omega (arith, sym (packet-command 0x45 (startOf q) (runLen board m q ∷ [])) ∙ (rw e at h)))
     go (writes a j e r t c) h =
         absurd (omega (arith, sym (packet-command 0x57 a (pieceBytes image m a)) ∙ (rw e at h)))
     go (verifies a j e r t c) h =
@@ -124,87 +127,94 @@ not-open : {R : Type 0} {x y : Moment} → x ≡ y → ended (y .session .phase)
     → ended (x .session .phase) ≡ false → R
 not-open q d t = absurd (true-false (sym d ∙ sym (ap (λ (z : Moment). ended (z .session .phase)) q) ∙ t))
 
-module _ (image m before : List ℕ) (right : length image ≡ flashSize) (long : length m ≡ mapSize)
-    (kind : RunKind) (l : Loader) (size : length before ≡ flashSize) where
+module _ (board : ℕ) (few : board ≤ 255) (image m before : List ℕ) (file : Loadable board image m)
+    (kind : RunKind) (l : Loader) (size : length before ≡ startOf board) where
   -- the opening byte is out, before and after the loader has taken it
   first-safe : (e : Effect) → e .flash ≡ before
-      → Safe image m before (momentWith e (atGreeting m kind) (openingByte ∷ []))
+      → Safe board image m before (momentWith e (atGreeting board m kind) (openingByte ∷ []))
   first-safe e q =
-      holds-safe image m before long 0 _ refl (opening-holds image m before long (e .flash) q size)
-      (λ r. absurd (omega arith)) (open-invalid (atGreeting m kind) refl)
+      holds-safe board image m before (file .long) 0 _ refl
+      (opening-holds board image m before (file .long) (e .flash) q size)
+      (λ r. absurd (omega arith)) (open-invalid (atGreeting board m kind) refl)
 
-  next-safe : (k : ℕ) → k < total m → (e : Effect) → Holds image m before k (e .flash)
-      → Safe image m before (standing image m kind e k)
+  next-safe : (k : ℕ) → k < total board m → (e : Effect) → Holds board image m before k (e .flash)
+      → Safe board image m before (standing board image m kind e k)
   next-safe k b e h =
-      holds-safe image m before long k _ refl h (run-late image m long kind k b)
-      (open-invalid (stateAt m kind k) (phase-open m k))
+      holds-safe board image m before (file .long) k _ refl h (run-late board image m (file .long) kind k b)
+      (open-invalid (stateAt board m kind k) (phase-open board m k))
 
-  pub stage-safe : (n : ℕ) (x : Moment) → Stage image m before kind l n x → Safe image m before x
+  pub stage-safe : (n : ℕ) (x : Moment) → Stage board image m before kind l n x → Safe board image m before x
   stage-safe n x (starts z q) = rw q (first-safe (record { loader = resetOf l; flash = before }) refl)
   stage-safe n x (stands e k z b s h q) = rw q (next-safe k b e h)
   stage-safe n x (ends e u k h v q) =
-      rw q (holds-safe image m before long k _ refl h (λ r. absurd (omega arith)) (λ t. v (valid-is u t)))
+      rw q (holds-safe board image m before (file .long) k _ refl h (λ r. absurd (omega arith))
+      (λ t. v (valid-is u t)))
 
-  pub amid-safe : (o : Loss) (n : ℕ) (x : Moment) → Stage image m before kind l n x
-      → ended (x .session .phase) ≡ false → Safe image m before (between o x)
-  amid-safe o n x (starts z q) t = rw q (first-safe (opened o l before) (first-flash o l before size))
+  pub amid-safe : (o : Loss) (n : ℕ) (x : Moment) → Stage board image m before kind l n x
+      → ended (x .session .phase) ≡ false → Safe board image m before (between board o x)
+  amid-safe o n x (starts z q) t =
+      rw q (first-safe (opened board o l before) (first-flash board o l before size))
   amid-safe o n x (stands e k z b s h q) t =
-      rw q (next-safe k b (served image m kind o e k)
-      (served-holds image m before right long kind (e .loader) (rw s (serving-serves l)) o (e .flash) k h b))
+      rw q (next-safe k b (served board image m kind o e k)
+      (served-holds board few image m before file kind (e .loader) (rw s (serving-serves l)) o
+      (e .flash) k h b))
   amid-safe o n x (ends e u k h v q) t = not-open q refl t
 
 -- ---- the end
 
-module _ (image m before : List ℕ) (right : length image ≡ flashSize) (long : length m ≡ mapSize)
-    (some : 0 < namedCount m) (bytes : Bytes image) (kind : RunKind) (l : Loader)
-    (size : length before ≡ flashSize) (losses : ℕ → Loss) where
+module _ (board : ℕ) (few : board ≤ 255) (image m before : List ℕ) (file : Loadable board image m)
+    (bytes : Bytes image) (kind : RunKind) (l : Loader)
+    (size : length before ≡ startOf board) (losses : ℕ → Loss) where
   abbrev load : ℕ → Moment
-  load = loadAt image m kind l losses before
+  load = loadAt board image m kind l losses before
 
   abbrev start : Moment
-  start = begun m kind l before
+  start = begun board m kind l before
 
   -- a load ends by itself, after at most e + 2w + 2 exchanges
-  pub going : (n : ℕ) → ended (load n .session .phase) ≡ false → n ≤ total m
-  going n t = go (load n) (stage image m before right long some bytes kind l size losses n) t
+  pub going : (n : ℕ) → ended (load n .session .phase) ≡ false → n ≤ total board m
+  going n t = go (load n) (stage board few image m before file bytes kind l size losses n) t
     where
-      go : (x : Moment) → Stage image m before kind l n x → ended (x .session .phase) ≡ false → n ≤ total m
+      go : (x : Moment) → Stage board image m before kind l n x → ended (x .session .phase) ≡ false
+          → n ≤ total board m
       go x (starts z q) t = omega arith
       go x (stands e k z b s h q) t = omega arith
       go x (ends e u k h v q) t = not-open q refl t
 
   -- an exchange that brings no answer ends the session with 40
-  hushed : (o : Loss) (n : ℕ) (x : Moment) → Stage image m before kind l n x
-      → ended (x .session .phase) ≡ false → reply o x ≡ []
-      → exchangeOf image m o x .session .phase ≡ Phase.Ended Outcome.Silence
+  hushed : (o : Loss) (n : ℕ) (x : Moment) → Stage board image m before kind l n x
+      → ended (x .session .phase) ≡ false → reply board o x ≡ []
+      → exchangeOf board image m o x .session .phase ≡ Phase.Ended Outcome.Silence
   hushed o n x (starts z q) t r =
-      ap (λ (y : Moment). exchangeOf image m o y .session .phase) q
-      ∙ ap (λ (y : Moment). y .session .phase) (taken-first image m right long some kind o l before)
-      ∙ ap (λ (v : Event). tookOf m (atGreeting m kind) v .phase) (silence-is _ (sym (ap (reply o) q) ∙ r))
-      ∙ silence-ends m (atGreeting m kind)
+      ap (λ (y : Moment). exchangeOf board image m o y .session .phase) q
+      ∙ ap (λ (y : Moment). y .session .phase) (taken-first board image m file kind o l before)
+      ∙ ap (λ (v : Event). tookOf board m (atGreeting board m kind) v .phase)
+      (silence-is _ (sym (ap (reply board o) q) ∙ r))
+      ∙ silence-ends board m (atGreeting board m kind)
   hushed o n x (stands e k z b s h q) t r =
-      ap (λ (y : Moment). exchangeOf image m o y .session .phase) q
-      ∙ ap (λ (y : Moment). y .session .phase) (taken image m right long some kind o e k b)
-      ∙ ap (λ (v : Event). tookOf m (stateAt m kind k) v .phase) (silence-is _ (sym (ap (reply o) q) ∙ r))
-      ∙ silence-ends m (stateAt m kind k)
+      ap (λ (y : Moment). exchangeOf board image m o y .session .phase) q
+      ∙ ap (λ (y : Moment). y .session .phase) (taken board image m file kind o e k b)
+      ∙ ap (λ (v : Event). tookOf board m (stateAt board m kind k) v .phase)
+      (silence-is _ (sym (ap (reply board o) q) ∙ r))
+      ∙ silence-ends board m (stateAt board m kind k)
   hushed o n x (ends e u k h v q) t r = not-open q refl t
 
   -- so it stands ended with 40 from then on, and was valid at no time
   module _ (i : ℕ) (goes-on : ended (load i .session .phase) ≡ false)
-      (no-answer : reply (losses i) (load i) ≡ []) where
+      (no-answer : reply board (losses i) (load i) ≡ []) where
     pub silent : (n : ℕ) → i < n → load n .session .phase ≡ Phase.Ended Outcome.Silence
     silent n b =
         let e : load (suc i) .session .phase ≡ Phase.Ended Outcome.Silence
-        = ap (λ (x : Moment). x .session .phase) (follows image m losses start i goes-on)
-        ∙ hushed (losses i) i (load i) (stage image m before right long some bytes kind l size losses i)
+        = ap (λ (x : Moment). x .session .phase) (follows board image m losses start i goes-on)
+        ∙ hushed (losses i) i (load i) (stage board few image m before file bytes kind l size losses i)
         goes-on no-answer in
-        ap (λ (x : Moment). x .session .phase) (stays image m losses start (suc i) n b (ap ended e)) ∙ e
+        ap (λ (x : Moment). x .session .phase) (stays board image m losses start (suc i) n b (ap ended e)) ∙ e
 
     pub never-valid : (n : ℕ) → Valid (load n .session) → ⊥
     never-valid n v =
         decide (ltb i n)
         (λ t. unlike (sym (silent n (ltb-true i n t)) ∙ v))
-        (λ t. let e = stays image m losses start n i (ltb-false i n t) (ap ended v) in
+        (λ t. let e = stays board image m losses start n i (ltb-false i n t) (ap ended v) in
         true-false (sym (ap ended v) ∙ sym (ap (λ (x : Moment). ended (x .session .phase)) e) ∙ goes-on))
       where
         failed : Phase → Bool
@@ -221,13 +231,14 @@ module _ (image m before : List ℕ) (right : length image ≡ flashSize) (long 
   -- ---- nothing lost, no touched page in a protected group, no read protection
   module _ (whole : (n : ℕ) → losses n ≡ Loss.Whole) (free : Free m l) where
     -- flash before the first packet: no run is erased and no piece written
-    first-grows : Grows image m 0 before
+    first-grows : Grows board image m 0 before
     first-grows =
         record {
           size = size;
           written = λ a t b. absurd (omega (arith, rank-some (named m) pieceMost (omega arith) a t));
           blank = λ a t b c.
-              let r = rank-some (touched m) pages (omega arith) (pageOf a) (named-touched m a t) in
+              let r = rank-some (touched m) board (some-page board m (file .some)) (pageOf a)
+              (named-touched m a t) in
               absurd (omega arith);
         }
 
@@ -238,87 +249,92 @@ module _ (image m before : List ℕ) (right : length image ≡ flashSize) (long 
     -- after k + 1 exchanges k packets are acknowledged
     record Alive (k : ℕ) (x : Moment) : Type 0 where
       pub flash : List ℕ
-      pub grows : Grows image m k flash
-      pub moment-is : x ≡ standing image m kind (serves-at flash) k
+      pub grows : Grows board image m k flash
+      pub moment-is : x ≡ standing board image m kind (serves-at flash) k
 
     open-at : (k : ℕ) (x : Moment) → Alive k x → ended (x .session .phase) ≡ false
-    open-at k x c = ap (λ (y : Moment). ended (y .session .phase)) (c .moment-is) ∙ phase-open m k
+    open-at k x c = ap (λ (y : Moment). ended (y .session .phase)) (c .moment-is) ∙ phase-open board m k
 
-    module _ (k : ℕ) (b : k < total m) (f : List ℕ) (grows : Grows image m k f) where
+    module _ (k : ℕ) (b : k < total board m) (f : List ℕ) (grows : Grows board image m k f) where
       -- the packet that is out is let through
-      passing : (e : Effect) × Lets image m (serving l) (packetAt image m kind k) f k e
+      passing : (e : Effect) × Lets board image m (serving l) (packetAt board image m kind k) f k e
       passing =
-          lets image m right long bytes kind (serving l) (serving-serves l)
+          lets board few image m file bytes kind (serving l) (serving-serves l)
           (record { unprotected = free .unprotected; readable = free .readable }) f k grows
-          (out-after m long k b)
+          (out-after board m (file .long) k b)
 
-      served-is : served image m kind Loss.Whole (serves-at f) k ≡ passing .0
+      served-is : served board image m kind Loss.Whole (serves-at f) k ≡ passing .0
       served-is = ap (λ (x : Answer Effect). effectAfter (serving l) f x) (passing .1 .let-is)
 
-      hears : eventIn (reply Loss.Whole (standing image m kind (serves-at f) k)) ≡ Event.Ack
-      hears = let-acked (serving l) _ f (passing .0) refl (passing .1 .let-is)
+      hears : eventIn (reply board Loss.Whole (standing board image m kind (serves-at f) k)) ≡ Event.Ack
+      hears = let-acked board (serving l) _ f (passing .0) refl (passing .1 .let-is)
 
     -- the exchange that follows
     exchanged : (k : ℕ) (c : Alive k (load (suc k)))
-        → load (suc (suc k)) ≡ exchangeOf image m Loss.Whole (standing image m kind (serves-at (c .flash)) k)
+        → load (suc (suc k))
+        ≡ exchangeOf board image m Loss.Whole (standing board image m kind (serves-at (c .flash)) k)
     exchanged k c =
-        follows image m losses start (suc k) (open-at k (load (suc k)) c)
-        ∙ ap (λ (o : Loss). exchangeOf image m o (load (suc k))) (whole (suc k))
-        ∙ ap (exchangeOf image m Loss.Whole) (c .moment-is)
+        follows board image m losses start (suc k) (open-at k (load (suc k)) c)
+        ∙ ap (λ (o : Loss). exchangeOf board image m o (load (suc k))) (whole (suc k))
+        ∙ ap (exchangeOf board image m Loss.Whole) (c .moment-is)
 
     begins : load 0 ≡ start
     unfolding momentAt
     begins = refl
 
-    alive : (k : ℕ) → k < total m → Alive k (load (suc k))
+    alive : (k : ℕ) → k < total board m → Alive k (load (suc k))
     alive zero b =
         record {
           flash = before;
           grows = first-grows;
-          moment-is = follows image m losses start 0 (ap (λ (x : Moment). ended (x .session .phase)) begins)
-              ∙ ap (λ (o : Loss). exchangeOf image m o (load 0)) (whole 0)
-              ∙ ap (exchangeOf image m Loss.Whole) begins
-              ∙ on-greeting image m right long some kind Loss.Whole l before
+          moment-is =
+              follows board image m losses start 0 (ap (λ (x : Moment). ended (x .session .phase)) begins)
+              ∙ ap (λ (o : Loss). exchangeOf board image m o (load 0)) (whole 0)
+              ∙ ap (exchangeOf board image m Loss.Whole) begins
+              ∙ on-greeting board image m file kind Loss.Whole l before
               (ap (λ (x : Answer Effect). eventIn (answerBytes (resetOf l) x)) greets ∙ greeting-heard)
-              ∙ ap (λ (x : Answer Effect). standing image m kind (effectAfter (resetOf l) before x) 0) greets;
+              ∙ ap (λ (x : Answer Effect). standing board image m kind (effectAfter (resetOf l) before x) 0)
+              greets;
         }
       where
-        greets : loaderTakes (resetOf l) (openingByte ∷ []) before ≡ given (serves-at before)
-        greets = board-greets l before size
+        greets : loaderTakes board (resetOf l) (openingByte ∷ []) before ≡ given (serves-at before)
+        greets = board-greets board l before size
     alive (suc k) b =
         let c = alive k (omega arith) in
-        let d : k < total m = omega arith in
+        let d : k < total board m = omega arith in
         let e : Effect = passing k d (c .flash) (c .grows) .0 in
         let p = passing k d (c .flash) (c .grows) .1 in
         let s : e .loader ≡ serving l = p .loader-is (omega arith) in
         let j : k + 1 ≡ suc k = omega arith in
         record {
           flash = e .flash;
-          grows = subst (λ (i : ℕ). Grows image m i (e .flash)) j (p .grows);
+          grows = subst (λ (i : ℕ). Grows board image m i (e .flash)) j (p .grows);
           moment-is = exchanged k c
-              ∙ on-ack image m right long some kind Loss.Whole (serves-at (c .flash)) k d (omega arith)
+              ∙ on-ack board image m file kind Loss.Whole (serves-at (c .flash)) k d (omega arith)
               (hears k d (c .flash) (c .grows))
-              ∙ ap (λ (x : Effect). standing image m kind x (k + 1)) (served-is k d (c .flash) (c .grows))
-              ∙ ap (standing image m kind e) j
-              ∙ ap (λ (x : Loader). standing image m kind (record { loader = x; flash = e .flash }) (suc k))
+              ∙ ap (λ (x : Effect). standing board image m kind x (k + 1))
+              (served-is k d (c .flash) (c .grows))
+              ∙ ap (standing board image m kind e) j
+              ∙ ap (λ (x : Loader). standing board image m kind (record { loader = x; flash = e .flash })
+              (suc k))
               s;
         }
 
     -- after the last ACK it is valid, and stays so
-    pub ends-valid : (n : ℕ) → total m < n → Valid (load n .session)
+    pub ends-valid : (n : ℕ) → total board m < n → Valid (load n .session)
     ends-valid n b =
         ap (λ (x : Moment). x .session .phase)
-        (stays image m losses start (suc (suc last)) n (omega arith) (ap ended ended-valid))
+        (stays board image m losses start (suc (suc last)) n (omega arith) (ap ended ended-valid))
         ∙ ended-valid
       where
         last : ℕ
-        last = beforeRun m
+        last = beforeRun board m
 
         ended-valid : Valid (load (suc (suc last)) .session)
         ended-valid =
             let c = alive last (omega arith) in
-            let d : last < total m = omega arith in
+            let d : last < total board m = omega arith in
             ap (λ (x : Moment). x .session .phase)
             (exchanged last c
-            ∙ on-last image m right long some kind Loss.Whole (serves-at (c .flash)) last d refl
+            ∙ on-last board image m file kind Loss.Whole (serves-at (c .flash)) last d refl
             (hears last d (c .flash) (c .grows)))

@@ -1,5 +1,5 @@
 -- What demand 3 says of `rehearse`: of the verdict and the flash that it leaves.
-use Prim.Native.Nat.{ℕ, _+_, _<_}
+use Prim.Native.Nat.{ℕ, _+_, _≤_}
 use mathlib.Core.Bool.{true, false}
 use mathlib.Core.List.{List}
 use mathlib.Core.Path.{_≡_, refl, sym, ap, subst, _∙_}
@@ -7,65 +7,63 @@ use native.Mathlib.Omega.{arith}
 use borrow.Author.Tests.{eqb-true, eqb-false, not-false}
 use lib.Dec.{eqb}
 use lib.ListN.{length, getD}
-use Rattle.basis.specs.Board.{flashSize, mapSize}
 use Rattle.basis.specs.Laws.Choice.{both-true}
 use Rattle.basis.specs.Laws.Refusals.{passed, done, apart, given-one}
 use Rattle.basis.specs.Lists.{Bytes}
 use Rattle.basis.specs.Refusals.{Answer, refused, given}
-use Rattle.basis.specs.Units.{pageOf}
+use Rattle.basis.specs.Units.{pageOf, startOf}
 use Rattle.line.specs.Demand.{Stands, Valid, Safe}
 use Rattle.line.specs.Laws.Demand.{safe, finite}
 use Rattle.line.specs.Line.{Moment, loadAt, rehearseOf, loaded, leftFlash, Rehearses}
 use Rattle.line.specs.declared.exchange.Loss.{Loss}
 use Rattle.line.specs.declared.rehearse.Load.{Load}
 use Rattle.loader.specs.declared.state.Loader.{Loader}
+use Rattle.packet.specs.Packet.{packetMost}
 use Rattle.runs.specs.Map.{named}
 use Rattle.runs.specs.Pages.{touched}
 use Rattle.runs.specs.Pieces.{namedCount}
+use Rattle.session.specs.Laws.Steps.{sizes-right}
 use Rattle.session.specs.Phases.{ended}
 use Rattle.session.specs.Plan.{total}
+use Rattle.session.specs.Session.{Loadable}
 use Rattle.session.specs.declared.phase.RunKind.{RunKind}
 use Rattle.session.specs.declared.session.Session.{Session}
 
-module _ (image m : List ℕ) (kind : RunKind) (l : Loader) (losses : ℕ → Loss) (before : List ℕ) where
+module _ (board : ℕ) (few : board ≤ 255) (image m : List ℕ) (kind : RunKind) (l : Loader) (losses : ℕ → Loss)
+    (before : List ℕ) where
   abbrev whole : Answer Moment
-  whole = rehearseOf image m kind l losses before
+  whole = rehearseOf board image m kind l losses before
 
   -- a rehearsal that is not refused has what demand 3 asks for
   record Given (x : Moment) : Type 0 where
-    pub image-size : length image ≡ flashSize
-    pub map-size : length m ≡ mapSize
-    pub flash-size : length before ≡ flashSize
-    pub some : 0 < namedCount m
-    pub moment-is : x ≡ loadAt image m kind l losses before (total m + 1)
+    pub file : Loadable board image m
+    pub flash-size : length before ≡ startOf board
+    pub moment-is : x ≡ loadAt board image m kind l losses before (total board m + 1)
 
   given-is : (x : Moment) → whole ≡ given x → Given x
   unfolding rehearseOf
   given-is x e =
       let p = passed 20 _ _ _ e in
       let q = passed 32 _ _ _ (p .1) in
-      let b = both-true (eqb (length before) flashSize) _ (not-false _ (p .0)) in
-      let c = both-true (eqb (length image) flashSize) _ (b .1) in
-      let d = both-true (eqb (length m) mapSize) _ (c .1) in
+      let b = both-true (eqb (length before) (startOf board)) _ (not-false _ (p .0)) in
+      let c = sizes-right board (length image) (length m) packetMost (b .1) in
+      let n = eqb-false (namedCount board m) 0 (q .0) in
       record {
-        image-size = eqb-true (length image) flashSize (c .0);
-        map-size = eqb-true (length m) mapSize (d .0);
-        flash-size = eqb-true (length before) flashSize (b .0);
-        some = omega (arith, eqb-false (namedCount m) 0 (q .0));
+        file = record { right = c .0; long = c .1; some = omega arith };
+        flash-size = eqb-true (length before) (startOf board) (b .0);
         moment-is = given-one (sym (q .1) ∙ done _);
       }
 
   module _ (bytes : Bytes image) (x : Moment) (g : Given x) where
-    given-safe : Safe image m before x
+    given-safe : Safe board image m before x
     given-safe =
-        subst (Safe image m before) (sym (g .moment-is))
-        (safe image m before (g .image-size) (g .map-size) (g .some) bytes kind l (g .flash-size) losses
-        (total m + 1))
+        subst (Safe board image m before) (sym (g .moment-is))
+        (safe board few image m before (g .file) bytes kind l (g .flash-size) losses (total board m + 1))
 
     given-ended : ended (x .session .phase) ≡ true
     given-ended =
         ap (λ (y : Moment). ended (y .session .phase)) (g .moment-is)
-        ∙ finite image m before (g .image-size) (g .map-size) (g .some) bytes kind l (g .flash-size) losses
+        ∙ finite board few image m before (g .file) bytes kind l (g .flash-size) losses
 
   module _ (bytes : Bytes image) (r : Answer Load) (flash : List ℕ) (h : Rehearses whole before r flash) where
     -- whatever the verdict, flash differs from before only in touched pages

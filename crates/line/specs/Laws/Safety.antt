@@ -1,5 +1,5 @@
 -- What no loss, no protection and no flash can break: bytes marked proved stand, and untouched pages stay.
-use Prim.Native.Nat.{ℕ, _+_, _-_, _≤_, _<_}
+use Prim.Native.Nat.{ℕ, _+_, _≤_, _<_}
 use mathlib.Core.Bool.{true, false}
 use mathlib.Core.List.{List, [], _∷_, map}
 use mathlib.Core.Path.{_≡_, refl, sym, ap, _∙_}
@@ -7,7 +7,7 @@ use native.Mathlib.Omega.{arith}
 use borrow.Author.Tests.{ne-eqb}
 use lib.Dec.{eqb}
 use lib.ListN.{length, getD, take, drop, length-map}
-use Rattle.basis.specs.Board.{pages, flashSize, mapSize, answerMost, openingByte}
+use Rattle.basis.specs.Board.{answerMost, openingByte}
 use Rattle.basis.specs.Laws.Choice.{true-false, both-false}
 use Rattle.basis.specs.Laws.Lists.{bytes-take, bytes-drop}
 use Rattle.basis.specs.Laws.Refusals.{apart}
@@ -33,6 +33,7 @@ use Rattle.runs.specs.Pages.{touched}
 use Rattle.runs.specs.Pieces.{pieceMost, pieceStarts, pieceLen, runStarts, runLen}
 use Rattle.session.specs.Laws.Starts.{run-below, piece-below, piece-carried}
 use Rattle.session.specs.Plan.{pieceBytes, erasePacket, writePacket, verifyPacket, runPacket, runAddress}
+use Rattle.session.specs.Session.{Loadable}
 use Rattle.session.specs.declared.phase.RunKind.{RunKind}
 
 -- a loader that serves, with no protect sequence open
@@ -52,15 +53,16 @@ abbrev pub Untouched : List ℕ → List ℕ → List ℕ → Type 0
 Untouched m before f = (a : ℕ) → touched m (pageOf a) ≡ false → getD f a 0 ≡ getD before a 0
 
 -- flash with the run of pages at q erased
-abbrev pub erasedRun : List ℕ → List ℕ → ℕ → List ℕ
-erasedRun f m q = eraseOf f (startOf q) (startOf (runLen m q))
+abbrev pub erasedRun : ℕ → List ℕ → List ℕ → ℕ → List ℕ
+erasedRun board f m q = eraseOf f (startOf q) (startOf (runLen board m q))
 
-module _ (m before : List ℕ) where
+module _ (board : ℕ) (m before : List ℕ) where
   -- a run of pages erased
-  pub erase-untouched : (f : List ℕ) (q : ℕ) → Untouched m before f → Untouched m before (erasedRun f m q)
+  pub erase-untouched : (f : List ℕ) (q : ℕ) → Untouched m before f
+      → Untouched m before (erasedRun board f m q)
   erase-untouched f q h a t =
-      erase-or f (startOf q) (startOf (runLen m q)) a
-      (λ k b e. let p = piece-passes (touched m) pages q (pageOf a) (omega arith) (omega arith) in
+      erase-or f (startOf q) (startOf (runLen board m q)) a
+      (λ k b e. let p = piece-passes (touched m) board q (pageOf a) (omega arith) (omega arith) in
       absurd (true-false (sym p ∙ t)))
       (λ out same. same ∙ h a t)
 
@@ -74,70 +76,72 @@ module _ (m before : List ℕ) where
       (λ out same. same ∙ h a t)
 
 -- by what befalls the exchange: what holds as it was and after the loader has taken the packet
-pub served-by : (P : Effect → Type 0) (o : Loss) (l : Loader) (s f : List ℕ)
-    → P (record { loader = l; flash = f }) → P (effectAfter l f (loaderTakes l s f)) → P (delivered o l s f)
-served-by P Loss.Whole l s f p q = q
-served-by P Loss.Lost l s f p q = p
-served-by P Loss.Unanswered l s f p q = q
+pub served-by : (board : ℕ) (P : Effect → Type 0) (o : Loss) (l : Loader) (s f : List ℕ)
+    → P (record { loader = l; flash = f }) → P (effectAfter l f (loaderTakes board l s f))
+    → P (delivered board o l s f)
+served-by board P Loss.Whole l s f p q = q
+served-by board P Loss.Lost l s f p q = p
+served-by board P Loss.Unanswered l s f p q = q
 
 -- the opening byte makes the loader serve, and its answer is the greeting
-pub board-greets : (l : Loader) (f : List ℕ) → length f ≡ flashSize
-    → loaderTakes (resetOf l) (openingByte ∷ []) f ≡ given (record { loader = serving l; flash = f })
-board-greets l f size = sent-opening pages (resetOf l) f answerMost size (omega arith) refl
+pub board-greets : (board : ℕ) (l : Loader) (f : List ℕ) → length f ≡ startOf board
+    → loaderTakes board (resetOf l) (openingByte ∷ []) f ≡ given (record { loader = serving l; flash = f })
+board-greets board l f size = sent-opening board (resetOf l) f answerMost size (omega arith) refl
 
 -- ---- the packets of the plan, as a serving loader takes them
 
-module _ (image m : List ℕ) (right : length image ≡ flashSize) (long : length m ≡ mapSize)
-    (l : Loader) (serves : Serves l) (f : List ℕ) (size : length f ≡ flashSize) where
-  pub takes-erase : (q : ℕ) → runStarts m q ≡ true
-      → loaderTakes l (erasePacket m q) f
-      ≡ first (eraseRows pages l (startOf q) (runLen m q))
-      (given (record { loader = l; flash = erasedRun f m q }))
+module _ (board : ℕ) (few : board ≤ 255) (image m : List ℕ) (file : Loadable board image m)
+    (l : Loader) (serves : Serves l) (f : List ℕ) (size : length f ≡ startOf board) where
+  pub takes-erase : (q : ℕ) → runStarts board m q ≡ true
+      → loaderTakes board l (erasePacket board m q) f
+      ≡ first (eraseRows board l (startOf q) (runLen board m q))
+      (given (record { loader = l; flash = erasedRun board f m q }))
   takes-erase q h =
-      let b = run-below m long q h in
-      let n = piece-some (touched m) pages (omega arith) q h in
-      sent-erase pages l f answerMost size (omega arith) (serves .condition-is) (startOf q) (omega arith)
-      (runLen m q)
-      ∙ erasing-pages pages l (startOf q) (runLen m q) f (serves .sequence-is)
-      (both-false (eqb (runLen m q) 0) _ (ne-eqb (runLen m q) 0 (λ e. omega arith)))
-      ∙ ap (λ (p : ℕ). first (eraseRows pages l (startOf q) (runLen m q))
-      (given (record { loader = l; flash = eraseOf f (startOf p) (startOf (runLen m q)) }))) (page-start q)
+      let b = run-below board m (file .long) q h in
+      let n = piece-some (touched m) board (omega arith) q h in
+      sent-erase board l f answerMost size (omega arith) (serves .condition-is) (startOf q) (omega arith)
+      (runLen board m q)
+      ∙ erasing-pages board l (startOf q) (runLen board m q) f (serves .sequence-is)
+      (both-false (eqb (runLen board m q) 0) _ (ne-eqb (runLen board m q) 0 (λ e. omega arith)))
+      ∙ ap (λ (p : ℕ). first (eraseRows board l (startOf q) (runLen board m q))
+      (given (record { loader = l; flash = eraseOf f (startOf p) (startOf (runLen board m q)) })))
+      (page-start q)
 
   module _ (s : ℕ) (h : pieceStarts m s ≡ true) where
     abbrev piece : List ℕ
     piece = pieceBytes image m s
 
-    piece-fits : (s < flashSize) × (0 < length piece) × (length piece ≤ pieceMost)
+    piece-fits : (s < startOf board) × (0 < length piece) × (length piece ≤ pieceMost)
     piece-fits =
-        let c = piece-carried m long image s right h in
-        (piece-below m long s h, omega (arith, c .0), omega (arith, c .0))
+        let c = piece-carried board m (file .long) image s (file .right) h in
+        (piece-below board m (file .long) s h, omega (arith, c .0), omega (arith, c .0))
 
-    pub takes-write : loaderTakes l (writePacket image m s) f
-        ≡ first (writeRows pages l s (length piece))
+    pub takes-write : loaderTakes board l (writePacket image m s) f
+        ≡ first (writeRows board l s (length piece))
         (given (record { loader = l; flash = storeOf f s piece }))
     unfolding writing
     takes-write =
         let p = piece-fits in
-        sent-write pages l f answerMost size (omega arith) (serves .condition-is) s (omega (arith, p .0))
+        sent-write board l f answerMost size (omega arith) (serves .condition-is) s (omega (arith, p .0))
         piece (p .1) (p .2)
 
-    pub takes-verify : loaderTakes l (verifyPacket image m s) f
-        ≡ keeping f (first (verifyRows pages l s (map turnedOf piece) f) (given l))
+    pub takes-verify : loaderTakes board l (verifyPacket image m s) f
+        ≡ keeping f (first (verifyRows board l s (map turnedOf piece) f) (given l))
     takes-verify =
         let p = piece-fits in
-        sent-verify pages l f answerMost size (omega arith) (serves .condition-is) s (omega (arith, p .0))
+        sent-verify board l f answerMost size (omega arith) (serves .condition-is) s (omega (arith, p .0))
         piece (p .1) (p .2)
 
   pub takes-run : (kind : RunKind)
-      → loaderTakes l (runPacket kind) f ≡ keeping f (running l (runAddress kind))
+      → loaderTakes board l (runPacket kind) f ≡ keeping f (running l (runAddress kind))
   takes-run RunKind.Reset =
-      sent-run pages l f answerMost size (omega arith) (serves .condition-is) 1 (omega arith)
+      sent-run board l f answerMost size (omega arith) (serves .condition-is) 1 (omega arith)
   takes-run RunKind.Jump =
-      sent-run pages l f answerMost size (omega arith) (serves .condition-is) 0 (omega arith)
+      sent-run board l f answerMost size (omega arith) (serves .condition-is) 0 (omega arith)
 
   -- an accepted V says that flash has its piece as the file has it
   pub verified : Bytes image → (s : ℕ) → pieceStarts m s ≡ true → (e : Effect)
-      → loaderTakes l (verifyPacket image m s) f ≡ given e → (a : ℕ) → s ≤ a → a < s + pieceLen m s
+      → loaderTakes board l (verifyPacket image m s) f ≡ given e → (a : ℕ) → s ≤ a → a < s + pieceLen m s
       → getD f a 0 ≡ getD image a 0
   verified bytes s h e q a = equal-at f image s (pieceLen m s) a same
     where
@@ -149,12 +153,12 @@ module _ (image m : List ℕ) (right : length image ≡ flashSize) (long : lengt
       d = pieceBytes image m s
 
       n : length (map turnedOf d) ≡ pieceLen m s
-      n = length-map d turnedOf ∙ piece-carried m long image s right h .0
+      n = length-map d turnedOf ∙ piece-carried board m (file .long) image s (file .right) h .0
 
       same : take (pieceLen m s) (drop s f) ≡ take (pieceLen m s) (drop s image)
       same =
           let v = told _ (sym (takes-verify s h) ∙ q) in
-          let w = verify-let pages l s (map turnedOf d) f (given l) (v .1) in
+          let w = verify-let board l s (map turnedOf d) f (given l) (v .1) in
           ap (λ (i : ℕ). take i (drop s f)) (sym n)
           ∙ same-stands f s (map turnedOf d) (omega (arith, w .1, size)) (w .3)
           ∙ undone restoredOf turnedOf restored-turned d

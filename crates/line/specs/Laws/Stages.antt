@@ -7,12 +7,12 @@ use native.Mathlib.Omega.{arith}
 use borrow.Author.Tests.{ltb-true, ltb-false}
 use lib.Dec.{ltb}
 use lib.ListN.{length, getD}
-use Rattle.basis.specs.Board.{pages, flashSize, mapSize, openingByte}
+use Rattle.basis.specs.Board.{openingByte}
 use Rattle.basis.specs.Choice.{pick}
 use Rattle.basis.specs.Laws.Choice.{decide, true-false}
 use Rattle.basis.specs.Lists.{Bytes}
 use Rattle.basis.specs.Refusals.{Answer, given, first}
-use Rattle.basis.specs.Units.{startOf}
+use Rattle.basis.specs.Units.{startOf, mapOf}
 use Rattle.image.specs.Laws.Flash.{length-erase, length-store}
 use Rattle.line.specs.Laws.Exchange.{silence-is, acked, opened, over, standing, served, on-ack, on-last, on-else, on-greeting, on-silence}
 use Rattle.line.specs.Laws.Safety.{Serves, serving, serving-serves, board-greets, Untouched, erase-untouched, store-untouched, served-by, takes-erase, takes-write, takes-verify, takes-run, verified}
@@ -25,7 +25,7 @@ use Rattle.loader.specs.State.{resetOf}
 use Rattle.loader.specs.Take.{answerBytes}
 use Rattle.loader.specs.declared.state.Loader.{Loader}
 use Rattle.packet.specs.Turn.{turnedOf}
-use Rattle.runs.specs.Pieces.{runLen, runCount, pieceCount, namedCount}
+use Rattle.runs.specs.Pieces.{runLen, runCount, pieceCount}
 use Rattle.session.specs.Laws.Events.{greeting-heard}
 use Rattle.session.specs.Laws.Marks.{marked-late, marked-more, all-marked}
 use Rattle.session.specs.Laws.Series.{isAck, ack-or}
@@ -34,216 +34,238 @@ use Rattle.session.specs.Laws.States.{phase-open}
 use Rattle.session.specs.Laws.Out.{Out, erases, writes, verifies, runs, out-after}
 use Rattle.session.specs.Phases.{ended, packetOut, verifyAt, placeOf, packetAt}
 use Rattle.session.specs.Plan.{total, pieceBytes, verifyPacket, beforeRun}
-use Rattle.session.specs.Session.{marked, failing}
+use Rattle.session.specs.Session.{marked, failing, Loadable}
 use Rattle.session.specs.declared.event.Event.{Event}
 use Rattle.session.specs.declared.phase.Outcome.{Outcome}
 use Rattle.session.specs.declared.phase.Phase.{Phase}
 use Rattle.session.specs.declared.phase.RunKind.{RunKind}
 
-module _ (image m before : List ℕ) where
+module _ (board : ℕ) (image m before : List ℕ) where
   -- flash after k acknowledgements: its size, the pages that are not touched, and the bytes that are marked
   pub record Holds (k : ℕ) (f : List ℕ) : Type 0 where
-    pub size : length f ≡ flashSize
+    pub size : length f ≡ startOf board
     pub untouched : Untouched m before f
-    pub stands : (a : ℕ) → marked m k a ≡ true → getD f a 0 ≡ getD image a 0
+    pub stands : (a : ℕ) → marked board m k a ≡ true → getD f a 0 ≡ getD image a 0
 
   -- after n exchanges: the opening byte is out; or n - 1 packets are acknowledged and the next is out; or the
   -- session has ended
   pub data Stage (kind : RunKind) (l : Loader) (n : ℕ) (x : Moment) : Type 0 where
-    starts : n ≡ 0 → x ≡ begun m kind l before → Stage kind l n x
-    stands : (e : Effect) (k : ℕ) → n ≡ k + 1 → k < total m → e .loader ≡ serving l → Holds k (e .flash)
-        → x ≡ standing image m kind e k → Stage kind l n x
+    starts : n ≡ 0 → x ≡ begun board m kind l before → Stage kind l n x
+    stands : (e : Effect) (k : ℕ) → n ≡ k + 1 → k < total board m → e .loader ≡ serving l → Holds k (e .flash)
+        → x ≡ standing board image m kind e k → Stage kind l n x
     ends : (e : Effect) (u : Outcome) (k : ℕ) → Holds k (e .flash)
-        → (u ≡ Outcome.Valid → beforeRun m ≤ k) → x ≡ over m kind e u k → Stage kind l n x
+        → (u ≡ Outcome.Valid → beforeRun board m ≤ k) → x ≡ over board m kind e u k → Stage kind l n x
 
 -- ---- before the first V
 
-module _ (image m before : List ℕ) (long : length m ≡ mapSize) where
+module _ (board : ℕ) (image m before : List ℕ) (long : length m ≡ mapOf board) where
   -- before the first V is acknowledged no byte is marked
-  early : {k : ℕ} {f : List ℕ} → k ≤ runCount m + pieceCount m → length f ≡ flashSize → Untouched m before f
-      → Holds image m before k f
+  early : {k : ℕ} {f : List ℕ} → k ≤ runCount board m + pieceCount board m → length f ≡ startOf board
+      → Untouched m before f
+      → Holds board image m before k f
   early {k} l s u =
-      record { size = s; untouched = u; stands = λ a h. absurd (omega (arith, marked-late m long k a h)) }
+      record {
+        size = s;
+        untouched = u;
+        stands = λ a h. absurd (omega (arith, marked-late board m long k a h));
+      }
 
-  pub opening-holds : (f : List ℕ) → f ≡ before → length before ≡ flashSize → Holds image m before 0 f
+  pub opening-holds : (f : List ℕ) → f ≡ before → length before ≡ startOf board
+      → Holds board image m before 0 f
   opening-holds f e s = early (omega arith) (ap length e ∙ s) (λ a t. ap (λ (x : List ℕ). getD x a 0) e)
 
 -- the opening byte leaves flash as it was
-pub first-flash : (o : Loss) (l : Loader) (f : List ℕ) → length f ≡ flashSize → opened o l f .flash ≡ f
-first-flash o l f size =
-    served-by (λ (x : Effect). x .flash ≡ f) o (resetOf l) (openingByte ∷ []) f refl
-    (ap (λ (x : Answer Effect). effectAfter (resetOf l) f x .flash) (board-greets l f size))
+pub first-flash : (board : ℕ) (o : Loss) (l : Loader) (f : List ℕ) → length f ≡ startOf board
+    → opened board o l f .flash ≡ f
+first-flash board o l f size =
+    served-by board (λ (x : Effect). x .flash ≡ f) o (resetOf l) (openingByte ∷ []) f refl
+    (ap (λ (x : Answer Effect). effectAfter (resetOf l) f x .flash) (board-greets board l f size))
 
 -- ---- the loader's step keeps what flash holds
 
 -- the place that a V is at
-place : (a b : ℕ) → verifyAt a ≡ verifyAt b → a ≡ b
+place : (board : ℕ) (a b : ℕ) → verifyAt a ≡ verifyAt b → a ≡ b
 unfolding placeOf
-place a b e = ap placeOf e
+place board a b e = ap (placeOf board) e
 
-module _ (image m before : List ℕ) (right : length image ≡ flashSize) (long : length m ≡ mapSize)
+module _ (board : ℕ) (few : board ≤ 255) (image m before : List ℕ) (file : Loadable board image m)
     (kind : RunKind) (l : Loader) (serves : Serves l) (o : Loss) (f : List ℕ) (k : ℕ)
-    (h : Holds image m before k f) where
+    (h : Holds board image m before k f) where
   abbrev arriving : Effect
-  arriving = effectAfter l f (loaderTakes l (packetAt image m kind k) f)
+  arriving = effectAfter l f (loaderTakes board l (packetAt board image m kind k) f)
 
-  arrived : Out m k → Holds image m before k (arriving .flash)
+  arrived : Out board m k → Holds board image m before k (arriving .flash)
   arrived (erases q e r b) =
-      rw (e, takes-erase image m right long l serves f (h .size) q (r .begins))
-      (either-way (λ (x : Effect). Holds image m before k (x .flash)) l f _ _ h
-      (early image m before long (omega arith) (length-erase f (startOf q) (startOf (runLen m q)) ∙ h .size)
-      (erase-untouched m before f q (h .untouched))))
+      rw (e, takes-erase board few image m file l serves f (h .size) q (r .begins))
+      (either-way (λ (x : Effect). Holds board image m before k (x .flash)) l f _ _ h
+      (early board image m before (file .long) (omega arith)
+      (length-erase f (startOf q) (startOf (runLen board m q)) ∙ h .size)
+      (erase-untouched board m before f q (h .untouched))))
   arrived (writes a j e r t b) =
-      rw (e, takes-write image m right long l serves f (h .size) a (r .begins))
-      (either-way (λ (x : Effect). Holds image m before k (x .flash)) l f _ _ h
-      (early image m before long (omega arith) (length-store f a (pieceBytes image m a) ∙ h .size)
-      (store-untouched m before f (pieceBytes image m a) a (piece-carried m long image a right (r .begins) .0)
+      rw (e, takes-write board few image m file l serves f (h .size) a (r .begins))
+      (either-way (λ (x : Effect). Holds board image m before k (x .flash)) l f _ _ h
+      (early board image m before (file .long) (omega arith)
+      (length-store f a (pieceBytes image m a) ∙ h .size)
+      (store-untouched board m before f (pieceBytes image m a) a
+      (piece-carried board m (file .long) image a (file .right) (r .begins) .0)
       (h .untouched))))
   arrived (verifies a j e r t b) =
-      rw (e, takes-verify image m right long l serves f (h .size) a (r .begins), kept l f _) h
+      rw (e, takes-verify board few image m file l serves f (h .size) a (r .begins), kept l f _) h
   arrived (runs e t) =
-      rw (e, takes-run image m right long l serves f (h .size) kind, kept l f (running l _)) h
+      rw (e, takes-run board few image m file l serves f (h .size) kind, kept l f (running l _)) h
 
-  pub served-holds : k < total m → Holds image m before k (delivered o l (packetAt image m kind k) f .flash)
+  pub served-holds : k < total board m
+      → Holds board image m before k (delivered board o l (packetAt board image m kind k) f .flash)
   served-holds b =
-      served-by (λ (x : Effect). Holds image m before k (x .flash)) o l (packetAt image m kind k) f h
-      (arrived (out-after m long k b))
+      served-by board (λ (x : Effect). Holds board image m before k (x .flash)) o l
+      (packetAt board image m kind k) f h
+      (arrived (out-after board m (file .long) k b))
 
   -- until R it keeps the loader too
-  served-loader : k < beforeRun m → Out m k
-      → delivered o l (packetAt image m kind k) f .loader ≡ l
-  served-loader b t = served-by (λ (x : Effect). x .loader ≡ l) o l (packetAt image m kind k) f refl (go t)
+  served-loader : k < beforeRun board m → Out board m k
+      → delivered board o l (packetAt board image m kind k) f .loader ≡ l
+  served-loader b t =
+      served-by board (λ (x : Effect). x .loader ≡ l) o l (packetAt board image m kind k) f refl (go t)
     where
-      go : Out m k → arriving .loader ≡ l
+      go : Out board m k → arriving .loader ≡ l
       go (erases q e r b) =
-          rw (e, takes-erase image m right long l serves f (h .size) q (r .begins))
+          rw (e, takes-erase board few image m file l serves f (h .size) q (r .begins))
           (either-way (λ (x : Effect). x .loader ≡ l) l f _ _ refl refl)
       go (writes a j e r t b) =
-          rw (e, takes-write image m right long l serves f (h .size) a (r .begins))
+          rw (e, takes-write board few image m file l serves f (h .size) a (r .begins))
           (either-way (λ (x : Effect). x .loader ≡ l) l f _ _ refl refl)
       go (verifies a j e r t b) =
-          rw (e, takes-verify image m right long l serves f (h .size) a (r .begins))
+          rw (e, takes-verify board few image m file l serves f (h .size) a (r .begins))
           (sym (judged-does l f _ refl .loader-is))
       go (runs e t) = absurd (omega arith)
 
   -- an ACK marks the bytes that an accepted V has shown to stand
-  acked-holds : Bytes image → k < total m → (e : Effect) → loaderTakes l (packetAt image m kind k) f ≡ given e
-      → Holds image m before (k + 1) (delivered o l (packetAt image m kind k) f .flash)
-  acked-holds bytes b e q = go (out-after m long k b)
+  acked-holds : Bytes image → k < total board m → (e : Effect)
+      → loaderTakes board l (packetAt board image m kind k) f ≡ given e
+      → Holds board image m before (k + 1) (delivered board o l (packetAt board image m kind k) f .flash)
+  acked-holds bytes b e q = go (out-after board m (file .long) k b)
     where
       g : List ℕ
-      g = delivered o l (packetAt image m kind k) f .flash
+      g = delivered board o l (packetAt board image m kind k) f .flash
 
-      hg : Holds image m before k g
+      hg : Holds board image m before k g
       hg = served-holds b
 
-      go : Out m k → Holds image m before (k + 1) g
-      go (erases p t r c) = early image m before long (omega arith) (hg .size) (hg .untouched)
-      go (writes s j t r u c) = early image m before long (omega arith) (hg .size) (hg .untouched)
+      go : Out board m k → Holds board image m before (k + 1) g
+      go (erases p t r c) = early board image m before (file .long) (omega arith) (hg .size) (hg .untouched)
+      go (writes s j t r u c) =
+          early board image m before (file .long) (omega arith) (hg .size) (hg .untouched)
       go (verifies s j t r u c) =
           record {
             size = hg .size;
             untouched = hg .untouched;
-            stands = λ a n. marked-more m long k a n (hg .stands a)
-                (λ z v. let y : s ≡ z = place s z (sym t ∙ v .phase) in
+            stands = λ a n. marked-more board m (file .long) k a n (hg .stands a)
+                (λ z v. let y : s ≡ z = place board s z (sym t ∙ v .phase) in
                 ap (λ (x : List ℕ). getD x a 0) same
-                ∙ verified image m right long l serves f (h .size) bytes s (r .begins) e let-through a
+                ∙ verified board few image m file l serves f (h .size) bytes s (r .begins) e let-through a
                 (rw y (v .from)) (rw y (v .below)));
           }
         where
-          let-through : loaderTakes l (verifyPacket image m s) f ≡ given e
-          let-through = ap (λ (ph : Phase). loaderTakes l (packetOut image m kind ph) f) (sym t) ∙ q
+          let-through : loaderTakes board l (verifyPacket image m s) f ≡ given e
+          let-through =
+              ap (λ (ph : Phase). loaderTakes board l (packetOut board image m kind ph) f) (sym t) ∙ q
 
           same : g ≡ f
           same =
-              served-by (λ (x : Effect). x .flash ≡ f) o l (packetAt image m kind k) f refl
-              (rw (t, takes-verify image m right long l serves f (h .size) s (r .begins))
-              (kept l f (first (verifyRows pages l s (map turnedOf (pieceBytes image m s)) f) (given l))))
+              served-by board (λ (x : Effect). x .flash ≡ f) o l (packetAt board image m kind k) f refl
+              (rw (t, takes-verify board few image m file l serves f (h .size) s (r .begins))
+              (kept l f (first (verifyRows board l s (map turnedOf (pieceBytes image m s)) f) (given l))))
       go (runs t u) =
           record {
             size = hg .size;
             untouched = hg .untouched;
             stands = λ a n. hg .stands a
-                (all-marked m long k a (omega arith) ∙ sym (all-marked m long (k + 1) a (omega arith)) ∙ n);
+                (all-marked board m (file .long) k a (omega arith)
+                ∙ sym (all-marked board m (file .long) (k + 1) a (omega arith)) ∙ n);
           }
 
 -- ---- one exchange leads from stage to stage
 
-module _ (image m before : List ℕ) (right : length image ≡ flashSize) (long : length m ≡ mapSize)
-    (some : 0 < namedCount m) (bytes : Bytes image) (kind : RunKind) (l : Loader)
-    (size : length before ≡ flashSize) where
+module _ (board : ℕ) (few : board ≤ 255) (image m before : List ℕ) (file : Loadable board image m)
+    (bytes : Bytes image) (kind : RunKind) (l : Loader)
+    (size : length before ≡ startOf board) where
   abbrev At : ℕ → Moment → Type 0
-  At = Stage image m before kind l
+  At = Stage board image m before kind l
 
   abbrev start : Moment
-  start = begun m kind l before
+  start = begun board m kind l before
 
   -- an outcome that is a failure is not valid
   not-late : {u : Outcome} {k : ℕ} → failing u k ≡ true → u ≡ Outcome.Valid
-      → beforeRun m ≤ k
+      → beforeRun board m ≤ k
   not-late {u} {k} t e = absurd (true-false (sym t ∙ ap (λ (v : Outcome). failing v k) e))
 
-  silent-stage : (o : Loss) → eventIn (reply o start) ≡ Event.Silence → At 1 (exchangeOf image m o start)
+  silent-stage : (o : Loss) → eventIn (reply board o start) ≡ Event.Silence
+      → At 1 (exchangeOf board image m o start)
   silent-stage o h =
-      let s = on-silence image m right long some kind o l before h in
-      ends (opened o l before) (s .0) 0
-      (opening-holds image m before long _ (first-flash o l before size) size) (not-late (s .1)) (s .2)
+      let s = on-silence board image m file kind o l before h in
+      ends (opened board o l before) (s .0) 0
+      (opening-holds board image m before (file .long) _ (first-flash board o l before size) size)
+      (not-late (s .1)) (s .2)
 
-  first-stage : (o : Loss) → At 1 (exchangeOf image m o start)
+  first-stage : (o : Loss) → At 1 (exchangeOf board image m o start)
   first-stage Loss.Whole =
-      let g = board-greets l before size in
-      stands (opened Loss.Whole l before) 0 refl (omega arith)
+      let g = board-greets board l before size in
+      stands (opened board Loss.Whole l before) 0 refl (omega arith)
       (ap (λ (x : Answer Effect). effectAfter (resetOf l) before x .loader) g)
-      (opening-holds image m before long _ (first-flash Loss.Whole l before size) size)
-      (on-greeting image m right long some kind Loss.Whole l before
+      (opening-holds board image m before (file .long) _ (first-flash board Loss.Whole l before size) size)
+      (on-greeting board image m file kind Loss.Whole l before
       (ap (λ (x : Answer Effect). eventIn (answerBytes (resetOf l) x)) g ∙ greeting-heard))
   first-stage Loss.Lost = silent-stage Loss.Lost (silence-is [] refl)
   first-stage Loss.Unanswered = silent-stage Loss.Unanswered (silence-is [] refl)
 
   -- ACK goes on or ends valid, all else ends
-  next-stage : (o : Loss) (e : Effect) (k : ℕ) → k < total m → e .loader ≡ serving l
-      → Holds image m before k (e .flash)
-      → At (suc (k + 1)) (exchangeOf image m o (standing image m kind e k))
-  next-stage o e k b s h = ack-or (eventIn (reply o here)) on-it off-it
+  next-stage : (o : Loss) (e : Effect) (k : ℕ) → k < total board m → e .loader ≡ serving l
+      → Holds board image m before k (e .flash)
+      → At (suc (k + 1)) (exchangeOf board image m o (standing board image m kind e k))
+  next-stage o e k b s h = ack-or (eventIn (reply board o here)) on-it off-it
     where
       here : Moment
-      here = standing image m kind e k
+      here = standing board image m kind e k
 
       serves : Serves (e .loader)
       serves = rw s (serving-serves l)
 
-      off-it : isAck (eventIn (reply o here)) ≡ false → At (suc (k + 1)) (exchangeOf image m o here)
+      off-it : isAck (eventIn (reply board o here)) ≡ false
+          → At (suc (k + 1)) (exchangeOf board image m o here)
       off-it t =
-          let r = on-else image m right long some kind o e k b t in
-          ends _ (r .0) k (served-holds image m before right long kind (e .loader) serves o (e .flash) k h b)
+          let r = on-else board image m file kind o e k b t in
+          ends _ (r .0) k
+          (served-holds board few image m before file kind (e .loader) serves o (e .flash) k h b)
           (not-late (r .1)) (r .2)
 
-      on-it : eventIn (reply o here) ≡ Event.Ack → At (suc (k + 1)) (exchangeOf image m o here)
+      on-it : eventIn (reply board o here) ≡ Event.Ack → At (suc (k + 1)) (exchangeOf board image m o here)
       on-it t =
           let c : (o ≡ Loss.Whole) × (x : Effect)
-          × (loaderTakes (e .loader) (packetAt image m kind k) (e .flash) ≡ given x)
-          = acked o (e .loader) _ (e .flash) (serves .condition-is) t in
-          let g = acked-holds image m before right long kind (e .loader) serves o (e .flash) k h bytes b
+          × (loaderTakes board (e .loader) (packetAt board image m kind k) (e .flash) ≡ given x)
+          = acked board o (e .loader) _ (e .flash) (serves .condition-is) t in
+          let g = acked-holds board few image m before file kind (e .loader) serves o (e .flash) k h bytes b
           (c .1) (c .2) in
-          let x = served image m kind o e k in
-          decide (ltb (k + 1) (total m))
-          (λ d. let n = ltb-true (k + 1) (total m) d in
+          let x = served board image m kind o e k in
+          decide (ltb (k + 1) (total board m))
+          (λ d. let n = ltb-true (k + 1) (total board m) d in
           stands x (k + 1) (omega arith) n
-          (served-loader image m before right long kind (e .loader) serves o (e .flash) k h (omega arith)
-          (out-after m long k b) ∙ s) g
-          (on-ack image m right long some kind o e k b n t))
-          (λ d. let n : k + 1 ≡ total m = omega (arith, ltb-false (k + 1) (total m) d) in
-          ends x Outcome.Valid (total m) (subst (λ (j : ℕ). Holds image m before j (x .flash)) n g)
-          (λ q. omega arith) (on-last image m right long some kind o e k b n t))
+          (served-loader board few image m before file kind (e .loader) serves o (e .flash) k h (omega arith)
+          (out-after board m (file .long) k b) ∙ s) g
+          (on-ack board image m file kind o e k b n t))
+          (λ d. let n : k + 1 ≡ total board m = omega (arith, ltb-false (k + 1) (total board m) d) in
+          ends x Outcome.Valid (total board m)
+          (subst (λ (j : ℕ). Holds board image m before j (x .flash)) n g)
+          (λ q. omega arith) (on-last board image m file kind o e k b n t))
 
   -- after any number of exchanges
-  pub stage : (losses : ℕ → Loss) (n : ℕ) → At n (loadAt image m kind l losses before n)
+  pub stage : (losses : ℕ → Loss) (n : ℕ) → At n (loadAt board image m kind l losses before n)
   unfolding momentAt
   stage losses zero = starts refl refl
-  stage losses (suc n) = go (loadAt image m kind l losses before n) (stage losses n)
+  stage losses (suc n) = go (loadAt board image m kind l losses before n) (stage losses n)
     where
       go : (x : Moment) → At n x
-          → At (suc n) (pick (ended (x .session .phase)) x (exchangeOf image m (losses n) x))
+          → At (suc n) (pick (ended (x .session .phase)) x (exchangeOf board image m (losses n) x))
       go x (starts z q) = rw (q, z) (first-stage (losses 0))
-      go x (stands e k z b s h q) = rw (q, phase-open m k, z) (next-stage (losses (k + 1)) e k b s h)
+      go x (stands e k z b s h q) = rw (q, phase-open board m k, z) (next-stage (losses (k + 1)) e k b s h)
       go x (ends e u k h v q) = rw q (ends e u k h v refl)

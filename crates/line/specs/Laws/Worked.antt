@@ -9,7 +9,7 @@ use borrow.Author.Tests.{ltb-true, ltb-false}
 use lib.Dec.{ltb}
 use lib.ListN.{length, replicate, length-replicate, getD-replicate, List·getD-eq-default}
 use Rattle.basis.specs.Bits.{bit}
-use Rattle.basis.specs.Board.{flashSize, mapSize}
+use Rattle.basis.specs.Board.{flashSize, mapSize, pages}
 use Rattle.basis.specs.Laws.Choice.{decide}
 use Rattle.basis.specs.Lists.{Bytes}
 use Rattle.basis.specs.Units.{pageGroupOf}
@@ -22,6 +22,7 @@ use Rattle.runs.specs.Laws.Map.{name-length, name-same}
 use Rattle.runs.specs.Laws.Runs.{rank-below}
 use Rattle.runs.specs.Map.{named, nameOf}
 use Rattle.session.specs.Plan.{total}
+use Rattle.session.specs.Session.{Loadable}
 use Rattle.session.specs.declared.phase.RunKind.{RunKind}
 
 abbrev image : List ℕ
@@ -39,6 +40,14 @@ map-long = name-length (replicate mapSize 0) 0x200 ∙ length-replicate {A = ℕ
 one-named : named map 0x200 ≡ true
 one-named = name-same (replicate mapSize 0) 0x200 (omega (arith, length-replicate {A = ℕ} mapSize 0))
 
+file : Loadable pages image map
+file =
+    record {
+      right = length-replicate {A = ℕ} flashSize 0x12;
+      long = map-long;
+      some = omega (arith, rank-below (named map) flashSize 0x200 (omega arith) one-named);
+    }
+
 image-bytes : Bytes image
 image-bytes k =
     decide (ltb k flashSize)
@@ -51,12 +60,12 @@ image-bytes k =
 no-group : (g : ℕ) → bit 0 g ≡ false
 no-group g = simp zero-div
 
-pub worked : let x = loadAt image map RunKind.Reset factoryOf (λ i. Loss.Whole) flash (total map + 1) in
+pub worked : let x = loadAt pages image map RunKind.Reset factoryOf (λ i. Loss.Whole) flash
+    (total pages map + 1) in
     (Valid (x .session)) × (Stands (x .flash) image 0x200)
 worked =
-    let v = valid image map flash (length-replicate {A = ℕ} flashSize 0x12) map-long
-    (omega (arith, rank-below (named map) flashSize 0x200 (omega arith) one-named)) image-bytes
+    let v = valid pages (omega arith) image map flash file image-bytes
     RunKind.Reset factoryOf (length-replicate {A = ℕ} flashSize 0x00) (λ i. Loss.Whole) (λ n. refl)
-    (record { unprotected = λ q t. no-group (pageGroupOf q); readable = refl }) (total map + 1)
+    (record { unprotected = λ q t. no-group (pageGroupOf q); readable = refl }) (total pages map + 1)
     (omega arith) in
     (v .0, v .1 0x200 one-named)

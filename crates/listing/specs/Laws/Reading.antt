@@ -26,7 +26,11 @@ module _ (size : ℕ) (h : Hex) (image map : List ℕ) where
   -- by its first character c
   abbrev early : ℕ → Answer File
   early c =
-      first (20 when sizeWrong size image map ∷ 21 when h .ended ∷ 22 when not (eqb c 0x3A) ∷ []) (refused 23)
+      first
+      (20 when not (rightSizesIn size (length image) (length map))
+      ∷ 21 when h .ended
+      ∷ 22 when not (eqb c 0x3A) ∷ [])
+      (refused 23)
 
   long-record : (l : List ℕ) → 521 < length l → recordIn size h l image map ≡ early (getD l 0 0)
   unfolding first recordIn

@@ -42,92 +42,98 @@ either-way P l f e t p q = by-table (λ (x : Answer Effect). P (effectAfter l f 
 
 -- ---- E: 7, 8, or let through
 
-module _ {A : Type 0} (k : ℕ) (l : Loader) (a n : ℕ) (r : Answer A) where
-  pub erase-none : n ≡ 0 → first (eraseRows k l a n) r ≡ refused 7
+module _ {A : Type 0} (board : ℕ) (l : Loader) (a n : ℕ) (r : Answer A) where
+  pub erase-none : n ≡ 0 → first (eraseRows board l a n) r ≡ refused 7
   unfolding eraseRows
   erase-none h = stop 7 _ _ r (either-first (eqb n 0) _ (eq-eqb n 0 h))
 
-  pub erase-past : startOf k ≤ a → first (eraseRows k l a n) r ≡ refused 7
+  pub erase-past : startOf board ≤ a → first (eraseRows board l a n) r ≡ refused 7
   unfolding eraseRows
-  erase-past h = stop 7 _ _ r (either-second (eqb n 0) _ (either-first (leb (startOf k) a) _ (le-leb _ _ h)))
+  erase-past h =
+      stop 7 _ _ r (either-second (eqb n 0) _ (either-first (leb (startOf board) a) _ (le-leb _ _ h)))
 
-  pub erase-over : k < pageOf a + n → first (eraseRows k l a n) r ≡ refused 7
+  pub erase-over : board < pageOf a + n → first (eraseRows board l a n) r ≡ refused 7
   unfolding eraseRows
-  erase-over h = stop 7 _ _ r (either-second (eqb n 0) _ (either-second (leb (startOf k) a) _ (lt-ltb k (pageOf a + n) h)))
+  erase-over h =
+      stop 7 _ _ r
+      (either-second (eqb n 0) _ (either-second (leb (startOf board) a) _ (lt-ltb board (pageOf a + n) h)))
 
-  erase-inside : (n ≡ 0 → ⊥) → a < startOf k → pageOf a + n ≤ k
-      → first (eraseRows k l a n) r
+  erase-inside : (n ≡ 0 → ⊥) → a < startOf board → pageOf a + n ≤ board
+      → first (eraseRows board l a n) r
       ≡ first (8 when protectedPages (l .protection) (pageOf a) (pageOf a + n) ∷ []) r
   unfolding eraseRows
   erase-inside p q s =
-      skip 7 _ _ r (either-false (eqb n 0) _ (ne-eqb n 0 p) (either-false (leb (startOf k) a) _ (lt-leb (startOf k) a q) (le-ltb k (pageOf a + n) s)))
+      skip 7 _ _ r
+      (either-false (eqb n 0) _ (ne-eqb n 0 p)
+      (either-false (leb (startOf board) a) _ (lt-leb (startOf board) a q) (le-ltb board (pageOf a + n) s)))
 
-  module _ (p : n ≡ 0 → ⊥) (q : a < startOf k) (s : pageOf a + n ≤ k) where
+  module _ (p : n ≡ 0 → ⊥) (q : a < startOf board) (s : pageOf a + n ≤ board) where
     pub erase-protected : protectedPages (l .protection) (pageOf a) (pageOf a + n) ≡ true
-        → first (eraseRows k l a n) r ≡ refused 8
+        → first (eraseRows board l a n) r ≡ refused 8
     erase-protected t = erase-inside p q s ∙ stop 8 _ _ r t
 
     pub erase-passes : protectedPages (l .protection) (pageOf a) (pageOf a + n) ≡ false
-        → first (eraseRows k l a n) r ≡ r
+        → first (eraseRows board l a n) r ≡ r
     erase-passes t = erase-inside p q s ∙ skip 8 _ _ r t ∙ done r
 
 -- what is let through has pages, lies in flash, and is not protected
-pub erase-let : {A : Type 0} {y : A} (k : ℕ) (l : Loader) (a n : ℕ) (r : Answer A)
-    → first (eraseRows k l a n) r ≡ given y
-    → (n ≡ 0 → ⊥) × (a < startOf k) × (pageOf a + n ≤ k)
+pub erase-let : {A : Type 0} {y : A} (board : ℕ) (l : Loader) (a n : ℕ) (r : Answer A)
+    → first (eraseRows board l a n) r ≡ given y
+    → (n ≡ 0 → ⊥) × (a < startOf board) × (pageOf a + n ≤ board)
     × (protectedPages (l .protection) (pageOf a) (pageOf a + n) ≡ false)
 unfolding eraseRows
-erase-let k l a n r e =
+erase-let board l a n r e =
     let p = passed 7 _ _ _ e in
     let q = either-none (eqb n 0) _ (p .0) in
-    let s = either-none (leb (startOf k) a) _ (q .1) in
+    let s = either-none (leb (startOf board) a) _ (q .1) in
     (eqb-false n 0 (q .0), leb-false _ _ (s .0), ltb-false _ _ (s .1), passed 8 _ _ _ (p .1) .0)
 
-module _ (k : ℕ) (l : Loader) (a n : ℕ) (f : List ℕ) where
-  pub erasing-open : l .sequence .opened ≡ true → erasing k l a n f ≡ refused 9
+module _ (board : ℕ) (l : Loader) (a n : ℕ) (f : List ℕ) where
+  pub erasing-open : l .sequence .opened ≡ true → erasing board l a n f ≡ refused 9
   unfolding erasing
   erasing-open h = stop 9 _ _ _ h
 
   module _ (p : l .sequence .opened ≡ false) where
     pub erasing-mass : massErase a n ≡ true
-        → erasing k l a n f ≡ given (record { loader = clearedOf l; flash = eraseOf f 0 (length f) })
+        → erasing board l a n f ≡ given (record { loader = clearedOf l; flash = eraseOf f 0 (length f) })
     unfolding erasing
     erasing-mass h = skip 9 _ _ _ p ∙ done _ ∙ simp h
 
     pub erasing-pages : massErase a n ≡ false
-        → erasing k l a n f
-        ≡ first (eraseRows k l a n)
+        → erasing board l a n f
+        ≡ first (eraseRows board l a n)
         (given (record { loader = l; flash = eraseOf f (startOf (pageOf a)) (n * pageSize) }))
     unfolding erasing
     erasing-pages h = skip 9 _ _ _ p ∙ done _ ∙ simp h
 
 -- ---- W: 9, 7, 8, or let through
 
-module _ {A : Type 0} (k : ℕ) (l : Loader) (a x : ℕ) (r : Answer A) where
-  pub write-open : l .sequence .opened ≡ true → first (writeRows k l a x) r ≡ refused 9
+module _ {A : Type 0} (board : ℕ) (l : Loader) (a x : ℕ) (r : Answer A) where
+  pub write-open : l .sequence .opened ≡ true → first (writeRows board l a x) r ≡ refused 9
   unfolding writeRows
   write-open h = stop 9 _ _ r h
 
   module _ (p : l .sequence .opened ≡ false) where
-    pub write-past : startOf k < a + x → first (writeRows k l a x) r ≡ refused 7
+    pub write-past : startOf board < a + x → first (writeRows board l a x) r ≡ refused 7
     unfolding writeRows
     write-past h = skip 9 _ _ r p ∙ stop 7 _ _ r (lt-ltb _ _ h)
 
-    pub write-protected : a + x ≤ startOf k → protectedBytes (l .protection) a (a + x) ≡ true
-        → first (writeRows k l a x) r ≡ refused 8
+    pub write-protected : a + x ≤ startOf board → protectedBytes (l .protection) a (a + x) ≡ true
+        → first (writeRows board l a x) r ≡ refused 8
     unfolding writeRows
     write-protected q t = skip 9 _ _ r p ∙ skip 7 _ _ r (le-ltb _ _ q) ∙ stop 8 _ _ r t
 
-    pub write-passes : a + x ≤ startOf k → protectedBytes (l .protection) a (a + x) ≡ false
-        → first (writeRows k l a x) r ≡ r
+    pub write-passes : a + x ≤ startOf board → protectedBytes (l .protection) a (a + x) ≡ false
+        → first (writeRows board l a x) r ≡ r
     unfolding writeRows
     write-passes q t = skip 9 _ _ r p ∙ skip 7 _ _ r (le-ltb _ _ q) ∙ skip 8 _ _ r t ∙ done r
 
-pub write-let : {A : Type 0} {y : A} (k : ℕ) (l : Loader) (a x : ℕ) (r : Answer A)
-    → first (writeRows k l a x) r ≡ given y
-    → (l .sequence .opened ≡ false) × (a + x ≤ startOf k) × (protectedBytes (l .protection) a (a + x) ≡ false)
+pub write-let : {A : Type 0} {y : A} (board : ℕ) (l : Loader) (a x : ℕ) (r : Answer A)
+    → first (writeRows board l a x) r ≡ given y
+    → (l .sequence .opened ≡ false) × (a + x ≤ startOf board)
+    × (protectedBytes (l .protection) a (a + x) ≡ false)
 unfolding writeRows
-write-let k l a x r e =
+write-let board l a x r e =
     let p = passed 9 _ _ _ e in
     let q = passed 7 _ _ _ (p .1) in
     (p .0, ltb-false _ _ (q .0), passed 8 _ _ _ (q .1) .0)
@@ -151,7 +157,8 @@ module _ (l : Loader) (f : List ℕ) where
   pub judged-does : (t : List Rule) {v : Answer (Unit {0})} → v ≡ first t (given tt)
       → Does (keeping f (first t (given l))) l f v l f
   judged-does t {v} e =
-      subst (λ (x : Answer Loader). Does (keeping f x) l f v l f) (sym (first-then t (given l))) (go (first t (given tt)) e)
+      subst (λ (x : Answer Loader). Does (keeping f x) l f v l f) (sym (first-then t (given l)))
+      (go (first t (given tt)) e)
     where
       go : (a : Answer (Unit {0})) → v ≡ a → Does (keeping f (andThen a (given l))) l f v l f
       go (refused n) e = record { verdict-is = e; loader-is = refl; flash-is = refl }
@@ -159,38 +166,38 @@ module _ (l : Loader) (f : List ℕ) where
 
 -- ---- each command by its byte
 
-module _ (k : ℕ) (l : Loader) (a : ℕ) (d f : List ℕ) where
-  pub obey-erase : obeyOf k l 0x45 a d f ≡ erasing k l a (getD d 0 0) f
+module _ (board : ℕ) (l : Loader) (a : ℕ) (d f : List ℕ) where
+  pub obey-erase : obeyOf board l 0x45 a d f ≡ erasing board l a (getD d 0 0) f
   unfolding obeyOf
   obey-erase = refl
 
-  pub obey-write : obeyOf k l 0x57 a d f ≡ writing k l a d f
+  pub obey-write : obeyOf board l 0x57 a d f ≡ writing board l a d f
   unfolding obeyOf
   obey-write = refl
 
-  pub obey-verify : obeyOf k l 0x56 a d f ≡ keeping f (first (verifyRows k l a d f) (given l))
+  pub obey-verify : obeyOf board l 0x56 a d f ≡ keeping f (first (verifyRows board l a d f) (given l))
   unfolding obeyOf
   obey-verify = refl
 
-  pub obey-protect : obeyOf k l 0x50 a d f ≡ keeping f (protecting k l a (getD d 0 0))
+  pub obey-protect : obeyOf board l 0x50 a d f ≡ keeping f (protecting board l a (getD d 0 0))
   unfolding obeyOf
   obey-protect = refl
 
-  pub obey-run : obeyOf k l 0x52 a d f ≡ keeping f (running l a)
+  pub obey-run : obeyOf board l 0x52 a d f ≡ keeping f (running l a)
   unfolding obeyOf
   obey-run = refl
 
--- ---- V: let through exactly when no sequence is open, the range fits, reading is free and the bytes are equal
+-- ---- V: let through exactly when no sequence is open, the range fits, reading is free, the bytes are equal
 
-module _ {A : Type 0} (k : ℕ) (l : Loader) (a : ℕ) (d f : List ℕ) (r : Answer A) where
-  pub verify-passes : l .sequence .opened ≡ false → a + length d ≤ startOf k → l .protection .read ≡ false
-      → equalsOf f a d ≡ true → first (verifyRows k l a d f) r ≡ r
+module _ {A : Type 0} (board : ℕ) (l : Loader) (a : ℕ) (d f : List ℕ) (r : Answer A) where
+  pub verify-passes : l .sequence .opened ≡ false → a + length d ≤ startOf board → l .protection .read ≡ false
+      → equalsOf f a d ≡ true → first (verifyRows board l a d f) r ≡ r
   unfolding verifyRows
   verify-passes p q s t =
       skip 9 _ _ r p ∙ skip 7 _ _ r (le-ltb _ _ q) ∙ skip 8 _ _ r s ∙ skip 10 _ _ r (ap not t) ∙ done r
 
-  pub verify-let : {y : A} → first (verifyRows k l a d f) r ≡ given y
-      → (l .sequence .opened ≡ false) × (a + length d ≤ startOf k) × (l .protection .read ≡ false)
+  pub verify-let : {y : A} → first (verifyRows board l a d f) r ≡ given y
+      → (l .sequence .opened ≡ false) × (a + length d ≤ startOf board) × (l .protection .read ≡ false)
       × (equalsOf f a d ≡ true)
   unfolding verifyRows
   verify-let e =

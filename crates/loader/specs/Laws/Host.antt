@@ -21,51 +21,56 @@ use Rattle.packet.specs.Laws.Packet.{packet-data, carried-plainly, read-erase, 
 use Rattle.packet.specs.Packet.{carriedOf, packet, Parts, said, readOf, dataMost}
 use Rattle.packet.specs.Turn.{turnedOf}
 
-module _ (k : ℕ) (l : Loader) (f : List ℕ) (room : ℕ) (size : length f ≡ startOf k) (fits : answerMost ≤ room) where
+module _ (board : ℕ) (l : Loader) (f : List ℕ) (room : ℕ) (size : length f ≡ startOf board)
+    (fits : answerMost ≤ room) where
   -- the opening byte
   pub sent-opening : l .condition ≡ Waiting
-      → takeOf k l (openingByte ∷ []) f room ≡ given (record { loader = withCondition l Serving; flash = f })
+      → takeOf board l (openingByte ∷ []) f room
+      ≡ given (record { loader = withCondition l Serving; flash = f })
   sent-opening c =
-      take-heard k l (openingByte ∷ []) f room size fits ∙ heard-waiting k l (openingByte ∷ []) f c refl
+      take-heard board l (openingByte ∷ []) f room size fits
+      ∙ heard-waiting board l (openingByte ∷ []) f c refl
 
   module _ (c : l .condition ≡ Serving) where
     sent : (b a : ℕ) (d : List ℕ) → readOf (packet b a d) ≡ given (said b a d)
-        → takeOf k l (packet b a d) f room ≡ obeyOf k l b a (map (carriedOf b) d) f
+        → takeOf board l (packet b a d) f room ≡ obeyOf board l b a (map (carriedOf b) d) f
     sent b a d e =
-        take-heard k l (packet b a d) f room size fits
-        ∙ heard-serving k l (packet b a d) f c
-        ∙ served-packet k l (packet b a d) f (said b a d) e
-        ∙ ap (λ (s : List ℕ). obeyOf k l b a s f) (packet-data b a d)
+        take-heard board l (packet b a d) f room size fits
+        ∙ heard-serving board l (packet b a d) f c
+        ∙ served-packet board l (packet b a d) f (said b a d) e
+        ∙ ap (λ (s : List ℕ). obeyOf board l b a s f) (packet-data b a d)
 
     module _ (a : ℕ) (h : a < 2 ^ 32) where
-      pub sent-erase : (n : ℕ) → takeOf k l (packet 0x45 a (n ∷ [])) f room ≡ erasing k l a n f
-      sent-erase n = sent 0x45 a (n ∷ []) (read-erase a h n) ∙ obey-erase k l a (n ∷ []) f
+      pub sent-erase : (n : ℕ) → takeOf board l (packet 0x45 a (n ∷ [])) f room ≡ erasing board l a n f
+      sent-erase n = sent 0x45 a (n ∷ []) (read-erase a h n) ∙ obey-erase board l a (n ∷ []) f
 
       pub sent-write : (d : List ℕ) → 0 < length d → length d ≤ dataMost
-          → takeOf k l (packet 0x57 a d) f room ≡ writing k l a d f
+          → takeOf board l (packet 0x57 a d) f room ≡ writing board l a d f
       sent-write d p q =
           sent 0x57 a d (read-write a h d p q)
-          ∙ obey-write k l a (map (carriedOf 0x57) d) f
-          ∙ ap (λ (s : List ℕ). writing k l a s f) (carried-plainly 0x57 d refl)
+          ∙ obey-write board l a (map (carriedOf 0x57) d) f
+          ∙ ap (λ (s : List ℕ). writing board l a s f) (carried-plainly 0x57 d refl)
 
       pub sent-verify : (d : List ℕ) → 0 < length d → length d ≤ dataMost
-          → takeOf k l (packet 0x56 a d) f room
-          ≡ keeping f (first (verifyRows k l a (map turnedOf d) f) (given l))
-      sent-verify d p q = sent 0x56 a d (read-verify a h d p q) ∙ obey-verify k l a (map (carriedOf 0x56) d) f
+          → takeOf board l (packet 0x56 a d) f room
+          ≡ keeping f (first (verifyRows board l a (map turnedOf d) f) (given l))
+      sent-verify d p q =
+          sent 0x56 a d (read-verify a h d p q) ∙ obey-verify board l a (map (carriedOf 0x56) d) f
 
-      pub sent-run : takeOf k l (packet 0x52 a []) f room ≡ keeping f (running l a)
-      sent-run = sent 0x52 a [] (read-run a h) ∙ obey-run k l a [] f
+      pub sent-run : takeOf board l (packet 0x52 a []) f room ≡ keeping f (running l a)
+      sent-run = sent 0x52 a [] (read-run a h) ∙ obey-run board l a [] f
 
 -- V, P and R never change flash
 pub kept : (l : Loader) (f : List ℕ) (x : Answer Loader) → effectAfter l f (keeping f x) .flash ≡ f
 kept l f x = ap (λ (e : Effect). e .flash) (keeping-is l f x)
 
-flash-kept : (k : ℕ) (l : Loader) (c a : ℕ) (d f : List ℕ) → (c ≡ 0x45 → ⊥) → (c ≡ 0x57 → ⊥)
-    → effectAfter l f (obeyOf k l c a d f) .flash ≡ f
+flash-kept : (board : ℕ) (l : Loader) (c a : ℕ) (d f : List ℕ) → (c ≡ 0x45 → ⊥) → (c ≡ 0x57 → ⊥)
+    → effectAfter l f (obeyOf board l c a d f) .flash ≡ f
 unfolding obeyOf
-flash-kept k l c a d f e w =
+flash-kept board l c a d f e w =
     rw (ne-eqb c 0x45 e, ne-eqb c 0x57 w)
-    (go (eqb c 0x56) (eqb c 0x50) (first (verifyRows k l a d f) (given l)) (protecting k l a (getD d 0 0)) (running l a))
+    (go (eqb c 0x56) (eqb c 0x50) (first (verifyRows board l a d f) (given l))
+    (protecting board l a (getD d 0 0)) (running l a))
   where
     go : (v p : Bool) (x y z : Answer Loader)
         → effectAfter l f (pick v (keeping f x) (pick p (keeping f y) (keeping f z))) .flash ≡ f
@@ -74,9 +79,9 @@ flash-kept k l c a d f e w =
     go false false x y z = kept l f z
 
 -- so only a packet of E or W changes it
-pub flash-by : (k : ℕ) (l : Loader) (s f : List ℕ) (room : ℕ)
+pub flash-by : (board : ℕ) (l : Loader) (s f : List ℕ) (room : ℕ)
     → ((p : Parts) → readOf s ≡ given p → (p .command ≡ 0x45 → ⊥) × (p .command ≡ 0x57 → ⊥))
-    → effectAfter l f (takeOf k l s f room) .flash ≡ f
-flash-by k l s f room h =
-    any-input (λ (e : Effect). e .flash ≡ f) k l s f room refl refl
-    (λ p e. let q = h p e in flash-kept k l (p .command) (p .address) (sentData s p) f (q .0) (q .1))
+    → effectAfter l f (takeOf board l s f room) .flash ≡ f
+flash-by board l s f room h =
+    any-input (λ (e : Effect). e .flash ≡ f) board l s f room refl refl
+    (λ p e. let q = h p e in flash-kept board l (p .command) (p .address) (sentData s p) f (q .0) (q .1))

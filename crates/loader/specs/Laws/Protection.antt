@@ -66,47 +66,55 @@ held see l m t e = by-table (λ (x : Answer Loader). see (loaderAfter l x) ≡ s
 abbrev force : Loader → Protection
 force l = l .protection
 
-module _ (k : ℕ) (l : Loader) (a : ℕ) where
+module _ (board : ℕ) (l : Loader) (a : ℕ) where
   erase-keeps : (n : ℕ) (f : List ℕ) → massErase a n ≡ false
-      → force (effectAfter l f (erasing k l a n f) .loader) ≡ force l
+      → force (effectAfter l f (erasing board l a n f) .loader) ≡ force l
   erase-keeps n f e =
       decide (l .sequence .opened)
-      (λ p. rw (erasing-open k l a n f p))
-      (λ p. rw (erasing-pages k l a n f p e) (either-way (λ (x : Effect). force (x .loader) ≡ force l) l f _ (eraseRows k l a n) refl refl))
+      (λ p. rw (erasing-open board l a n f p))
+      (λ p. rw (erasing-pages board l a n f p e)
+      (either-way (λ (x : Effect). force (x .loader) ≡ force l) l f _ (eraseRows board l a n) refl refl))
 
   protect-keeps : (t : ℕ) → either (eqb t 0x00) (eqb t 0x0F) ≡ true
-      → force (loaderAfter l (protecting k l a t)) ≡ force l
+      → force (loaderAfter l (protecting board l a t)) ≡ force l
   unfolding protecting opening adding
   protect-keeps t e = go (eqb t 0x00) (eqb t 0x0F) e
     where
       go : (o g : Bool) → either o g ≡ true
-          → force (loaderAfter l (pick o (opening l) (pick g (adding k l a) (closing l a)))) ≡ force l
+          → force (loaderAfter l (pick o (opening l) (pick g (adding board l a) (closing l a)))) ≡ force l
       go true g e = held force l (withAdded l none) _ refl
-      go false true e = held force l (withAdded l (addedOf k (l .sequence .added) a)) _ refl
+      go false true e = held force l (withAdded l (addedOf board (l .sequence .added) a)) _ refl
       go false false e = absurd (true-false (sym e))
 
   -- of the commands, a mass erase and a P of type 0x01 change it, and no other
   pub force-kept : (c : ℕ) (d f : List ℕ) → (c ≡ 0x45 → massErase a (getD d 0 0) ≡ false)
       → (c ≡ 0x50 → either (eqb (getD d 0 0) 0x00) (eqb (getD d 0 0) 0x0F) ≡ true)
-      → force (effectAfter l f (obeyOf k l c a d f) .loader) ≡ force l
+      → force (effectAfter l f (obeyOf board l c a d f) .loader) ≡ force l
   unfolding obeyOf writing running
   force-kept c d f e p =
       decide (eqb c 0x45) (λ t. rw t (erase-keeps (getD d 0 0) f (e (eqb-true c 0x45 t))))
-      (λ t. decide (eqb c 0x57) (λ u. rw (t, u) (either-way (λ (x : Effect). force (x .loader) ≡ force l) l f _ (writeRows k l a (length d)) refl refl))
-      (λ u. decide (eqb c 0x56) (λ v. rw (t, u, v, keeping-is l f (first (verifyRows k l a d f) (given l))) (held force l l (verifyRows k l a d f) refl))
-      (λ v. decide (eqb c 0x50) (λ w. rw (t, u, v, w, keeping-is l f (protecting k l a (getD d 0 0))) (protect-keeps (getD d 0 0) (p (eqb-true c 0x50 w))))
+      (λ t. decide (eqb c 0x57)
+      (λ u. rw (t, u)
+      (either-way (λ (x : Effect). force (x .loader) ≡ force l) l f _
+      (writeRows board l a (length d)) refl refl))
+      (λ u. decide (eqb c 0x56)
+      (λ v. rw (t, u, v, keeping-is l f (first (verifyRows board l a d f) (given l)))
+      (held force l l (verifyRows board l a d f) refl))
+      (λ v. decide (eqb c 0x50)
+      (λ w. rw (t, u, v, w, keeping-is l f (protecting board l a (getD d 0 0)))
+      (protect-keeps (getD d 0 0) (p (eqb-true c 0x50 w))))
       (λ w. rw (t, u, v, w, keeping-is l f (running l a)) (held force l (withCondition l Left) _ refl)))))
 
 -- so of all inputs only a packet of these two changes it
-pub force-by : (k : ℕ) (l : Loader) (s f : List ℕ) (room : ℕ)
+pub force-by : (board : ℕ) (l : Loader) (s f : List ℕ) (room : ℕ)
     → ((p : Parts) → readOf s ≡ given p
     → (p .command ≡ 0x45 → massErase (p .address) (getD (sentData s p) 0 0) ≡ false)
     × (p .command ≡ 0x50
     → either (eqb (getD (sentData s p) 0 0) 0x00) (eqb (getD (sentData s p) 0 0) 0x0F) ≡ true))
-    → force (effectAfter l f (takeOf k l s f room) .loader) ≡ force l
-force-by k l s f room h =
-    any-input (λ (e : Effect). force (e .loader) ≡ force l) k l s f room refl refl
-    (λ p e. let q = h p e in force-kept k l (p .address) (p .command) (sentData s p) f (q .0) (q .1))
+    → force (effectAfter l f (takeOf board l s f room) .loader) ≡ force l
+force-by board l s f room h =
+    any-input (λ (e : Effect). force (e .loader) ≡ force l) board l s f room refl refl
+    (λ p e. let q = h p e in force-kept board l (p .address) (p .command) (sentData s p) f (q .0) (q .1))
 
 -- and by the latter it grows: no group and no read protection is lost
 pub close-grows : (l : Loader) (a g : ℕ) → bit (l .protection .groups) g ≡ true
@@ -115,7 +123,8 @@ unfolding closing
 close-grows l a g e =
     decide (not (l .sequence .opened))
     (λ t. rw (stop 9 _ [] (given (joinedOf l a)) t) e)
-    (λ t. rw (skip 9 _ [] (given (joinedOf l a)) t ∙ done _) (join-groups (l .protection) (l .sequence .added) g ∙ either-first (bit (l .protection .groups) g) _ e))
+    (λ t. rw (skip 9 _ [] (given (joinedOf l a)) t ∙ done _)
+    (join-groups (l .protection) (l .sequence .added) g ∙ either-first (bit (l .protection .groups) g) _ e))
 
 pub close-grows-read : (l : Loader) (a : ℕ) → l .protection .read ≡ true
     → loaderAfter l (closing l a) .protection .read ≡ true

@@ -19,71 +19,75 @@ use Rattle.loader.specs.declared.state.Condition.the-variants.{Waiting, 
 use Rattle.loader.specs.declared.state.Loader.{Loader}
 use Rattle.packet.specs.Packet.{Parts, readOf}
 
-module _ (k : ℕ) (l : Loader) (s f : List ℕ) where
+module _ (board : ℕ) (l : Loader) (s f : List ℕ) where
   -- ---- by condition
   pub heard-waiting : l .condition ≡ Waiting → opensBoard s ≡ true
-      → hearOf k l s f ≡ given (record { loader = withCondition l Serving; flash = f })
+      → hearOf board l s f ≡ given (record { loader = withCondition l Serving; flash = f })
   unfolding hearOf
   heard-waiting c o = rw c (skip 11 _ _ _ (ap not o) ∙ done _)
 
-  pub waiting-unheard : l .condition ≡ Waiting → opensBoard s ≡ false → hearOf k l s f ≡ refused 11
+  pub waiting-unheard : l .condition ≡ Waiting → opensBoard s ≡ false → hearOf board l s f ≡ refused 11
   unfolding hearOf
   waiting-unheard c o = rw c (stop 11 _ _ _ (ap not o))
 
-  pub heard-serving : l .condition ≡ Serving → hearOf k l s f ≡ serveOf k l s f
+  pub heard-serving : l .condition ≡ Serving → hearOf board l s f ≡ serveOf board l s f
   unfolding hearOf
   heard-serving c = rw c (skip 11 _ _ _ refl ∙ done _)
 
-  pub left-unheard : l .condition ≡ Left → hearOf k l s f ≡ refused 11
+  pub left-unheard : l .condition ≡ Left → hearOf board l s f ≡ refused 11
   unfolding hearOf
   left-unheard c = rw c (stop 11 _ _ _ refl)
 
   -- ---- by what is read
-  pub served-unread : {n : ℕ} → readOf s ≡ refused n → serveOf k l s f ≡ refused n
+  pub served-unread : {n : ℕ} → readOf s ≡ refused n → serveOf board l s f ≡ refused n
   unfolding serveOf
   served-unread e = rw e
 
   pub served-packet : (p : Parts) → readOf s ≡ given p
-      → serveOf k l s f ≡ obeyOf k l (p .command) (p .address) (sentData s p) f
+      → serveOf board l s f ≡ obeyOf board l (p .command) (p .address) (sentData s p) f
   unfolding serveOf
   served-packet p e = rw e
 
   -- ---- by size
   module _ (room : ℕ) where
-    pub take-size : (length f ≡ startOf k → ⊥) → takeOf k l s f room ≡ refused 20
+    pub take-size : (length f ≡ startOf board → ⊥) → takeOf board l s f room ≡ refused 20
     unfolding takeOf
-    take-size h = stop 20 _ _ _ (either-first (not (eqb (length f) (startOf k))) _ (ap not (ne-eqb _ _ h)))
+    take-size h =
+        stop 20 _ _ _ (either-first (not (eqb (length f) (startOf board))) _ (ap not (ne-eqb _ _ h)))
 
-    pub take-small : room < answerMost → takeOf k l s f room ≡ refused 20
+    pub take-small : room < answerMost → takeOf board l s f room ≡ refused 20
     unfolding takeOf
     take-small h =
-        stop 20 _ _ _ (either-second (not (eqb (length f) (startOf k))) _ (lt-ltb room answerMost h))
+        stop 20 _ _ _ (either-second (not (eqb (length f) (startOf board))) _ (lt-ltb room answerMost h))
 
-    pub take-heard : length f ≡ startOf k → answerMost ≤ room → takeOf k l s f room ≡ hearOf k l s f
+    pub take-heard : length f ≡ startOf board → answerMost ≤ room
+        → takeOf board l s f room ≡ hearOf board l s f
     unfolding takeOf
     take-heard e h =
-        skip 20 _ _ _ (either-false (not (eqb (length f) (startOf k))) _ (ap not (eq-eqb _ _ e)) (le-ltb room answerMost h))
+        skip 20 _ _ _
+        (either-false (not (eqb (length f) (startOf board))) _ (ap not (eq-eqb _ _ e))
+        (le-ltb room answerMost h))
         ∙ done _
 
 -- ---- what any input leaves
 
 -- what holds of loader and flash as they were, once the board is opened, and after the packet that was read
-pub any-input : (P : Effect → Type 0) (k : ℕ) (l : Loader) (s f : List ℕ) (room : ℕ)
+pub any-input : (P : Effect → Type 0) (board : ℕ) (l : Loader) (s f : List ℕ) (room : ℕ)
     → P (record { loader = l; flash = f })
     → P (record { loader = withCondition l Serving; flash = f })
     → ((p : Parts) → readOf s ≡ given p
-    → P (effectAfter l f (obeyOf k l (p .command) (p .address) (sentData s p) f)))
-    → P (effectAfter l f (takeOf k l s f room))
+    → P (effectAfter l f (obeyOf board l (p .command) (p .address) (sentData s p) f)))
+    → P (effectAfter l f (takeOf board l s f room))
 unfolding takeOf hearOf serveOf first
-any-input P k l s f room as-was greeted obeys =
-    go (sizesWrong k f room) (unheard (l .condition) s) (waiting (l .condition)) (readOf s) refl
+any-input P board l s f room as-was greeted obeys =
+    go (sizesWrong board f room) (unheard (l .condition) s) (waiting (l .condition)) (readOf s) refl
   where
     served : Effect
     served = record { loader = withCondition l Serving; flash = f }
 
     go : (a b w : Bool) (r : Answer Parts) → readOf s ≡ r
         → P (effectAfter l f
-        (pick a (refused 20) (pick b (refused 11) (pick w (given served) (obeyed k l s f r)))))
+        (pick a (refused 20) (pick b (refused 11) (pick w (given served) (obeyed board l s f r)))))
     go true b w r e = as-was
     go false true w r e = as-was
     go false false true r e = greeted

@@ -37,7 +37,8 @@ pub stands-same : (f : List ℕ) (a : ℕ) (s : List ℕ) → a + length s ≤ l
 unfolding equalsOf
 stands-same f a [] h e = refl
 stands-same f a (t ∷ s) h e =
-    let p : getD f a 0 ∷ take (length s) (drop (a + 1) f) ≡ restoredOf t ∷ map restoredOf s = sym (part f a (length s) h) ∙ e in
+    let p : getD f a 0 ∷ take (length s) (drop (a + 1) f) ≡ restoredOf t ∷ map restoredOf s = sym
+    (part f a (length s) h) ∙ e in
     let q : getD f a 0 ≡ restoredOf t = cc in
     let r : take (length s) (drop (a + 1) f) ≡ map restoredOf s = cc in
     both-second (eqb (getD f a 0) (restoredOf t)) (equalsOf f (a + 1) s) (eq-eqb _ _ q)
@@ -48,4 +49,5 @@ pub stored-same : (f : List ℕ) (a : ℕ) (d : List ℕ) → a + length d ≤ l
     → equalsOf (storeOf f a d) a (map turnedOf d) ≡ true
 stored-same f a d h blank bytes =
     stands-same (storeOf f a d) a (map turnedOf d) (simp (length-map, length-store) h)
-    (rw (length-map d turnedOf, undone restoredOf turnedOf restored-turned d bytes) (store-blank f a d h blank bytes))
+    (rw (length-map d turnedOf, undone restoredOf turnedOf restored-turned d bytes)
+    (store-blank f a d h blank bytes))

@@ -4,13 +4,15 @@ use mathlib.Core.Path.{refl, sym, ap, _∙_, _≡_}
 use native.Mathlib.Omega.{arith}
 use borrow.Author.Needs.{needs}
 use lib.ListN.{length}
+use Rattle.basis.specs.Board.{pages}
 use Rattle.listing.specs.Laws.Plan.{begun-listed, sheet-listed, sheet-falls}
 use Rattle.listing.specs.Plan.{paperBegun, Listed}
 use Rattle.plan.proofs.print.Statement.{statement}
 use Rattle.plan.proofs.print.Tie as tie
 
 abbrev Inv-loop : tie.InvT-loop
-Inv-loop image map buffer₀ head listing₀ buffer listing = (length buffer ≡ length buffer₀) × Listed image map listing
+Inv-loop image map buffer₀ head listing₀ buffer listing =
+    (length buffer ≡ length buffer₀) × Listed pages image map listing
 
 abbrev μ-loop : tie.MeasureT-loop
 μ-loop image map buffer₀ head listing₀ buffer listing = listing .total - listing .listed
@@ -40,7 +42,13 @@ returns-2 : tie.Need-returns-2 Inv-loop μ-loop
 returns-2 c = search needs
 
 loop-holds : tie.Need-loop-holds Inv-loop μ-loop
-loop-holds c = (refl, begun-listed _ _ _ _ (sym (ap paperBegun (c .before .before .before .before .before .before .before .before .first .given .1)) ∙ c .before .before .before .before .before .before .before .before .before .before .start .ensures))
+loop-holds c = (
+  refl,
+  begun-listed pages _ _ _ _
+      (sym (ap paperBegun
+      (c .before .before .before .before .before .before .before .before .first .given .1))
+      ∙ c .before .before .before .before .before .before .before .before .before .before .start .ensures),
+)
 
 sheet-requires : tie.Need-sheet-requires Inv-loop μ-loop
 sheet-requires c κs = search needs
@@ -55,10 +63,28 @@ returns-3 : tie.Need-returns-3 Inv-loop μ-loop
 returns-3 c = search needs
 
 loop-less : tie.Need-loop-less Inv-loop μ-loop
-loop-less c = sheet-falls _ _ _ (c .before .before .before .before .before .before .before .before .before .before .loop .inv .1) _ _ (c .before .before .before .before .before .before .sheet .ensures .0) (omega (arith, c .before .before .before .before .before .before .before .before .before .before .loop .inv .0, c .before .before .before .before .before .before .before .before .before .before .before .before .before .before .before .before .head-line .kept .0, c .before .before .before .before .before .before .before .before .before .before .before .before .before .before .before .before .before .before .before .before .before .before .before .before .before .pre)) (c .before .before .before .before .before .before .before .before .if2 .taken)
+loop-less c =
+    sheet-falls pages _ _ _
+    (c .before .before .before .before .before .before .before .before .before .before .loop .inv .1) _ _
+    (c .before .before .before .before .before .before .sheet .ensures .0)
+    (omega (
+      arith,
+      c .before .before .before .before .before .before .before .before .before .before .loop .inv .0,
+      c .before .before .before .before .before .before .before .before .before .before .before .before .before .before .before .before .head-line .kept .0,
+      c .before .before .before .before .before .before .before .before .before .before .before .before .before .before .before .before .before .before .before .before .before .before .before .before .before .pre,
+    )) (c .before .before .before .before .before .before .before .before .if2 .taken)
 
 loop-again : tie.Need-loop-again Inv-loop μ-loop
-loop-again c = (omega (arith, c .before .before .before .before .before .before .before .before .before .before .loop .inv .0, c .before .before .before .before .before .before .sheet .kept .1 .1 .1 .0), sheet-listed _ _ _ (c .before .before .before .before .before .before .before .before .before .before .loop .inv .1) _ _ (c .before .before .before .before .before .before .sheet .ensures .0))
+loop-again c = (
+  omega (
+    arith,
+    c .before .before .before .before .before .before .before .before .before .before .loop .inv .0,
+    c .before .before .before .before .before .before .sheet .kept .1 .1 .1 .0,
+  ),
+  sheet-listed pages _ _ _
+      (c .before .before .before .before .before .before .before .before .before .before .loop .inv .1) _ _
+      (c .before .before .before .before .before .before .sheet .ensures .0),
+)
 
 total-line-requires : tie.Need-total-line-requires Inv-loop μ-loop
 total-line-requires c κs = search needs

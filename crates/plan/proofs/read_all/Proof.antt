@@ -7,7 +7,8 @@ use Rattle.plan.proofs.read_all.Tie as tie
 
 abbrev Inv-loop : tie.InvT-loop
 Inv-loop buffer₀ line₀ image₀ map₀ reading₀ turns₀ buffer line image map reading turns =
-    (length buffer ≡ length buffer₀) × (length line ≡ length line₀) × (length image ≡ length image₀) × (length map ≡ length map₀)
+    (length buffer ≡ length buffer₀) × (length line ≡ length line₀) × (length image ≡ length image₀) ×
+    (length map ≡ length map₀)
 
 abbrev μ-loop : tie.MeasureT-loop
 μ-loop buffer₀ line₀ image₀ map₀ reading₀ turns₀ buffer line image map reading turns = turns

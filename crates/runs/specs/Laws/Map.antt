@@ -64,9 +64,17 @@ name-named m a b h = go (ℕ-discrete (b / 8) (a / 8))
         → bit (getD (set m (a / 8) (bitOr (getD m (a / 8) 0) (2 ^ (a % 8)))) (b / 8) 0) (b % 8)
         ≡ either (bit (getD m (b / 8) 0) (b % 8)) (eqb b a)
     go (yes e) =
-        rw (e, getD-set-same m (a / 8) (bitOr (getD m (a / 8) 0) (2 ^ (a % 8))) 0 (omega arith), or-at (getD m (a / 8) 0) (a % 8) (b % 8) (omega arith) (omega arith), same-place a b e)
+        rw (
+          e,
+          getD-set-same m (a / 8) (bitOr (getD m (a / 8) 0) (2 ^ (a % 8))) 0 (omega arith),
+          or-at (getD m (a / 8) 0) (a % 8) (b % 8) (omega arith) (omega arith),
+          same-place a b e,
+        )
     go (no ne) =
-        rw (getD-set-other m (a / 8) (b / 8) (bitOr (getD m (a / 8) 0) (2 ^ (a % 8))) 0 ne, ne-eqb b a (λ q. ne (rw q)))
+        rw (
+          getD-set-other m (a / 8) (b / 8) (bitOr (getD m (a / 8) 0) (2 ^ (a % 8))) 0 ne,
+          ne-eqb b a (λ q. ne (rw q)),
+        )
         (sym (either-no (bit (getD m (b / 8) 0) (b % 8))))
 
 pub name-same : (m : List ℕ) (a : ℕ) → a < 8 * length m → named (nameOf m a) a ≡ true
@@ -118,7 +126,8 @@ pub named-only : (m n : List ℕ) → length m ≡ length n → Bytes m → Byte
     → m ≡ n
 unfolding named
 named-only m n e hm hn h =
-    ext-getD 0 m n e (λ i l. sym (byte-value (getD m i 0) (hm i)) ∙ value-same _ _ 8 (same i) ∙ byte-value (getD n i 0) (hn i))
+    ext-getD 0 m n e
+    (λ i l. sym (byte-value (getD m i 0) (hm i)) ∙ value-same _ _ 8 (same i) ∙ byte-value (getD n i 0) (hn i))
   where
     same : (i j : ℕ) → j < 8 → bit (getD m i 0) j ≡ bit (getD n i 0) j
     same i j l =
@@ -165,7 +174,8 @@ name-all-in m a (suc n) j l h k =
     go : Dec (j ≡ a) → (a + 1 ≤ j → j < a + 1 + n → named (nameAllOf (nameOf m a) (a + 1) n) j ≡ true)
         → named (nameAllOf (nameOf m a) (a + 1) n) j ≡ true
     go (yes e) f =
-        name-all-below (nameOf m a) (a + 1) n j (omega (arith, name-length m a)) (omega arith) ∙ rw e (name-same m a (omega arith))
+        name-all-below (nameOf m a) (a + 1) n j (omega (arith, name-length m a)) (omega arith)
+        ∙ rw e (name-same m a (omega arith))
     go (no e) f = f (above e) (omega arith)
       where
         above : (j ≡ a → ⊥) → a + 1 ≤ j

@@ -28,8 +28,12 @@ module _ (m : List ℕ) where
   pub touched-some : (q : ℕ) → touched m q ≡ true
       → (a : ℕ) × (named m a ≡ true) × (startOf q ≤ a) × (a < startOf (q + 1))
   touched-some q h =
-      let l = ltb-true (next (named m) (startOf q) pageSize) (startOf (q + 1)) (sym (touched-next q) ∙ h) in
-      (next (named m) (startOf q) pageSize, next-pass (named m) pageSize (startOf q) (omega arith), next-ge (named m) pageSize (startOf q), l)
+      let l = ltb-true (next (named m) (startOf q) pageSize) (startOf (q + 1)) (sym (touched-next q) ∙ h) in (
+        next (named m) (startOf q) pageSize,
+        next-pass (named m) pageSize (startOf q) (omega arith),
+        next-ge (named m) pageSize (startOf q),
+        l,
+      )
 
   -- and a page that holds one is touched
   pub some-touched : (q a : ℕ) → named m a ≡ true → startOf q ≤ a → a < startOf (q + 1) → touched m q ≡ true
@@ -37,7 +41,10 @@ module _ (m : List ℕ) where
       touched-next q
       ∙ decide (ltb (next (named m) (startOf q) pageSize) (startOf (q + 1)))
       (λ d. d)
-      (λ d. absurd (true-false (sym t ∙ next-skip (named m) pageSize (startOf q) a g (omega (arith, ltb-false (next (named m) (startOf q) pageSize) (startOf (q + 1)) d)))))
+      (λ d. absurd
+      (true-false (sym t
+      ∙ next-skip (named m) pageSize (startOf q) a g
+      (omega (arith, ltb-false (next (named m) (startOf q) pageSize) (startOf (q + 1)) d)))))
 
   pub named-touched : (a : ℕ) → named m a ≡ true → touched m (pageOf a) ≡ true
   named-touched a t = some-touched (pageOf a) a t (omega arith) (omega arith)
@@ -62,11 +69,19 @@ module _ (m : List ℕ) where
           → touched m q ≡ ltb (count (named m) (startOf q)) (count (named m) (startOf (q + 1)))
       more t =
           let s = touched-some q t in
-          t ∙ sym (lt-ltb (count (named m) (startOf q)) (count (named m) (startOf (q + 1))) (omega (arith, rank-below (named m) (startOf (q + 1)) (s .0) (s .3) (s .1), count-mono (named m) (s .0) (startOf q) (s .2))))
+          t ∙ sym (lt-ltb (count (named m) (startOf q)) (count (named m) (startOf (q + 1)))
+          (omega (
+            arith,
+            rank-below (named m) (startOf (q + 1)) (s .0) (s .3) (s .1),
+            count-mono (named m) (s .0) (startOf q) (s .2),
+          )))
 
       none : touched m q ≡ false
           → touched m q ≡ ltb (count (named m) (startOf q)) (count (named m) (startOf (q + 1)))
       none t =
           let e : startOf (q + 1) ≡ startOf q + pageSize = omega arith in
-          let k = count-skip (named m) (startOf q) pageSize (λ i g l. decide (named m i) (λ n. absurd (true-false (sym (some-touched q i n g (omega arith)) ∙ t))) (λ n. n)) in
-          t ∙ sym (le-ltb (count (named m) (startOf q)) (count (named m) (startOf (q + 1))) (rw e (omega arith)))
+          let k = count-skip (named m) (startOf q) pageSize
+          (λ i g l. decide (named m i)
+          (λ n. absurd (true-false (sym (some-touched q i n g (omega arith)) ∙ t))) (λ n. n)) in
+          t ∙ sym (le-ltb (count (named m) (startOf q)) (count (named m) (startOf (q + 1)))
+          (rw e (omega arith)))

@@ -1,5 +1,5 @@
--- Laws of pieces: every number that passes lies in exactly one, pieces hold nothing else, are at most cap long,
--- cut from the run's start, ascending and disjoint; with no cap reached they are the maximal runs.
+-- Laws of pieces: every number that passes lies in exactly one, pieces hold nothing else, are at most cap
+-- long, cut from the run's start, ascending and disjoint; with no cap reached they are the maximal runs.
 use Prim.Native.Nat.{ℕ, zero, suc, _+_, _-_, _≤_, _<_}
 use native.Mathlib.Nat.{add-zero, add-suc, eq-or-lt-of-le, le-of-suc-le-suc}
 use native.Mathlib.Omega.{arith}
@@ -149,7 +149,8 @@ module _ (p : ℕ → Bool) (cap : ℕ) where
   rank-in s a h g l =
       let k : suc s + (a - s) ≡ a + 1 = omega arith in
       sym (ap (count (starts p cap)) k)
-      ∙ count-skip (starts p cap) (suc s) (a - s) (λ i u v. starts-inside i (λ e. omega (arith, piece-place s i h (omega arith) (omega arith))))
+      ∙ count-skip (starts p cap) (suc s) (a - s)
+      (λ i u v. starts-inside i (λ e. omega (arith, piece-place s i h (omega arith) (omega arith))))
       ∙ count-yes (starts p cap) s h
 
   -- so the count tells the piece that a number lies in
@@ -161,7 +162,8 @@ module _ (p : ℕ → Bool) (cap : ℕ) where
       → (s ≤ a) × (a < s + len p s cap)
   rank-home z s a h t e =
       let i = in-piece z a t in
-      let q : home p cap a ≡ s = rank-only (starts p cap) (home p cap a) s (i .0) h (omega (arith, rank-in (home p cap a) a (i .0) (i .1) (i .2))) in
+      let q : home p cap a ≡ s = rank-only (starts p cap) (home p cap a) s (i .0) h
+      (omega (arith, rank-in (home p cap a) a (i .0) (i .1) (i .2))) in
       (subst (λ (u : ℕ). u ≤ a) q (i .1), subst (λ (u : ℕ). a < u + len p u cap) q (i .2))
 
   -- where a run starts, a piece does
@@ -173,7 +175,8 @@ module _ (p : ℕ → Bool) (cap : ℕ) where
       → (starts p cap (home p cap b) ≡ true) × (len p (home p cap b) cap ≡ cap) × (home p cap b + cap ≡ suc b)
   piece-cut z b h t =
       let o : off p cap (suc b) ≡ 0 = starts-off (suc b) h .1 in
-      let w : suc (off p cap b) ≡ cap = off-next b (λ s e. absurd (true-false (sym t ∙ s))) (λ s w e. w) (λ s n e. absurd (omega arith)) in
+      let w : suc (off p cap b) ≡ cap = off-next b (λ s e. absurd (true-false (sym t ∙ s))) (λ s w e. w)
+      (λ s n e. absurd (omega arith)) in
       (home-starts b t, omega (arith, home-in z b t, len-le p (home p cap b) cap), omega (arith, off-le b))
 
   -- the number after a piece starts the next one, if it passes
@@ -195,19 +198,24 @@ module _ (p : ℕ → Bool) (cap : ℕ) where
 
 -- ---- the order of the pieces, where nothing passes from n on
 
-module _ (p : ℕ → Bool) (cap n : ℕ) (z : 0 < cap) (past : (a : ℕ) → n ≤ a → p a ≡ false) where
-  pub passes-below : (a : ℕ) → p a ≡ true → a < n
-  passes-below a t =
-      decide (ltb a n) (λ d. ltb-true a n d) (λ d. absurd (true-false (sym t ∙ past a (ltb-false a n d))))
+pub passes-below : (p : ℕ → Bool) (n : ℕ) → ((a : ℕ) → n ≤ a → p a ≡ false) → (a : ℕ) → p a ≡ true → a < n
+passes-below p n past a t =
+    decide (ltb a n) (λ d. ltb-true a n d) (λ d. absurd (true-false (sym t ∙ past a (ltb-false a n d))))
 
+module _ (p : ℕ → Bool) (cap n : ℕ) (past : (a : ℕ) → n ≤ a → p a ≡ false) where
   pub starts-below : (s : ℕ) → starts p cap s ≡ true → s < n
-  starts-below s h = passes-below s (starts-off p cap s h .0)
+  starts-below s h = passes-below p n past s (starts-off p cap s h .0)
 
   -- a piece ends by n
   pub piece-fits : (s : ℕ) → starts p cap s ≡ true → s + len p s cap ≤ n
   piece-fits s h =
-      let l = piece-some p cap z s h in
-      omega (arith, passes-below (s + (len p s cap - 1)) (len-in p cap s (len p s cap - 1) (omega arith)))
+      decide (ltb 0 (len p s cap))
+      (λ d. let l = ltb-true 0 (len p s cap) d in
+      omega (
+        arith,
+        passes-below p n past (s + (len p s cap - 1)) (len-in p cap s (len p s cap - 1) (omega arith)),
+      ))
+      (λ d. omega (arith, ltb-false 0 (len p s cap) d, starts-below s h))
 
   -- what is found from e on starts a piece, if e does where it passes
   next-starts : (e : ℕ) → e ≤ n → (p e ≡ true → starts p cap e ≡ true) → next p e (n - e) < n
@@ -229,36 +237,43 @@ module _ (p : ℕ → Bool) (cap n : ℕ) (z : 0 < cap) (past : (a : ℕ) → n 
       let g = next-ge p (n - e) e in
       let k : e + (next p e (n - e) - e) ≡ next p e (n - e) = omega arith in
       sym (ap (count (starts p cap)) k)
-      ∙ count-skip (starts p cap) e (next p e (n - e) - e) (λ i u v. starts-fail p cap i (next-skip p (n - e) e i u (omega arith)))
+      ∙ count-skip (starts p cap) e (next p e (n - e) - e)
+      (λ i u v. starts-fail p cap i (next-skip p (n - e) e i u (omega arith)))
 
   -- the first piece starts at the lowest that passes, and has rank 0
-  pub first-starts : next p 0 (n - 0) < n → starts p cap (next p 0 (n - 0)) ≡ true
-  first-starts l = next-starts 0 (omega arith) (λ t. starts-at p cap 0 t (off-zero p cap)) l
+  pub first-starts : next p 0 n < n → starts p cap (next p 0 n) ≡ true
+  first-starts =
+      let e : n - 0 ≡ n = omega arith in
+      subst (λ (k : ℕ). next p 0 k < n → starts p cap (next p 0 k) ≡ true) e
+      (next-starts 0 (omega arith) (λ t. starts-at p cap 0 t (off-zero p cap)))
 
-  pub first-rank : count (starts p cap) (next p 0 (n - 0)) ≡ 0
-  first-rank = next-counts 0 ∙ count-zero (starts p cap)
+  pub first-rank : count (starts p cap) (next p 0 n) ≡ 0
+  first-rank =
+      let e : n - 0 ≡ n = omega arith in
+      subst (λ (k : ℕ). count (starts p cap) (next p 0 k) ≡ 0) e (next-counts 0 ∙ count-zero (starts p cap))
 
-  -- the piece after the one at s has the next rank
-  pub follow-starts : (s : ℕ) → starts p cap s ≡ true → follow p cap n s < n
-      → starts p cap (follow p cap n s) ≡ true
-  follow-starts s h l = next-starts (s + len p s cap) (piece-fits s h) (piece-end p cap z s h) l
+  module _ (z : 0 < cap) where
+    -- the piece after the one at s has the next rank
+    pub follow-starts : (s : ℕ) → starts p cap s ≡ true → follow p cap n s < n
+        → starts p cap (follow p cap n s) ≡ true
+    follow-starts s h l = next-starts (s + len p s cap) (piece-fits s h) (piece-end p cap z s h) l
 
-  pub follow-rank : (s : ℕ) → starts p cap s ≡ true
-      → count (starts p cap) (follow p cap n s) ≡ suc (count (starts p cap) s)
-  follow-rank s h =
-      let l = piece-some p cap z s h in
-      let k : s + len p s cap - 1 + 1 ≡ s + len p s cap = omega arith in
-      next-counts (s + len p s cap)
-      ∙ sym (ap (count (starts p cap)) k)
-      ∙ rank-in p cap s (s + len p s cap - 1) h (omega arith) (omega arith)
+    pub follow-rank : (s : ℕ) → starts p cap s ≡ true
+        → count (starts p cap) (follow p cap n s) ≡ suc (count (starts p cap) s)
+    follow-rank s h =
+        let l = piece-some p cap z s h in
+        let k : s + len p s cap - 1 + 1 ≡ s + len p s cap = omega arith in
+        next-counts (s + len p s cap)
+        ∙ sym (ap (count (starts p cap)) k)
+        ∙ rank-in p cap s (s + len p s cap - 1) h (omega arith) (omega arith)
 
 -- ---- with no cap reached the pieces are the maximal runs: what stands before and after fails
 
-module _ (p : ℕ → Bool) (cap n : ℕ) (z : 0 < cap) (past : (a : ℕ) → n ≤ a → p a ≡ false) (wide : n ≤ cap) where
+module _ (p : ℕ → Bool) (cap n : ℕ) (past : (a : ℕ) → n ≤ a → p a ≡ false) (wide : n ≤ cap) where
   pub run-before : (b : ℕ) → starts p cap (suc b) ≡ true → p b ≡ false
   run-before b h =
       let s = starts-off p cap (suc b) h in
-      let l = passes-below p cap n z past (suc b) (s .0) in
+      let l = passes-below p n past (suc b) (s .0) in
       decide (p b)
       (λ t. absurd (omega (arith, s .1, off-more p cap b t (λ e. omega (arith, off-le p cap b)))))
       (λ t. t)

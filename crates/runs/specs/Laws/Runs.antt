@@ -30,13 +30,15 @@ module _ (p : ℕ → Bool) where
   pub count-le : (n : ℕ) → count p n ≤ n
   count-le zero = omega (arith, count-zero)
   count-le (suc n) =
-      decide (p n) (λ t. omega (arith, count-yes n t, count-le n)) (λ t. omega (arith, count-no n t, count-le n))
+      decide (p n) (λ t. omega (arith, count-yes n t, count-le n))
+      (λ t. omega (arith, count-no n t, count-le n))
 
   -- where none passes nothing is counted
   pub count-skip : (a k : ℕ) → ((i : ℕ) → a ≤ i → i < a + k → p i ≡ false) → count p (a + k) ≡ count p a
   count-skip a zero h = ap (count p) (omega arith)
   count-skip a (suc k) h =
-      rw add-suc (count-no (a + k) (h (a + k) (omega arith) (omega arith)) ∙ count-skip a k (λ i g l. h i g (omega arith)))
+      rw add-suc (count-no (a + k) (h (a + k) (omega arith) (omega arith))
+      ∙ count-skip a k (λ i g l. h i g (omega arith)))
 
   pub count-mono : (n a : ℕ) → a ≤ n → count p a ≤ count p n
   count-mono zero a l = omega (arith, ap (count p) (zero-of l))
@@ -45,7 +47,8 @@ module _ (p : ℕ → Bool) where
       zero-of l = omega arith
   count-mono (suc n) a l =
       ⊎-elim (λ e. omega (arith, ap (count p) e))
-      (λ q. decide (p n) (λ t. omega (arith, count-mono n a (le-of-suc-le-suc q), count-yes n t)) (λ t. omega (arith, count-mono n a (le-of-suc-le-suc q), count-no n t)))
+      (λ q. decide (p n) (λ t. omega (arith, count-mono n a (le-of-suc-le-suc q), count-yes n t))
+      (λ t. omega (arith, count-mono n a (le-of-suc-le-suc q), count-no n t)))
       (eq-or-lt-of-le l)
 
   -- one that passes below n has its rank below the count
@@ -115,7 +118,8 @@ module _ (p : ℕ → Bool) where
       let y = select-kth n k h in
       decide (ltb (select p j n) (select p k n))
       (λ d. ltb-true _ _ d)
-      (λ d. absurd (omega (arith, x .rank, y .rank, count-mono (select p j n) (select p k n) (ltb-false _ _ d))))
+      (λ d. absurd
+      (omega (arith, x .rank, y .rank, count-mono (select p j n) (select p k n) (ltb-false _ _ d))))
 
 -- ---- searches
 
@@ -148,7 +152,8 @@ module _ (p : ℕ → Bool) where
   next-skip (suc f) a j g l =
       decide (p a)
       (λ t. absurd (omega (arith, rw t at l)))
-      (λ t. ⊎-elim (λ e. subst (λ (k : ℕ). p k ≡ false) e t) (λ q. next-skip f (suc a) j q (rw t at l)) (eq-or-lt-of-le g))
+      (λ t. ⊎-elim (λ e. subst (λ (k : ℕ). p k ≡ false) e t) (λ q. next-skip f (suc a) j q (rw t at l))
+      (eq-or-lt-of-le g))
 
 -- ---- rows
 
@@ -175,7 +180,8 @@ module _ (p : ℕ → Bool) where
   len-ge zero a (suc j) l h = absurd (omega arith)
   len-ge (suc f) a (suc j) l h =
       let t : p a ≡ true = rw add-zero at (h 0 (omega arith)) in
-      let r : j ≤ len p (suc a) f = len-ge f (suc a) j (omega arith) (λ i q. subst (λ (k : ℕ). p k ≡ true) (omega arith) (h (suc i) (omega arith))) in
+      let r : j ≤ len p (suc a) f = len-ge f (suc a) j (omega arith)
+      (λ i q. subst (λ (k : ℕ). p k ≡ true) (omega arith) (h (suc i) (omega arith))) in
       rw t (omega arith)
 
   -- what ends a row that is short of f fails
@@ -184,5 +190,6 @@ module _ (p : ℕ → Bool) where
   len-out zero a l = absurd (omega arith)
   len-out (suc f) a l =
       decide (p a)
-      (λ t. rw t (subst (λ (k : ℕ). p k ≡ false) (omega arith) (len-out f (suc a) (omega (arith, rw t at l)))))
+      (λ t. rw t (subst (λ (k : ℕ). p k ≡ false) (omega arith)
+      (len-out f (suc a) (omega (arith, rw t at l)))))
       (λ t. rw t (rw add-zero t))

@@ -24,7 +24,8 @@ unwritten-back Unwritten.Unfit = refl
 unwritten-back Unwritten.NoRoom = refl
 
 unreadBy : ℕ → Unread
-unreadBy n = pick (eqb n 50) Unread.Short (pick (eqb n 51) Unread.Length (pick (eqb n 52) Unread.Version Unread.False))
+unreadBy n =
+    pick (eqb n 50) Unread.Short (pick (eqb n 51) Unread.Length (pick (eqb n 52) Unread.Version Unread.False))
 
 unread-back : (x : Unread) → unreadBy (paperUnread x) ≡ x
 unfolding unreadBy
@@ -55,8 +56,11 @@ reading-back (Reading.Refused x) = ap Reading.Refused (unread-back x)
 pub write-determined : (b : Answer (List ℕ)) (r s : Written) (x y old : List ℕ)
     → (paperWritten r ≡ counted b) × (x ≡ overlay (written b) old)
     → (paperWritten s ≡ counted b) × (y ≡ overlay (written b) old) → (r ≡ s) × (x ≡ y)
-write-determined b r s x y old p q =
-    (determined paperWritten (λ r s e. sym (written-back r) ∙ ap writtenBy e ∙ written-back s) r s (p .0) (q .0), p .1 ∙ sym (q .1))
+write-determined b r s x y old p q = (
+  determined paperWritten (λ r s e. sym (written-back r) ∙ ap writtenBy e ∙ written-back s) r s (p .0)
+      (q .0),
+  p .1 ∙ sym (q .1),
+)
 
 pub read-determined : {a : Answer Record} (r s : Reading) → paperReading r ≡ a → paperReading s ≡ a → r ≡ s
 read-determined = determined paperReading (λ r s e. sym (reading-back r) ∙ ap readingBy e ∙ reading-back s)

@@ -4,49 +4,86 @@ use mathlib.Core.Bool.{true, false, not}
 use mathlib.Core.Path.{_≡_}
 use borrow.Author.Tests.{eq-eqb, ne-eqb, lt-ltb, le-ltb}
 use lib.Dec.{eqb, ltb}
-use Rattle.basis.specs.Board.{flashSize}
+use Rattle.basis.specs.Units.{startOf}
 use Rattle.service_log.specs.Log.{known, isFalseOf}
 
-module _ (o k t n : ℕ) where
-  pub false-unknown : known o ≡ false → true ≡ isFalseOf o k t n
+module _ (board : ℕ) (o k t n : ℕ) where
+  pub false-unknown : known o ≡ false → true ≡ isFalseOf board o k t n
   unfolding isFalseOf
   false-unknown e = rw e
 
   module _ (p₁ : known o ≡ true) where
-    pub false-few : t < 4 → true ≡ isFalseOf o k t n
+    pub false-few : t < 4 → true ≡ isFalseOf board o k t n
     unfolding isFalseOf
     false-few l = rw (p₁, lt-ltb t 4 l)
 
     module _ (p₂ : 4 ≤ t) where
-      pub false-empty : n ≡ 0 → true ≡ isFalseOf o k t n
+      pub false-empty : n ≡ 0 → true ≡ isFalseOf board o k t n
       unfolding isFalseOf
       false-empty e = rw (p₁, le-ltb t 4 p₂, eq-eqb n 0 e)
 
       module _ (p₃ : n ≡ 0 → ⊥) where
-        pub false-many : flashSize < n → true ≡ isFalseOf o k t n
+        pub false-many : startOf board < n → true ≡ isFalseOf board o k t n
         unfolding isFalseOf
-        false-many l = rw (p₁, le-ltb t 4 p₂, ne-eqb n 0 p₃, lt-ltb flashSize n l)
+        false-many l = rw (p₁, le-ltb t 4 p₂, ne-eqb n 0 p₃, lt-ltb (startOf board) n l)
 
-        module _ (p₄ : n ≤ flashSize) where
-          pub false-above : t < k → true ≡ isFalseOf o k t n
+        module _ (p₄ : n ≤ startOf board) where
+          pub false-above : t < k → true ≡ isFalseOf board o k t n
           unfolding isFalseOf
-          false-above l = rw (p₁, le-ltb t 4 p₂, ne-eqb n 0 p₃, le-ltb flashSize n p₄, lt-ltb t k l)
+          false-above l = rw (p₁, le-ltb t 4 p₂, ne-eqb n 0 p₃, le-ltb (startOf board) n p₄, lt-ltb t k l)
 
           module _ (p₅ : k ≤ t) where
-            pub false-valid : o ≡ 0 → not (eqb k t) ≡ isFalseOf o k t n
+            pub false-valid : o ≡ 0 → not (eqb k t) ≡ isFalseOf board o k t n
             unfolding isFalseOf
-            false-valid e = rw (p₁, le-ltb t 4 p₂, ne-eqb n 0 p₃, le-ltb flashSize n p₄, le-ltb t k p₅, eq-eqb o 0 e)
+            false-valid e =
+                rw (
+                  p₁,
+                  le-ltb t 4 p₂,
+                  ne-eqb n 0 p₃,
+                  le-ltb (startOf board) n p₄,
+                  le-ltb t k p₅,
+                  eq-eqb o 0 e,
+                )
 
             module _ (p₆ : o ≡ 0 → ⊥) where
-              pub false-whole : k ≡ t → true ≡ isFalseOf o k t n
+              pub false-whole : k ≡ t → true ≡ isFalseOf board o k t n
               unfolding isFalseOf
-              false-whole e = rw (p₁, le-ltb t 4 p₂, ne-eqb n 0 p₃, le-ltb flashSize n p₄, le-ltb t k p₅, ne-eqb o 0 p₆, eq-eqb k t e)
+              false-whole e =
+                  rw (
+                    p₁,
+                    le-ltb t 4 p₂,
+                    ne-eqb n 0 p₃,
+                    le-ltb (startOf board) n p₄,
+                    le-ltb t k p₅,
+                    ne-eqb o 0 p₆,
+                    eq-eqb k t e,
+                  )
 
               module _ (p₇ : k ≡ t → ⊥) where
-                pub true-greeted : (o ≡ 42 → ⊥) → false ≡ isFalseOf o k t n
+                pub true-greeted : (o ≡ 42 → ⊥) → false ≡ isFalseOf board o k t n
                 unfolding isFalseOf
-                true-greeted e = rw (p₁, le-ltb t 4 p₂, ne-eqb n 0 p₃, le-ltb flashSize n p₄, le-ltb t k p₅, ne-eqb o 0 p₆, ne-eqb k t p₇, ne-eqb o 42 e)
+                true-greeted e =
+                    rw (
+                      p₁,
+                      le-ltb t 4 p₂,
+                      ne-eqb n 0 p₃,
+                      le-ltb (startOf board) n p₄,
+                      le-ltb t k p₅,
+                      ne-eqb o 0 p₆,
+                      ne-eqb k t p₇,
+                      ne-eqb o 42 e,
+                    )
 
-                pub false-ungreeted : o ≡ 42 → ltb 0 k ≡ isFalseOf o k t n
+                pub false-ungreeted : o ≡ 42 → ltb 0 k ≡ isFalseOf board o k t n
                 unfolding isFalseOf
-                false-ungreeted e = rw (p₁, le-ltb t 4 p₂, ne-eqb n 0 p₃, le-ltb flashSize n p₄, le-ltb t k p₅, ne-eqb o 0 p₆, ne-eqb k t p₇, eq-eqb o 42 e)
+                false-ungreeted e =
+                    rw (
+                      p₁,
+                      le-ltb t 4 p₂,
+                      ne-eqb n 0 p₃,
+                      le-ltb (startOf board) n p₄,
+                      le-ltb t k p₅,
+                      ne-eqb o 0 p₆,
+                      ne-eqb k t p₇,
+                      eq-eqb o 42 e,
+                    )

@@ -1,4 +1,5 @@
--- Laws of marks: a byte is marked by the ACK to the V that holds it, and R is out only when all named bytes are.
+-- Laws of marks: a byte is marked by the ACK to the V that holds
+-- it, and R is out only when all named bytes are.
 use Prim.Native.Nat.{ℕ, _+_, _≤_, _<_}
 use mathlib.Core.Bool.{true, not}
 use mathlib.Core.List.{List}
@@ -7,10 +8,10 @@ use native.Mathlib.Omega.{arith}
 use borrow.Author.Tests.{eq-eqb, eqb-true, eqb-false, le-leb, leb-true}
 use lib.Dec.{eqb}
 use lib.ListN.{length, getD}
-use Rattle.basis.specs.Board.{flashSize, mapSize}
 use Rattle.basis.specs.Laws.Choice.{decide, both-true, both-second, both-false}
 use Rattle.basis.specs.Laws.Refusals.{skip, done}
 use Rattle.basis.specs.Refusals.{given}
+use Rattle.basis.specs.Units.{startOf, mapOf}
 use Rattle.runs.specs.Laws.Files.{bytes-past}
 use Rattle.runs.specs.Laws.Pieces.{piece-passes, in-piece, rank-in, rank-some, passes-below}
 use Rattle.runs.specs.Laws.Runs.{count-mono}
@@ -28,95 +29,121 @@ use Rattle.session.specs.declared.phase.Phase.{Phase}
 use Rattle.session.specs.declared.phase.RunKind.{RunKind}
 use Rattle.session.specs.declared.session.Session.{Session}
 
-module _ (m : List ℕ) where
+module _ (board : ℕ) (m : List ℕ) where
   -- the ACK to it marks the byte
-  pub held-marked : (j k s a : ℕ) → Held m j s a → j < k → marked m k a ≡ true
+  pub held-marked : (j k s a : ℕ) → Held board m j s a → j < k → marked board m k a ≡ true
   unfolding marked standsIn
   held-marked j k s a h l =
-      let t = ranked-is (pieceStarts m) (beforeVerify m) s j (sym (ap (λ (ph : Phase). standsIn m ph j) (h .phase)) ∙ at-stands m j (h .planned)) in
-      let r : markedFrom m a ≤ k = omega (arith, rank-in (named m) pieceMost s a (t .0) (h .from) (h .below)) in
+      let t = ranked-is (pieceStarts m) (beforeVerify board m) s j
+      (sym (ap (λ (ph : Phase). standsIn board m ph j) (h .phase)) ∙ at-stands board m j (h .planned)) in
+      let r : markedFrom board m a ≤ k = omega
+      (arith, rank-in (named m) pieceMost s a (t .0) (h .from) (h .below)) in
       both-second _ _ (piece-passes (named m) pieceMost s a (h .from) (h .below)) ∙ le-leb _ _ r
 
   -- a mark stays, and only what is named is marked
-  pub marked-kept : (j k a : ℕ) → j ≤ k → marked m j a ≡ true → marked m k a ≡ true
+  pub marked-kept : (j k a : ℕ) → j ≤ k → marked board m j a ≡ true → marked board m k a ≡ true
   unfolding marked
   marked-kept j k a l h =
       let b = both-true (named m a) _ h in
-      let r : markedFrom m a ≤ k = omega (arith, leb-true (markedFrom m a) j (b .1)) in
+      let r : markedFrom board m a ≤ k = omega (arith, leb-true (markedFrom board m a) j (b .1)) in
       both-second _ _ (b .0) ∙ le-leb _ _ r
 
-  pub marked-named : (k a : ℕ) → marked m k a ≡ true → named m a ≡ true
+  pub marked-named : (k a : ℕ) → marked board m k a ≡ true → named m a ≡ true
   unfolding marked
   marked-named k a h = both-true (named m a) _ h .0
 
-module _ (m : List ℕ) (long : length m ≡ mapSize) where
+module _ (board : ℕ) (m : List ℕ) (long : length m ≡ mapOf board) where
   -- every named byte is in the piece of one V of the plan, behind every E and W
   named-held : (a : ℕ) → named m a ≡ true
-      → (j : ℕ) × (s : ℕ) × (Held m j s a)
-      × (j + 1 ≡ markedFrom m a)
+      → (j : ℕ) × (s : ℕ) × (Held board m j s a)
+      × (j + 1 ≡ markedFrom board m a)
   unfolding standsIn
   named-held a t =
       let i = in-piece (named m) pieceMost (omega arith) a t in
       let s : ℕ = home (named m) pieceMost a in
-      let j : ℕ = beforeVerify m + count (pieceStarts m) s in
-      let h : standsIn m (verifyAt s) j ≡ true = ranked-by (pieceStarts m) (beforeVerify m) s j (i .0) refl in (
+      let j : ℕ = beforeVerify board m + count (pieceStarts m) s in
+      let h : standsIn board m (verifyAt s) j ≡ true = ranked-by (pieceStarts m) (beforeVerify board m) s j
+      (i .0) refl in (
         j,
         s,
-        record { planned = stands-below m long (verifyAt s) j h; phase = sym (stands-at m long (verifyAt s) j refl h); from = i .1; below = i .2 },
+        record {
+          planned = stands-below board m long (verifyAt s) j h;
+          phase = sym (stands-at board m long (verifyAt s) j refl h);
+          from = i .1;
+          below = i .2;
+        },
         omega (arith, rank-in (named m) pieceMost s a (i .0) (i .1) (i .2)),
       )
 
   -- a marked byte was held by the V of an acknowledged packet
-  pub marked-held : (k a : ℕ) → marked m k a ≡ true → (j : ℕ) × (s : ℕ) × (j < k) × (Held m j s a)
+  pub marked-held : (k a : ℕ) → marked board m k a ≡ true → (j : ℕ) × (s : ℕ) × (j < k) × (Held board m j s a)
   unfolding marked
   marked-held k a h =
       let b = both-true (named m a) _ h in
       let v = named-held a (b .0) in
-      (v .0, v .1, omega (arith, v .3, leb-true (markedFrom m a) k (b .1)), v .2)
+      (v .0, v .1, omega (arith, v .3, leb-true (markedFrom board m a) k (b .1)), v .2)
 
   -- once every V is acknowledged every named byte is marked
-  pub all-marked : (k a : ℕ) → beforeRun m ≤ k → marked m k a ≡ named m a
+  pub all-marked : (k a : ℕ) → beforeRun board m ≤ k → marked board m k a ≡ named m a
   unfolding marked
   all-marked k a l =
       decide (named m a)
-      (λ t. let b = passes-below (named m) pieceMost flashSize (omega arith) (bytes-past m long) a t in
-      let r : markedFrom m a ≤ k = omega (arith, count-mono (pieceStarts m) flashSize (a + 1) (omega arith)) in
+      (λ t. let b = passes-below (named m) (startOf board) (bytes-past board m long) a t in
+      let r : markedFrom board m a ≤ k = omega
+      (arith, count-mono (pieceStarts m) (startOf board) (a + 1) (omega arith)) in
       both-second _ _ t ∙ le-leb _ _ r ∙ sym t)
       (λ t. both-false _ _ t ∙ sym t)
 
   -- so R is out only when every named byte is marked
-  pub run-marked : (s : Session) (a : ℕ) → fitsOf m s ≡ true → s .phase ≡ Phase.Run
-      → marked m (s .acknowledged) a ≡ named m a
+  pub run-marked : (s : Session) (a : ℕ) → fitsOf board m s ≡ true → s .phase ≡ Phase.Run
+      → marked board m (s .acknowledged) a ≡ named m a
   run-marked s a h e =
       all-marked (s .acknowledged) a
-      (omega (arith, stands-run m (s .acknowledged) (sym (ap (λ (ph : Phase). standsIn m ph (s .acknowledged)) e) ∙ fitting m s h .stands)))
+      (omega (
+        arith,
+        stands-run board m (s .acknowledged)
+            (sym (ap (λ (ph : Phase). standsIn board m ph (s .acknowledged)) e)
+            ∙ fitting board m s h .stands),
+      ))
 
   -- in the plan's own terms
   pub named-verified : (image : List ℕ) (kind : RunKind) (a : ℕ) (d : List ℕ) → named m a ≡ true
-      → (j : ℕ) × (s : ℕ) × (j < total m) × (getD (plan image m kind) j d ≡ verifyPacket image m s)
+      → (j : ℕ) × (s : ℕ) × (j < total board m)
+      × (getD (plan board image m kind) j d ≡ verifyPacket image m s)
       × (s ≤ a) × (a < s + pieceLen m s)
   named-verified image kind a d t =
       let v = named-held a t in
-      let h = v .2 in
-      (v .0, v .1, h .planned, plan-at image m kind (v .0) d (h .planned) ∙ ap (packetOut image m kind) (h .phase), h .from, h .below)
+      let h = v .2 in (
+        v .0,
+        v .1,
+        h .planned,
+        plan-at board image m kind (v .0) d (h .planned)
+            ∙ ap (packetOut board image m kind) (h .phase),
+        h .from,
+        h .below,
+      )
 
   -- no byte is marked before the first V is acknowledged
-  pub marked-late : (k a : ℕ) → marked m k a ≡ true → beforeVerify m < k
+  pub marked-late : (k a : ℕ) → marked board m k a ≡ true → beforeVerify board m < k
   unfolding marked
   marked-late k a h =
       let b = both-true (named m a) _ h in
-      omega (arith, rank-some (named m) pieceMost (omega arith) a (b .0), leb-true (markedFrom m a) k (b .1))
+      omega (
+        arith,
+        rank-some (named m) pieceMost (omega arith) a (b .0),
+        leb-true (markedFrom board m a) k (b .1),
+      )
 
   -- one more acknowledgement marks the piece of its V, and nothing else
-  pub marked-more : {R : Type 0} (k a : ℕ) → marked m (k + 1) a ≡ true → (marked m k a ≡ true → R)
-      → ((s : ℕ) → Held m k s a → R) → R
+  pub marked-more : {R : Type 0} (k a : ℕ) → marked board m (k + 1) a ≡ true → (marked board m k a ≡ true → R)
+      → ((s : ℕ) → Held board m k s a → R) → R
   marked-more {R} k a h old new =
       let v = marked-held (k + 1) a h in
       decide (eqb (v .0) k)
-      (λ t. new (v .1) (subst (λ (j : ℕ). Held m j (v .1) a) (eqb-true (v .0) k t) (v .3)))
-      (λ t. old (held-marked m (v .0) k (v .1) a (v .3) (omega (arith, v .2, eqb-false (v .0) k t))))
+      (λ t. new (v .1) (subst (λ (j : ℕ). Held board m j (v .1) a) (eqb-true (v .0) k t) (v .3)))
+      (λ t. old (held-marked board m (v .0) k (v .1) a (v .3) (omega (arith, v .2, eqb-false (v .0) k t))))
 
   -- the session's `proved` says what is marked
-  pub proved-is : (s : Session) (a : ℕ) → provedOf m s a ≡ given (marked m (s .acknowledged) a)
+  pub proved-is : (s : Session) (a : ℕ) → provedOf board m s a ≡ given (marked board m (s .acknowledged) a)
   unfolding provedOf
   proved-is s a = skip 20 _ _ _ (ap not (eq-eqb _ _ long)) ∙ done _

@@ -1,4 +1,4 @@
--- Laws of whole sessions: every series of events from a start is-over one file.
+-- Laws of whole sessions: every series of events from a start on, over one file.
 use Prim.Native.Nat.{ℕ, zero, suc, _+_, _≤_, _<_}
 use mathlib.Core.Bool.{Bool, true, false}
 use mathlib.Core.List.{List, [], _∷_, _++_}
@@ -8,9 +8,9 @@ use native.Mathlib.Omega.{arith}
 use borrow.Author.Tests.{ltb-true, ltb-false}
 use lib.Dec.{ltb}
 use lib.ListN.{length, replicate}
-use Rattle.basis.specs.Board.{mapSize}
 use Rattle.basis.specs.Choice.{pick}
 use Rattle.basis.specs.Laws.Choice.{decide, true-false}
+use Rattle.basis.specs.Units.{mapOf}
 use Rattle.runs.specs.Pieces.{namedCount}
 use Rattle.session.specs.Laws.States.{phase-open, phase-later, greeting-state, ack-next, ack-last}
 use Rattle.session.specs.Phases.{ended, phaseAt, isValid}
@@ -23,17 +23,19 @@ use Rattle.session.specs.declared.phase.RunKind.{RunKind}
 use Rattle.session.specs.declared.session.Session.{Session}
 
 -- after the end nothing changes
-series-ended : (m : List ℕ) (s : Session) (es : List Event) → ended (s .phase) ≡ true → series m s es ≡ s
+series-ended : (board : ℕ) (m : List ℕ) (s : Session) (es : List Event) → ended (s .phase) ≡ true
+    → series board m s es ≡ s
 unfolding series
-series-ended m s [] h = refl
-series-ended m s (e ∷ es) h = rw h (series-ended m s es h)
+series-ended board m s [] h = refl
+series-ended board m s (e ∷ es) h = rw h (series-ended board m s es h)
 
 -- silence ends a session with 40, wherever it stands
-pub silence-ends : (m : List ℕ) (s : Session) → tookOf m s Event.Silence .phase ≡ Phase.Ended Outcome.Silence
+pub silence-ends : (board : ℕ) (m : List ℕ) (s : Session)
+    → tookOf board m s Event.Silence .phase ≡ Phase.Ended Outcome.Silence
 unfolding tookOf
-silence-ends m s = go (s .phase)
+silence-ends board m s = go (s .phase)
   where
-    go : (ph : Phase) → heardOf m s (judgeOf ph Event.Silence) .phase ≡ Phase.Ended Outcome.Silence
+    go : (ph : Phase) → heardOf board m s (judgeOf ph Event.Silence) .phase ≡ Phase.Ended Outcome.Silence
     go Phase.Greeting = refl
     go (Phase.Erase p) = refl
     go (Phase.Write a) = refl
@@ -42,17 +44,17 @@ silence-ends m s = go (s .phase)
     go (Phase.Ended o) = refl
 
 -- its counts are the file's: no total is invented
-module _ (m : List ℕ) (kind : RunKind) (s : Session) where
-  came-in : Came m kind s → (ph : Phase) × (k : ℕ) × (s ≡ sessionIn m kind ph k)
+module _ (board : ℕ) (m : List ℕ) (kind : RunKind) (s : Session) where
+  came-in : Came board m kind s → (ph : Phase) × (k : ℕ) × (s ≡ sessionIn board m kind ph k)
   came-in (waits e) = (Phase.Greeting, 0, e)
-  came-in (stands k l e) = (phaseAt m k, k, e)
+  came-in (stands k l e) = (phaseAt board m k, k, e)
   came-in (fails o k l f e) = (Phase.Ended o, k, e)
-  came-in (ends e) = (Phase.Ended Outcome.Valid, total m, e)
+  came-in (ends e) = (Phase.Ended Outcome.Valid, total board m, e)
 
-  pub came-total : Came m kind s → s .total ≡ total m
+  pub came-total : Came board m kind s → s .total ≡ total board m
   came-total c = ap (λ (x : Session). x .total) (came-in c .2)
 
-  pub came-named : Came m kind s → s .named ≡ namedCount m
+  pub came-named : Came board m kind s → s .named ≡ namedCount board m
   came-named c = ap (λ (x : Session). x .named) (came-in c .2)
 
 abbrev pub isAck : Event → Bool
@@ -83,9 +85,9 @@ greeting-or Event.Bel f g = g refl
 greeting-or Event.Other f g = g refl
 greeting-or Event.Silence f g = g refl
 
-series-nil : (m : List ℕ) (s : Session) → series m s [] ≡ s
+series-nil : (board : ℕ) (m : List ℕ) (s : Session) → series board m s [] ≡ s
 unfolding series
-series-nil m s = refl
+series-nil board m s = refl
 
 open-valid : (ph : Phase) → ended ph ≡ false → isValid ph ≡ false
 open-valid Phase.Greeting h = refl
@@ -95,36 +97,40 @@ open-valid (Phase.Verify a) h = refl
 open-valid Phase.Run h = refl
 open-valid (Phase.Ended o) h = absurd (true-false h)
 
-module _ (m : List ℕ) (long : length m ≡ mapSize) (some : 0 < namedCount m) (kind : RunKind) where
+module _ (board : ℕ) (m : List ℕ) (long : length m ≡ mapOf board) (some : 0 < namedCount board m)
+    (kind : RunKind) where
   -- ---- one event
 
   -- an event that is no ACK ends the session, and not valid
-  pub not-ack : (k : ℕ) (e : Event) → isAck e ≡ false → k < total m
+  pub not-ack : (k : ℕ) (e : Event) → isAck e ≡ false → k < total board m
       → (o : Outcome) × (failing o k ≡ true)
-      × (tookOf m (stateAt m kind k) e ≡ sessionIn m kind (Phase.Ended o) k)
+      × (tookOf board m (stateAt board m kind k) e ≡ sessionIn board m kind (Phase.Ended o) k)
   unfolding tookOf
-  not-ack k Event.Greeting h l = (Outcome.Other, refl, rw (phase-later m k Event.Greeting, add-zero))
+  not-ack k Event.Greeting h l = (Outcome.Other, refl, rw (phase-later board m k Event.Greeting, add-zero))
   not-ack k Event.Ack h l = absurd (true-false h)
-  not-ack k Event.Bel h l = (Outcome.Bel, refl, rw (phase-later m k Event.Bel, add-zero))
-  not-ack k Event.Other h l = (Outcome.Other, refl, rw (phase-later m k Event.Other, add-zero))
-  not-ack k Event.Silence h l = (Outcome.Silence, refl, rw (phase-later m k Event.Silence, add-zero))
+  not-ack k Event.Bel h l = (Outcome.Bel, refl, rw (phase-later board m k Event.Bel, add-zero))
+  not-ack k Event.Other h l = (Outcome.Other, refl, rw (phase-later board m k Event.Other, add-zero))
+  not-ack k Event.Silence h l = (Outcome.Silence, refl, rw (phase-later board m k Event.Silence, add-zero))
 
-  ack-came : (k : ℕ) → k < total m → Came m kind (tookOf m (stateAt m kind k) Event.Ack)
+  ack-came : (k : ℕ) → k < total board m
+      → Came board m kind (tookOf board m (stateAt board m kind k) Event.Ack)
   ack-came k l =
-      decide (ltb (k + 1) (total m))
-      (λ d. stands (k + 1) (ltb-true _ _ d) (ack-next m long some kind k (ltb-true _ _ d)))
-      (λ d. ends (ack-last m long some kind k (omega (arith, ltb-false (k + 1) (total m) d))))
+      decide (ltb (k + 1) (total board m))
+      (λ d. stands (k + 1) (ltb-true _ _ d) (ack-next board m long some kind k (ltb-true _ _ d)))
+      (λ d. ends (ack-last board m long some kind k (omega (arith, ltb-false (k + 1) (total board m) d))))
 
-  state-came : (k : ℕ) (e : Event) → k < total m → Came m kind (tookOf m (stateAt m kind k) e)
+  state-came : (k : ℕ) (e : Event) → k < total board m
+      → Came board m kind (tookOf board m (stateAt board m kind k) e)
   state-came k e l =
       ack-or e
-      (λ a. subst (λ (x : Event). Came m kind (tookOf m (stateAt m kind k) x)) (sym a) (ack-came k l))
+      (λ a. subst (λ (x : Event). Came board m kind (tookOf board m (stateAt board m kind k) x)) (sym a)
+      (ack-came k l))
       (λ a. let f = not-ack k e a l in fails (f .0) k l (f .1) (f .2))
 
   -- all but the greeting ends the session that waits for it
   pub not-greeting : (e : Event) → isGreeting e ≡ false
       → (o : Outcome) × (failing o 0 ≡ true)
-      × (tookOf m (atGreeting m kind) e ≡ sessionIn m kind (Phase.Ended o) 0)
+      × (tookOf board m (atGreeting board m kind) e ≡ sessionIn board m kind (Phase.Ended o) 0)
   unfolding tookOf
   not-greeting Event.Greeting h = absurd (true-false h)
   not-greeting Event.Ack h = (Outcome.NoGreeting, refl, refl)
@@ -132,94 +138,109 @@ module _ (m : List ℕ) (long : length m ≡ mapSize) (some : 0 < namedCount m) 
   not-greeting Event.Other h = (Outcome.NoGreeting, refl, refl)
   not-greeting Event.Silence h = (Outcome.Silence, refl, refl)
 
-  first-came : (e : Event) → Came m kind (tookOf m (atGreeting m kind) e)
+  first-came : (e : Event) → Came board m kind (tookOf board m (atGreeting board m kind) e)
   first-came e =
       greeting-or e
-      (λ a. subst (λ (x : Event). Came m kind (tookOf m (atGreeting m kind) x)) (sym a) (stands 0 (omega arith) (greeting-state m long some kind)))
+      (λ a. subst (λ (x : Event). Came board m kind (tookOf board m (atGreeting board m kind) x)) (sym a)
+      (stands 0 (omega arith) (greeting-state board m long some kind)))
       (λ a. let f = not-greeting e a in fails (f .0) 0 (omega arith) (f .1) (f .2))
 
-  event-came : (s : Session) (e : Event) → Came m kind s
-      → Came m kind (pick (ended (s .phase)) s (tookOf m s e))
+  event-came : (s : Session) (e : Event) → Came board m kind s
+      → Came board m kind (pick (ended (s .phase)) s (tookOf board m s e))
   event-came s e (waits q) = rw q (first-came e)
-  event-came s e (stands k l q) = rw (q, phase-open m k) (state-came k e l)
+  event-came s e (stands k l q) = rw (q, phase-open board m k) (state-came k e l)
   event-came s e (fails o k l f q) = rw q (fails o k l f refl)
   event-came s e (ends q) = rw q (ends refl)
 
   -- ---- every series
 
-  series-came : (es : List Event) (s : Session) → Came m kind s → Came m kind (series m s es)
+  series-came : (es : List Event) (s : Session) → Came board m kind s
+      → Came board m kind (series board m s es)
   unfolding series
   series-came [] s c = c
-  series-came (e ∷ es) s c = series-came es (pick (ended (s .phase)) s (tookOf m s e)) (event-came s e c)
+  series-came (e ∷ es) s c =
+      series-came es (pick (ended (s .phase)) s (tookOf board m s e)) (event-came s e c)
 
-  pub came : (es : List Event) → Came m kind (series m (atGreeting m kind) es)
-  came es = series-came es (atGreeting m kind) (waits refl)
+  pub came : (es : List Event) → Came board m kind (series board m (atGreeting board m kind) es)
+  came es = series-came es (atGreeting board m kind) (waits refl)
 
   -- an event taken
   event-taken : (s : Session) (e : Event) (es : List Event) {t : Session} → ended (s .phase) ≡ false
-      → tookOf m s e ≡ t → series m s (e ∷ es) ≡ series m t es
+      → tookOf board m s e ≡ t → series board m s (e ∷ es) ≡ series board m t es
   unfolding series
-  event-taken s e es h q = rw h (ap (λ (x : Session). series m x es) q)
+  event-taken s e es h q = rw h (ap (λ (x : Session). series board m x es) q)
 
-  series-ack : (k : ℕ) (es : List Event) → k + 1 < total m
-      → series m (stateAt m kind k) (Event.Ack ∷ es) ≡ series m (stateAt m kind (k + 1)) es
+  series-ack : (k : ℕ) (es : List Event) → k + 1 < total board m
+      → series board m (stateAt board m kind k) (Event.Ack ∷ es)
+      ≡ series board m (stateAt board m kind (k + 1)) es
   series-ack k es l =
-      event-taken (stateAt m kind k) Event.Ack es (phase-open m k) (ack-next m long some kind k l)
+      event-taken (stateAt board m kind k) Event.Ack es (phase-open board m k)
+      (ack-next board m long some kind k l)
 
-  series-last : (k : ℕ) (es : List Event) → k + 1 ≡ total m
-      → series m (stateAt m kind k) (Event.Ack ∷ es) ≡ valid m kind
+  series-last : (k : ℕ) (es : List Event) → k + 1 ≡ total board m
+      → series board m (stateAt board m kind k) (Event.Ack ∷ es) ≡ valid board m kind
   series-last k es l =
-      event-taken (stateAt m kind k) Event.Ack es (phase-open m k) (ack-last m long some kind k l)
-      ∙ series-ended m (valid m kind) es refl
+      event-taken (stateAt board m kind k) Event.Ack es (phase-open board m k)
+      (ack-last board m long some kind k l)
+      ∙ series-ended board m (valid board m kind) es refl
 
-  series-fails : (k : ℕ) (e : Event) (es : List Event) → isAck e ≡ false → k < total m
+  series-fails : (k : ℕ) (e : Event) (es : List Event) → isAck e ≡ false → k < total board m
       → (o : Outcome) × (failing o k ≡ true)
-      × (series m (stateAt m kind k) (e ∷ es) ≡ sessionIn m kind (Phase.Ended o) k)
+      × (series board m (stateAt board m kind k) (e ∷ es) ≡ sessionIn board m kind (Phase.Ended o) k)
   series-fails k e es a l =
-      let f = not-ack k e a l in
-      (f .0, f .1, event-taken (stateAt m kind k) e es (phase-open m k) (f .2) ∙ series-ended m (sessionIn m kind (Phase.Ended (f .0)) k) es refl)
+      let f = not-ack k e a l in (
+        f .0,
+        f .1,
+        event-taken (stateAt board m kind k) e es (phase-open board m k) (f .2)
+            ∙ series-ended board m (sessionIn board m kind (Phase.Ended (f .0)) k) es refl,
+      )
 
   series-first : (es : List Event)
-      → series m (atGreeting m kind) (Event.Greeting ∷ es) ≡ series m (stateAt m kind 0) es
-  series-first es = event-taken (atGreeting m kind) Event.Greeting es refl (greeting-state m long some kind)
+      → series board m (atGreeting board m kind) (Event.Greeting ∷ es)
+      ≡ series board m (stateAt board m kind 0) es
+  series-first es =
+      event-taken (atGreeting board m kind) Event.Greeting es refl (greeting-state board m long some kind)
 
   -- ---- the greeting and k acknowledgements lead to the state after k
 
-  acks-on : (n k : ℕ) → k + n < total m
-      → series m (stateAt m kind k) (replicate n Event.Ack) ≡ stateAt m kind (k + n)
-  acks-on zero k l = none ∙ ap (stateAt m kind) (omega arith)
+  acks-on : (n k : ℕ) → k + n < total board m
+      → series board m (stateAt board m kind k) (replicate n Event.Ack) ≡ stateAt board m kind (k + n)
+  acks-on zero k l = none ∙ ap (stateAt board m kind) (omega arith)
     where
-      none : series m (stateAt m kind k) [] ≡ stateAt m kind k
-      none = series-nil m (stateAt m kind k)
+      none : series board m (stateAt board m kind k) [] ≡ stateAt board m kind k
+      none = series-nil board m (stateAt board m kind k)
   acks-on (suc n) k l =
       series-ack k (replicate n Event.Ack) (omega arith)
       ∙ acks-on n (k + 1) (omega arith)
-      ∙ ap (stateAt m kind) (omega arith)
+      ∙ ap (stateAt board m kind) (omega arith)
 
-  pub acks-state : (k : ℕ) → k < total m
-      → series m (atGreeting m kind) (Event.Greeting ∷ replicate k Event.Ack) ≡ stateAt m kind k
+  pub acks-state : (k : ℕ) → k < total board m
+      → series board m (atGreeting board m kind) (Event.Greeting ∷ replicate k Event.Ack)
+      ≡ stateAt board m kind k
   acks-state k l =
-      series-first (replicate k Event.Ack) ∙ acks-on k 0 (omega arith) ∙ ap (stateAt m kind) (zero-add k)
+      series-first (replicate k Event.Ack) ∙ acks-on k 0 (omega arith)
+      ∙ ap (stateAt board m kind) (zero-add k)
 
-  acks-end : (n k : ℕ) → k + suc n ≡ total m
-      → series m (stateAt m kind k) (replicate (suc n) Event.Ack) ≡ valid m kind
+  acks-end : (n k : ℕ) → k + suc n ≡ total board m
+      → series board m (stateAt board m kind k) (replicate (suc n) Event.Ack) ≡ valid board m kind
   acks-end zero k l = series-last k [] (omega arith)
   acks-end (suc n) k l =
       series-ack k (replicate (suc n) Event.Ack) (omega arith) ∙ acks-end n (k + 1) (omega arith)
 
   -- as many as the total end it valid
-  pub acks-valid : (n : ℕ) → suc n ≡ total m
-      → series m (atGreeting m kind) (Event.Greeting ∷ replicate (suc n) Event.Ack) ≡ valid m kind
+  pub acks-valid : (n : ℕ) → suc n ≡ total board m
+      → series board m (atGreeting board m kind) (Event.Greeting ∷ replicate (suc n) Event.Ack)
+      ≡ valid board m kind
   acks-valid n e = series-first (replicate (suc n) Event.Ack) ∙ acks-end n 0 (omega arith)
 
   -- ---- a verdict within e + 2w + 2 events
 
-  is-over : {s : Session} {o : Outcome} {k : ℕ} → s ≡ sessionIn m kind (Phase.Ended o) k
+  is-over : {s : Session} {o : Outcome} {k : ℕ} → s ≡ sessionIn board m kind (Phase.Ended o) k
       → ended (s .phase) ≡ true
   is-over e = ap (λ (x : Session). ended (x .phase)) e
 
-  within : (n k : ℕ) (es : List Event) → k + suc n ≡ total m → suc n ≤ length es
-      → ended (series m (stateAt m kind k) es .phase) ≡ true
+  within : (n k : ℕ) (es : List Event) → k + suc n ≡ total board m → suc n ≤ length es
+      → ended (series board m (stateAt board m kind k) es .phase) ≡ true
   within n k [] l b = absurd (omega arith)
   within zero k (e ∷ es) l b =
       ack-or e
@@ -227,28 +248,34 @@ module _ (m : List ℕ) (long : length m ≡ mapSize) (some : 0 < namedCount m) 
       (λ a. is-over (series-fails k e es a (omega arith) .2))
   within (suc n) k (e ∷ es) l b =
       ack-or e
-      (λ a. rw a (ap (λ (s : Session). ended (s .phase)) (series-ack k es (omega arith)) ∙ within n (k + 1) es (omega arith) (omega arith)))
+      (λ a. rw a (ap (λ (s : Session). ended (s .phase)) (series-ack k es (omega arith))
+      ∙ within n (k + 1) es (omega arith) (omega arith)))
       (λ a. is-over (series-fails k e es a (omega arith) .2))
 
   first-fails : (e : Event) (es : List Event) → isGreeting e ≡ false
       → (o : Outcome) × (failing o 0 ≡ true)
-      × (series m (atGreeting m kind) (e ∷ es) ≡ sessionIn m kind (Phase.Ended o) 0)
+      × (series board m (atGreeting board m kind) (e ∷ es) ≡ sessionIn board m kind (Phase.Ended o) 0)
   first-fails e es a =
-      let f = not-greeting e a in
-      (f .0, f .1, event-taken (atGreeting m kind) e es refl (f .2) ∙ series-ended m (sessionIn m kind (Phase.Ended (f .0)) 0) es refl)
+      let f = not-greeting e a in (
+        f .0,
+        f .1,
+        event-taken (atGreeting board m kind) e es refl (f .2)
+            ∙ series-ended board m (sessionIn board m kind (Phase.Ended (f .0)) 0) es refl,
+      )
 
-  pub verdict : (es : List Event) → total m + 1 ≤ length es
-      → ended (series m (atGreeting m kind) es .phase) ≡ true
+  pub verdict : (es : List Event) → total board m + 1 ≤ length es
+      → ended (series board m (atGreeting board m kind) es .phase) ≡ true
   verdict [] b = absurd (omega arith)
   verdict (e ∷ es) b =
       greeting-or e
-      (λ a. rw a (ap (λ (s : Session). ended (s .phase)) (series-first es) ∙ within (beforeRun m) 0 es (omega arith) (omega arith)))
+      (λ a. rw a (ap (λ (s : Session). ended (s .phase)) (series-first es)
+      ∙ within (beforeRun board m) 0 es (omega arith) (omega arith)))
       (λ a. is-over (first-fails e es a .2))
 
   -- ---- valid only after every acknowledgement
 
   not-valid : {s : Session} {o : Outcome} {k : ℕ} → failing o k ≡ true
-      → s ≡ sessionIn m kind (Phase.Ended o) k → isValid (s .phase) ≡ false
+      → s ≡ sessionIn board m kind (Phase.Ended o) k → isValid (s .phase) ≡ false
   not-valid {s} {o} {k} f e = ap (λ (x : Session). isValid (x .phase)) e ∙ go o f
     where
       go : (o : Outcome) → failing o k ≡ true → isValid (Phase.Ended o) ≡ false
@@ -258,31 +285,42 @@ module _ (m : List ℕ) (long : length m ≡ mapSize) (some : 0 < namedCount m) 
       go Outcome.NoGreeting f = refl
       go Outcome.Other f = refl
 
-  not-yet : (k : ℕ) → isValid (series m (stateAt m kind k) [] .phase) ≡ false
+  not-yet : (k : ℕ) → isValid (series board m (stateAt board m kind k) [] .phase) ≡ false
   not-yet k =
-      ap (λ (x : Session). isValid (x .phase)) (series-nil m (stateAt m kind k))
-      ∙ open-valid (phaseAt m k) (phase-open m k)
+      ap (λ (x : Session). isValid (x .phase)) (series-nil board m (stateAt board m kind k))
+      ∙ open-valid (phaseAt board m k) (phase-open board m k)
 
-  valid-on : (n k : ℕ) (es : List Event) → k + suc n ≡ total m
-      → isValid (series m (stateAt m kind k) es .phase) ≡ true
+  valid-on : (n k : ℕ) (es : List Event) → k + suc n ≡ total board m
+      → isValid (series board m (stateAt board m kind k) es .phase) ≡ true
       → (rest : List Event) × (es ≡ replicate (suc n) Event.Ack ++ rest)
   valid-on n k [] l v = absurd (true-false (sym v ∙ not-yet k))
   valid-on zero k (e ∷ es) l v =
       ack-or e
       (λ a. (es, ap (λ (x : Event). x ∷ es) a))
-      (λ a. let f = series-fails k e es a (omega arith) in absurd (true-false (sym v ∙ not-valid (f .1) (f .2))))
+      (λ a. let f = series-fails k e es a (omega arith) in
+      absurd (true-false (sym v ∙ not-valid (f .1) (f .2))))
   valid-on (suc n) k (e ∷ es) l v =
       ack-or e
-      (λ a. let r = valid-on n (k + 1) es (omega arith) (sym (ap (λ (s : Session). isValid (s .phase)) (series-ack k es (omega arith))) ∙ rw a at v) in
+      (λ a. let r = valid-on n (k + 1) es (omega arith)
+      (sym (ap (λ (s : Session). isValid (s .phase)) (series-ack k es (omega arith))) ∙ rw a at v) in
       (r .0, rw a (ap (λ (x : List Event). Event.Ack ∷ x) (r .1))))
-      (λ a. let f = series-fails k e es a (omega arith) in absurd (true-false (sym v ∙ not-valid (f .1) (f .2))))
+      (λ a. let f = series-fails k e es a (omega arith) in
+      absurd (true-false (sym v ∙ not-valid (f .1) (f .2))))
 
-  pub valid-only : (es : List Event) → series m (atGreeting m kind) es .phase ≡ Phase.Ended Outcome.Valid
-      → (rest : List Event) × (es ≡ Event.Greeting ∷ replicate (total m) Event.Ack ++ rest)
-  valid-only [] v = absurd (true-false (sym (ap isValid v) ∙ ap (λ (x : Session). isValid (x .phase)) (series-nil m (atGreeting m kind))))
+  pub valid-only : (es : List Event)
+      → series board m (atGreeting board m kind) es .phase ≡ Phase.Ended Outcome.Valid
+      → (rest : List Event) × (es ≡ Event.Greeting ∷ replicate (total board m) Event.Ack ++ rest)
+  valid-only [] v =
+      absurd (true-false
+      (sym (ap isValid v)
+      ∙ ap (λ (x : Session). isValid (x .phase)) (series-nil board m (atGreeting board m kind))))
   valid-only (e ∷ es) v =
       greeting-or e
-      (λ a. let r = valid-on (beforeRun m) 0 es (omega arith) (sym (ap (λ (s : Session). isValid (s .phase)) (series-first es)) ∙ ap isValid (rw a at v)) in
-      let n : suc (beforeRun m) ≡ total m = omega arith in
-      (r .0, rw a (ap (λ (x : List Event). Event.Greeting ∷ x) (r .1 ∙ ap (λ (j : ℕ). replicate j Event.Ack ++ r .0) n))))
+      (λ a. let r = valid-on (beforeRun board m) 0 es (omega arith)
+      (sym (ap (λ (s : Session). isValid (s .phase)) (series-first es)) ∙ ap isValid (rw a at v)) in
+      let n : suc (beforeRun board m) ≡ total board m = omega arith in (
+        r .0,
+        rw a (ap (λ (x : List Event). Event.Greeting ∷ x)
+            (r .1 ∙ ap (λ (j : ℕ). replicate j Event.Ack ++ r .0) n)),
+      ))
       (λ a. let f = first-fails e es a in absurd (true-false (sym (ap isValid v) ∙ not-valid (f .1) (f .2))))

@@ -2,15 +2,14 @@
 use Prim.Native.Nat.{ℕ, _+_, _≤_, _<_}
 use mathlib.Core.Bool.{true, false}
 use mathlib.Core.List.{List}
-use mathlib.Core.Path.{_≡_, sym, _∙_}
+use mathlib.Core.Path.{_≡_, sym, ap, _∙_}
 use native.Mathlib.Omega.{arith}
 use borrow.Author.Tests.{ltb-true, ltb-false}
 use lib.Dec.{ltb}
 use lib.ListN.{length, drop, length-drop}
 use lib.Seq.{length-take-le}
-use Rattle.basis.specs.Board.{pages, flashSize, mapSize}
 use Rattle.basis.specs.Laws.Choice.{decide, true-false}
-use Rattle.basis.specs.Units.{pageOf}
+use Rattle.basis.specs.Units.{pageOf, startOf, mapOf}
 use Rattle.runs.specs.Laws.Files.{bytes-past, pages-past, file-piece}
 use Rattle.runs.specs.Laws.Pages.{named-touched}
 use Rattle.runs.specs.Laws.Pieces.{starts-below, piece-some}
@@ -23,37 +22,52 @@ use Rattle.session.specs.Phases.{lowestRun, lowestPiece}
 use Rattle.session.specs.Plan.{pieceBytes}
 
 -- e is small; so is w, by pieces-half of Totals
-pub runs-most : (m : List ℕ) → runCount m ≤ pages
-runs-most m = count-le (runStarts m) pages
+pub runs-most : (board : ℕ) (m : List ℕ) → runCount board m ≤ board
+runs-most board m = count-le (runStarts board m) board
 
-module _ (m : List ℕ) (long : length m ≡ mapSize) where
+-- a board with a named byte has a page
+pub some-page : (board : ℕ) (m : List ℕ) → 0 < namedCount board m → 0 < board
+some-page board m some = omega (arith, count-le (named m) (startOf board))
+
+module _ (board : ℕ) (m : List ℕ) (long : length m ≡ mapOf board) where
   -- runs and pieces start on the board
-  pub run-below : (q : ℕ) → runStarts m q ≡ true → q < pages
-  run-below = starts-below (touched m) pages pages (omega arith) (pages-past m long)
+  pub run-below : (q : ℕ) → runStarts board m q ≡ true → q < board
+  run-below = starts-below (touched m) board board (pages-past board m long)
 
-  pub piece-below : (a : ℕ) → pieceStarts m a ≡ true → a < flashSize
-  piece-below = starts-below (named m) pieceMost flashSize (omega arith) (bytes-past m long)
+  pub piece-below : (a : ℕ) → pieceStarts m a ≡ true → a < startOf board
+  piece-below = starts-below (named m) pieceMost (startOf board) (bytes-past board m long)
 
   -- a file with a named byte has a first piece and a first run
-  pub first-piece-below : 0 < namedCount m → lowestPiece m < flashSize
+  pub first-piece-below : 0 < namedCount board m → lowestPiece board m < startOf board
   first-piece-below some =
-      decide (ltb (lowestPiece m) flashSize) (λ d. ltb-true _ _ d)
+      decide (ltb (lowestPiece board m) (startOf board)) (λ d. ltb-true _ _ d)
       (λ d. absurd (omega (arith, none d, count-zero (named m))))
     where
-      none : ltb (lowestPiece m) flashSize ≡ false → count (named m) (0 + flashSize) ≡ count (named m) 0
-      none d = count-skip (named m) 0 flashSize (λ i u v. next-skip (named m) flashSize 0 i u (omega (arith, ltb-false (lowestPiece m) flashSize d)))
+      none : ltb (lowestPiece board m) (startOf board) ≡ false → namedCount board m ≡ count (named m) 0
+      none d =
+          let e : startOf board ≡ 0 + startOf board = omega arith in
+          ap (count (named m)) e
+          ∙ count-skip (named m) 0 (startOf board)
+          (λ i u v. next-skip (named m) (startOf board) 0 i u
+          (omega (arith, ltb-false (lowestPiece board m) (startOf board) d)))
 
-  pub first-run-below : 0 < namedCount m → lowestRun m < pages
+  pub first-run-below : 0 < namedCount board m → lowestRun board m < board
   first-run-below some =
       let l = first-piece-below some in
-      decide (ltb (lowestRun m) pages) (λ d. ltb-true _ _ d)
-      (λ d. absurd (true-false (sym (named-touched m (lowestPiece m) (next-pass (named m) flashSize 0 (omega arith)))
-      ∙ next-skip (touched m) pages 0 (pageOf (lowestPiece m)) (omega arith) (omega (arith, ltb-false (lowestRun m) pages d)))))
+      decide (ltb (lowestRun board m) board) (λ d. ltb-true _ _ d)
+      (λ d. absurd
+      (true-false (sym
+      (named-touched m (lowestPiece board m) (next-pass (named m) (startOf board) 0 (omega arith)))
+      ∙ next-skip (touched m) board 0 (pageOf (lowestPiece board m)) (omega arith)
+      (omega (arith, ltb-false (lowestRun board m) board d)))))
 
   -- a piece has 1 to 250 bytes, all in the image
-  pub piece-carried : (image : List ℕ) (a : ℕ) → length image ≡ flashSize → pieceStarts m a ≡ true
+  pub piece-carried : (image : List ℕ) (a : ℕ) → length image ≡ startOf board → pieceStarts m a ≡ true
       → (length (pieceBytes image m a) ≡ pieceLen m a) × (0 < pieceLen m a) × (pieceLen m a ≤ pieceMost)
   piece-carried image a e h =
-      let l = file-piece m long a h in
-      let k : pieceLen m a ≤ length (drop a image) = simp length-drop (omega arith) in
-      (length-take-le (pieceLen m a) (drop a image) k, piece-some (named m) pieceMost (omega arith) a h, len-le (named m) a pieceMost)
+      let l = file-piece board m long a h in
+      let k : pieceLen m a ≤ length (drop a image) = simp length-drop (omega arith) in (
+        length-take-le (pieceLen m a) (drop a image) k,
+        piece-some (named m) pieceMost (omega arith) a h,
+        len-le (named m) a pieceMost,
+      )

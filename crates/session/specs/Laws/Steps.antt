@@ -2,60 +2,90 @@
 use Prim.Native.Nat.{ℕ, _≤_}
 use mathlib.Core.Bool.{true, false, not}
 use mathlib.Core.List.{List, [], _∷_}
-use mathlib.Core.Path.{_≡_, ap, _∙_}
-use borrow.Author.Tests.{eq-eqb, ne-eqb, eqb-true, leb-true}
+use mathlib.Core.Path.{_≡_, sym, ap, _∙_}
+use native.Mathlib.Omega.{arith}
+use borrow.Author.Tests.{eq-eqb, ne-eqb, eqb-true, eqb-false, leb-true}
 use lib.ListN.{length}
 use lib.Dec.{eqb, leb}
-use Rattle.basis.specs.Board.{flashSize, mapSize, openingByte}
-use Rattle.basis.specs.Laws.Choice.{both-true}
-use Rattle.basis.specs.Laws.Refusals.{skip, stop, done}
+use Rattle.basis.specs.Board.{openingByte}
+use Rattle.basis.specs.Laws.Choice.{decide, both-true}
+use Rattle.basis.specs.Laws.Refusals.{skip, stop, done, apart, given-one}
 use Rattle.basis.specs.Refusals.{refused, given}
+use Rattle.basis.specs.Units.{startOf, mapOf}
 use Rattle.packet.specs.Packet.{packetMost}
 use Rattle.runs.specs.Pieces.{namedCount}
 use Rattle.session.specs.Phases.{ended}
-use Rattle.session.specs.Session.{atGreeting, rightSizes, started, sentOf, fitsOf, stepOf}
+use Rattle.session.specs.Session.{atGreeting, measured, rightSizes, started, sentOf, fitsOf, stepOf, Loadable}
 use Rattle.session.specs.declared.event.Event.{Event}
 use Rattle.session.specs.declared.phase.RunKind.{RunKind}
+use Rattle.session.specs.declared.session.Next.{Next}
 use Rattle.session.specs.declared.session.Session.{Session}
 
 -- what right sizes are
-pub sizes-right : (i m p : ℕ) → rightSizes i m p ≡ true → (i ≡ flashSize) × (m ≡ mapSize) × (packetMost ≤ p)
-sizes-right i m p e =
-    let a = both-true (eqb i flashSize) _ e in
-    let b = both-true (eqb m mapSize) (leb packetMost p) (a .1) in
-    (eqb-true i flashSize (a .0), eqb-true m mapSize (b .0), leb-true packetMost p (b .1))
+pub sizes-right : (board : ℕ) (i m p : ℕ) → rightSizes board i m p ≡ true
+    → (i ≡ startOf board) × (m ≡ mapOf board) × (packetMost ≤ p)
+sizes-right board i m p e =
+    let a = both-true (eqb i (startOf board)) _ e in
+    let b = both-true (eqb m (mapOf board)) (leb packetMost p) (a .1) in
+    (eqb-true i (startOf board) (a .0), eqb-true m (mapOf board) (b .0), leb-true packetMost p (b .1))
 
-module _ (image m : List ℕ) (room : ℕ) (kind : RunKind) where
-  pub start-size : rightSizes (length image) (length m) room ≡ false → started image m room kind ≡ refused 20
+module _ (board : ℕ) (image m : List ℕ) (room : ℕ) (kind : RunKind) where
+  pub start-size : rightSizes board (length image) (length m) room ≡ false
+      → started board image m room kind ≡ refused 20
   unfolding started
   start-size h = stop 20 _ _ _ (ap not h)
 
-  module _ (h : rightSizes (length image) (length m) room ≡ true) where
-    pub start-empty : namedCount m ≡ 0 → started image m room kind ≡ refused 32
+  module _ (h : rightSizes board (length image) (length m) room ≡ true) where
+    pub start-empty : namedCount board m ≡ 0 → started board image m room kind ≡ refused 32
     unfolding started
     start-empty e = skip 20 _ _ _ (ap not h) ∙ stop 32 _ _ _ (eq-eqb _ _ e)
 
-    pub start-given : (namedCount m ≡ 0 → ⊥)
-        → started image m room kind
-        ≡ given (record { session = atGreeting m kind; packet = openingByte ∷ [] })
+    pub start-given : (namedCount board m ≡ 0 → ⊥)
+        → started board image m room kind
+        ≡ given (record { session = atGreeting board m kind; packet = openingByte ∷ [] })
     unfolding started
     start-given n = skip 20 _ _ _ (ap not h) ∙ skip 32 _ _ _ (ne-eqb _ _ n) ∙ done _
 
-module _ (image m : List ℕ) (room : ℕ) (s : Session) (e : Event) where
-  pub step-size : rightSizes (length image) (length m) room ≡ false → stepOf image m room s e ≡ refused 20
+  -- a start that is not refused has a file that can be loaded, and
+  -- gives the session that waits for the greeting
+  pub record Starts (y : Next) : Type 0 where
+    pub file : Loadable board image m
+    pub next-is : y ≡ record { session = atGreeting board m kind; len = 1 }
+    pub started-is : started board image m room kind
+        ≡ given (record { session = atGreeting board m kind; packet = openingByte ∷ [] })
+
+  pub starting : (y : Next) → given y ≡ measured (started board image m room kind) → Starts y
+  starting y e =
+      decide (rightSizes board (length image) (length m) room)
+      (λ r. decide (eqb (namedCount board m) 0)
+      (λ z. absurd (apart (sym (e ∙ ap measured (start-empty r (eqb-true (namedCount board m) 0 z))))))
+      (λ z. let n = eqb-false (namedCount board m) 0 z in
+      let b = sizes-right board (length image) (length m) room r in
+      let g = start-given r n in
+      record {
+        file = record { right = b .0; long = b .1; some = omega arith };
+        next-is = given-one (e ∙ ap measured g);
+        started-is = g;
+      }))
+      (λ r. absurd (apart (sym (e ∙ ap measured (start-size r)))))
+
+module _ (board : ℕ) (image m : List ℕ) (room : ℕ) (s : Session) (e : Event) where
+  pub step-size : rightSizes board (length image) (length m) room ≡ false
+      → stepOf board image m room s e ≡ refused 20
   unfolding stepOf
   step-size h = stop 20 _ _ _ (ap not h)
 
-  module _ (h : rightSizes (length image) (length m) room ≡ true) where
-    pub step-ended : ended (s .phase) ≡ true → stepOf image m room s e ≡ refused 44
+  module _ (h : rightSizes board (length image) (length m) room ≡ true) where
+    pub step-ended : ended (s .phase) ≡ true → stepOf board image m room s e ≡ refused 44
     unfolding stepOf
     step-ended f = skip 20 _ _ _ (ap not h) ∙ stop 44 _ _ _ f
 
     module _ (f : ended (s .phase) ≡ false) where
-      pub step-foreign : fitsOf m s ≡ false → stepOf image m room s e ≡ refused 46
+      pub step-foreign : fitsOf board m s ≡ false → stepOf board image m room s e ≡ refused 46
       unfolding stepOf
       step-foreign g = skip 20 _ _ _ (ap not h) ∙ skip 44 _ _ _ f ∙ stop 46 _ _ _ (ap not g)
 
-      pub step-taken : fitsOf m s ≡ true → stepOf image m room s e ≡ given (sentOf image m s e)
+      pub step-taken : fitsOf board m s ≡ true
+          → stepOf board image m room s e ≡ given (sentOf board image m s e)
       unfolding stepOf
       step-taken g = skip 20 _ _ _ (ap not h) ∙ skip 44 _ _ _ f ∙ skip 46 _ _ _ (ap not g) ∙ done _

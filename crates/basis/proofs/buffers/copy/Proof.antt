@@ -12,7 +12,8 @@ use Rattle.basis.proofs.buffers.copy.Tie as tie
 
 abbrev Inv-loop : tie.InvT-loop
 Inv-loop buffer₀ at bytes i₀ buffer i =
-    (i ≤ length bytes) × (length buffer ≡ length buffer₀) × (copyOf buffer (at + i) (drop i bytes) ≡ copyOf buffer₀ at bytes)
+    (i ≤ length bytes) × (length buffer ≡ length buffer₀) ×
+    (copyOf buffer (at + i) (drop i bytes) ≡ copyOf buffer₀ at bytes)
 
 abbrev μ-loop : tie.MeasureT-loop
 μ-loop buffer₀ at bytes i₀ buffer i = length bytes - i

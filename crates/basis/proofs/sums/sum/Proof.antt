@@ -39,7 +39,12 @@ loop-again c =
     let h : l .i < length bytes = omega arith in (
       search needs,
       rw (add-one, take-suc bytes (l .i) 0)
-          (omega (arith, c .wrapping-add-u8 .ensures, l .inv .1, sum-more (take (l .i) bytes) (getD bytes (l .i) 0))),
+          (omega (
+            arith,
+            c .wrapping-add-u8 .ensures,
+            l .inv .1,
+            sum-more (take (l .i) bytes) (getD bytes (l .i) 0),
+          )),
     )
 
 returns : tie.Need-returns Inv-loop μ-loop

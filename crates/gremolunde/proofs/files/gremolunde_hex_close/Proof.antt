@@ -1,4 +1,5 @@
--- `gremolunde_hex_close` meets its contract: it is the reader that the state stands for, its answer as C gets it.
+-- `gremolunde_hex_close` meets its contract: it is the reader that
+-- the state stands for, its answer as C gets it.
 use mathlib.Core.Path.{ap, _∙_}
 use borrow.Author.Needs.{needs}
 use Rattle.image.specs.Hex.{closeOf}
@@ -16,7 +17,10 @@ hex-answer-requires : tie.Need-hex-answer-requires
 hex-answer-requires c κs = search needs
 
 returns : tie.Need-returns
-returns c = c .hex-answer .ensures ∙ ap (hexAnswer (c .before .before .before .args .reader)) (c .before .close .ensures ∙ ap closeOf (c .before .before .hex-meant .ensures))
+returns c =
+    c .hex-answer .ensures
+    ∙ ap (hexAnswer (c .before .before .before .args .reader))
+    (c .before .close .ensures ∙ ap closeOf (c .before .before .hex-meant .ensures))
 
 pub gremolunde-hex-close-spec : {M : Type 1} → statement M
 gremolunde-hex-close-spec =

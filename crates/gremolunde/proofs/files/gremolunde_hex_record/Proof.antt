@@ -1,4 +1,5 @@
--- `gremolunde_hex_record` meets its contract: it is the reader that the state stands for, its answer as C gets it.
+-- `gremolunde_hex_record` meets its contract: it is the reader
+-- that the state stands for, its answer as C gets it.
 use mathlib.Core.Path.{ap, sym, _∙_}
 use borrow.Author.Needs.{needs}
 use Rattle.image.specs.Hex.{Settled}
@@ -23,8 +24,14 @@ same-length-2 c = search needs
 
 returns : tie.Need-returns
 returns c = let o = c .before .before .before .before .before .«record» .ensures in
-    rw (sym (c .before .before .before .before .before .before .before .before .hex-meant .ensures))
-    (c .hex-answer .ensures ∙ ap (λ (x : Settled). hexAnswer (c .before .before .before .before .before .before .before .before .before .before .before .before .args .reader) (x .answer)) o, ap (λ (x : Settled). x .image) o, ap (λ (x : Settled). x .map) o)
+    rw (sym (c .before .before .before .before .before .before .before .before .hex-meant .ensures)) (
+      c .hex-answer .ensures
+          ∙ ap (λ (x : Settled). hexAnswer
+          (c .before .before .before .before .before .before .before .before .before .before .before .before .args .reader) (x .answer))
+          o,
+      ap (λ (x : Settled). x .image) o,
+      ap (λ (x : Settled). x .map) o,
+    )
 
 pub gremolunde-hex-record-spec : {M : Type 1} → statement M
 gremolunde-hex-record-spec =

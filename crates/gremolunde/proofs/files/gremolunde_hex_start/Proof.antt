@@ -19,8 +19,11 @@ same-length-2 : tie.Need-same-length-2
 same-length-2 c = search needs
 
 returns : tie.Need-returns
-returns c = let o = c .before .before .before .before .before .start .ensures in
-    (c .hex-answer .ensures ∙ ap (λ (x : Settled). hexAnswer noReader (x .answer)) o, ap (λ (x : Settled). x .image) o, ap (λ (x : Settled). x .map) o)
+returns c = let o = c .before .before .before .before .before .start .ensures in (
+  c .hex-answer .ensures ∙ ap (λ (x : Settled). hexAnswer noReader (x .answer)) o,
+  ap (λ (x : Settled). x .image) o,
+  ap (λ (x : Settled). x .map) o,
+)
 
 pub gremolunde-hex-start-spec : {M : Type 1} → statement M
 gremolunde-hex-start-spec =

@@ -15,7 +15,12 @@ same-length : tie.Need-same-length
 same-length c = search needs
 
 returns : tie.Need-returns
-returns c = (c .written-answer .ensures ∙ ap (writtenAnswer (c .before .before .before .before .before .before .before .before .args .from)) (c .before .before .before .write .ensures .0), c .before .before .before .write .ensures .1)
+returns c = (
+  c .written-answer .ensures
+      ∙ ap (writtenAnswer (c .before .before .before .before .before .before .before .before .args .from))
+      (c .before .before .before .write .ensures .0),
+  c .before .before .before .write .ensures .1,
+)
 
 pub gremolunde-hex-write-spec : {M : Type 1} → statement M
 gremolunde-hex-write-spec = tie.close (tie.spec write-requires written-answer-requires same-length returns)

@@ -1,4 +1,5 @@
--- `hex_answer` meets its contract: the next reader is shown, or the refusal's number with the reader as it came.
+-- `hex_answer` meets its contract: the next reader is shown, or
+-- the refusal's number with the reader as it came.
 use mathlib.Core.Path.{ap, sym, _∙_}
 use borrow.Author.Needs.{needs}
 use Rattle.image.specs.Paper.{paperRead}
@@ -20,10 +21,16 @@ number-requires : tie.Need-number-requires
 number-requires c κs = search needs
 
 returns : tie.Need-returns
-returns c = (λ i. record { number = 0; reader = c .hex-shown .ensures i }) ∙ ap (λ (x : Read). hexAnswer (c .before .before .before .before .args .reader) (paperRead x)) (sym (c .before .before .answer .given .1))
+returns c =
+    (λ i. record { number = 0; reader = c .hex-shown .ensures i })
+    ∙ ap (λ (x : Read). hexAnswer (c .before .before .before .before .args .reader) (paperRead x))
+    (sym (c .before .before .answer .given .1))
 
 returns-2 : tie.Need-returns-2
-returns-2 c = (λ i. record { number = c .number .ensures i; reader = c .before .before .before .before .args .reader }) ∙ ap (λ (x : Read). hexAnswer (c .before .before .before .before .args .reader) (paperRead x)) (sym (c .before .before .answer2 .given .1))
+returns-2 c =
+    (λ i. record { number = c .number .ensures i; reader = c .before .before .before .before .args .reader })
+    ∙ ap (λ (x : Read). hexAnswer (c .before .before .before .before .args .reader) (paperRead x))
+    (sym (c .before .before .answer2 .given .1))
 
 pub hex-answer-spec : {M : Type 1} → statement M
 hex-answer-spec =

@@ -31,7 +31,8 @@ returns-2 c =
     let from = c .before .before .before .before .before .args .from in
     c .unwritten .ensures
     ∙ ap (λ (n : ℕ). writtenAnswer from (refused n)) (c .before .number .ensures)
-    ∙ ap (λ (x : Written). writtenAnswer from (paperWritten x)) (sym (c .before .before .before .answer2 .given .1))
+    ∙ ap (λ (x : Written). writtenAnswer from (paperWritten x))
+    (sym (c .before .before .before .answer2 .given .1))
 
 pub written-answer-spec : {M : Type 1} → statement M
 written-answer-spec =

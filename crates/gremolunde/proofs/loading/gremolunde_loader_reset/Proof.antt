@@ -16,7 +16,9 @@ loader-shown-requires : tie.Need-loader-shown-requires
 loader-shown-requires c κs = search needs
 
 returns : tie.Need-returns
-returns c = c .loader-shown .ensures ∙ ap loaderShown (c .before .reset .ensures ∙ ap resetOf (c .before .before .loader-meant .ensures))
+returns c =
+    c .loader-shown .ensures
+    ∙ ap loaderShown (c .before .reset .ensures ∙ ap resetOf (c .before .before .loader-meant .ensures))
 
 pub gremolunde-loader-reset-spec : {M : Type 1} → statement M
 gremolunde-loader-reset-spec =

@@ -1,4 +1,5 @@
--- `gremolunde_loader_take` meets its contract: it is the loader that the state stands for, its answer as C gets it.
+-- `gremolunde_loader_take` meets its contract: it is the loader
+-- that the state stands for, its answer as C gets it.
 use Prim.Native.Nat.{ℕ}
 use mathlib.Core.List.{List}
 use mathlib.Core.Path.{_≡_, sym, _∙_}
@@ -20,10 +21,15 @@ use Rattle.gremolunde.proofs.loading.gremolunde_loader_take.Tie as tie
 told-of : (s : LoaderState) (l m : Loader) → l ≡ m
     → (input flash old : List ℕ) {v : Answer (Unit {0})} {next : Loader} {k : ℕ} {f a : List ℕ} (r : Taken)
     → r ≡ takenAnswer s v next k → Takes (takeOf pages l input flash (length old)) l flash old v next k f a
-    → let x = takeOf pages m input flash (length old) in (r ≡ takenAnswer s (bare x) (effectAfter m flash x .loader) (length (answerBytes m x))) × (f ≡ effectAfter m flash x .flash) × (a ≡ overlay (answerBytes m x) old)
+    → let x = takeOf pages m input flash (length old) in
+    (r ≡ takenAnswer s (bare x) (effectAfter m flash x .loader) (length (answerBytes m x)))
+    × (f ≡ effectAfter m flash x .flash) × (a ≡ overlay (answerBytes m x) old)
 told-of s l m e input flash old r p t =
-    rw (sym e)
-    (p ∙ (λ i. takenAnswer s (t .does-is .verdict-is i) (t .does-is .loader-is i) (t .answered-is i)), t .does-is .flash-is, t .answer-is)
+    rw (sym e) (
+      p ∙ (λ i. takenAnswer s (t .does-is .verdict-is i) (t .does-is .loader-is i) (t .answered-is i)),
+      t .does-is .flash-is,
+      t .answer-is,
+    )
 
 loader-meant-requires : tie.Need-loader-meant-requires
 loader-meant-requires c κs = search needs
@@ -41,7 +47,10 @@ same-length-2 : tie.Need-same-length-2
 same-length-2 c = search needs
 
 returns : tie.Need-returns
-returns c = told-of _ _ _ (c .before .before .before .before .before .before .before .before .before .loader-meant .ensures) _ _ _ _ (c .taken-answer .ensures) (c .before .before .before .before .before .before .take .ensures)
+returns c =
+    told-of _ _ _
+    (c .before .before .before .before .before .before .before .before .before .loader-meant .ensures) _ _ _ _
+    (c .taken-answer .ensures) (c .before .before .before .before .before .before .take .ensures)
 
 pub gremolunde-loader-take-spec : {M : Type 1} → statement M
 gremolunde-loader-take-spec =

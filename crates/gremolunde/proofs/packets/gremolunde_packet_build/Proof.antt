@@ -15,7 +15,10 @@ same-length : tie.Need-same-length
 same-length c = search needs
 
 returns : tie.Need-returns
-returns c = (c .length-answer .ensures ∙ ap lengthAnswer (c .before .before .before .build .ensures .0), c .before .before .before .build .ensures .1)
+returns c = (
+  c .length-answer .ensures ∙ ap lengthAnswer (c .before .before .before .build .ensures .0),
+  c .before .before .before .build .ensures .1,
+)
 
 pub gremolunde-packet-build-spec : {M : Type 1} → statement M
 gremolunde-packet-build-spec =

@@ -31,10 +31,14 @@ returns : tie.Need-returns
 returns c = ap (λ (x : Built). lengthAnswer (paperBuilt x)) (sym (c .before .answer .given .1))
 
 returns-2 : tie.Need-returns-2
-returns-2 c = c .refused .ensures ∙ ap (λ (x : Built). lengthAnswer (paperBuilt x)) (sym (c .before .enum-told .given .1))
+returns-2 c =
+    c .refused .ensures
+    ∙ ap (λ (x : Built). lengthAnswer (paperBuilt x)) (sym (c .before .enum-told .given .1))
 
 returns-3 : tie.Need-returns-3
-returns-3 c = c .refused2 .ensures ∙ ap (λ (n : ℕ). lengthAnswer (refused n)) (c .before .number .ensures) ∙ ap (λ (x : Built). lengthAnswer (paperBuilt x)) (sym (c .before .before .before .answer2 .given .1))
+returns-3 c =
+    c .refused2 .ensures ∙ ap (λ (n : ℕ). lengthAnswer (refused n)) (c .before .number .ensures)
+    ∙ ap (λ (x : Built). lengthAnswer (paperBuilt x)) (sym (c .before .before .before .answer2 .given .1))
 
 pub length-answer-spec : {M : Type 1} → statement M
 length-answer-spec =

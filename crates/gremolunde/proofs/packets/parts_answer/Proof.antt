@@ -22,10 +22,21 @@ number-requires : tie.Need-number-requires
 number-requires c κs = search needs
 
 returns : tie.Need-returns
-returns c = let p = c .before .before .before .answer .given .0 .0 in (λ i. record { number = 0; command = c .byte .ensures i; address = p .address .0; place = p .at; length = p .len }) ∙ ap (λ (x : Reading). partsAnswer (paperReading x)) (sym (c .before .before .before .answer .given .1))
+returns c =
+    let p = c .before .before .before .answer .given .0 .0 in
+    (λ i. record {
+      number = 0;
+      command = c .byte .ensures i;
+      address = p .address .0;
+      place = p .at;
+      length = p .len;
+    })
+    ∙ ap (λ (x : Reading). partsAnswer (paperReading x)) (sym (c .before .before .before .answer .given .1))
 
 returns-2 : tie.Need-returns-2
-returns-2 c = ap (λ (n : ℕ). partsAnswer (refused n)) (c .number .ensures) ∙ ap (λ (x : Reading). partsAnswer (paperReading x)) (sym (c .before .before .answer2 .given .1))
+returns-2 c =
+    ap (λ (n : ℕ). partsAnswer (refused n)) (c .number .ensures)
+    ∙ ap (λ (x : Reading). partsAnswer (paperReading x)) (sym (c .before .before .answer2 .given .1))
 
 pub parts-answer-spec : {M : Type 1} → statement M
 parts-answer-spec =

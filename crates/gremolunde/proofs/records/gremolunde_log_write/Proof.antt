@@ -1,4 +1,5 @@
--- `gremolunde_log_write` meets its contract: it writes the session that the state stands for, its answer as C gets it.
+-- `gremolunde_log_write` meets its contract: it writes the session
+-- that the state stands for, its answer as C gets it.
 use mathlib.Core.Path.{ap, sym, _∙_}
 use borrow.Author.Needs.{needs}
 use Rattle.gremolunde.specs.Answers.{lengthAnswer}
@@ -18,7 +19,11 @@ same-length : tie.Need-same-length
 same-length c = search needs
 
 returns : tie.Need-returns
-returns c = rw (sym (c .before .before .before .before .before .session-meant .ensures)) (c .length-answer .ensures ∙ ap lengthAnswer (c .before .before .before .write .ensures .0), c .before .before .before .write .ensures .1)
+returns c =
+    rw (sym (c .before .before .before .before .before .session-meant .ensures)) (
+      c .length-answer .ensures ∙ ap lengthAnswer (c .before .before .before .write .ensures .0),
+      c .before .before .before .write .ensures .1,
+    )
 
 pub gremolunde-log-write-spec : {M : Type 1} → statement M
 gremolunde-log-write-spec =

@@ -1,7 +1,9 @@
--- `gremolunde_rehearse` meets its contract: it is the rehearsal of the loader that the state stands for, its answer as C gets it.
+-- `gremolunde_rehearse` meets its contract: it is the rehearsal of the loader that the state stands for, its
+-- answer as C gets it.
 use Prim.Native.Nat.{ℕ}
 use mathlib.Core.List.{List}
 use mathlib.Core.Path.{_≡_, ap, sym, _∙_}
+use Rattle.basis.specs.Board.{pages}
 use Rattle.basis.specs.Refusals.{Answer}
 use Rattle.line.specs.Line.{rehearseOf, loaded, leftFlash, Rehearses}
 use Rattle.line.specs.declared.exchange.Loss.{Loss}
@@ -18,9 +20,11 @@ use Rattle.gremolunde.proofs.rehearsals.gremolunde_rehearse.Tie as tie
 -- what a rehearsal with the kind k and the loader l shows, where they are what the arguments stand for
 told-of : (s : LoaderState) (k n : RunKind) (l m : Loader) → k ≡ n → l ≡ m
     → (image map flash : List ℕ) (losses : ℕ → Loss) {a : Answer Load} {f : List ℕ} (r : Rehearsal)
-    → r ≡ rehearsedAnswer s a → Rehearses (rehearseOf image map k l losses flash) flash a f
-    → let x = rehearseOf image map n m losses flash in (r ≡ rehearsedAnswer s (loaded x)) × (f ≡ leftFlash flash x)
-told-of s k n l m d e image map flash losses r p t = rw (sym d) (rw (sym e) (p ∙ ap (rehearsedAnswer s) (t .result-is), t .flash-is))
+    → r ≡ rehearsedAnswer s a → Rehearses (rehearseOf pages image map k l losses flash) flash a f
+    → let x = rehearseOf pages image map n m losses flash in (r ≡ rehearsedAnswer s (loaded x))
+    × (f ≡ leftFlash flash x)
+told-of s k n l m d e image map flash losses r p t =
+    rw (sym d) (rw (sym e) (p ∙ ap (rehearsedAnswer s) (t .result-is), t .flash-is))
 
 run-meant-requires : tie.Need-run-meant-requires
 run-meant-requires c κs = search needs
@@ -38,7 +42,10 @@ same-length : tie.Need-same-length
 same-length c = search needs
 
 returns : tie.Need-returns
-returns c = told-of _ _ _ _ _ (c .before .before .before .before .before .before .run-meant .ensures) (c .before .before .before .before .before .loader-meant .ensures) _ _ _ _ _ (c .rehearsed-answer .ensures) (c .before .before .before .rehearse .ensures)
+returns c =
+    told-of _ _ _ _ _ (c .before .before .before .before .before .before .run-meant .ensures)
+    (c .before .before .before .before .before .loader-meant .ensures) _ _ _ _ _
+    (c .rehearsed-answer .ensures) (c .before .before .before .rehearse .ensures)
 
 pub gremolunde-rehearse-spec : {M : Type 1} → statement M
 gremolunde-rehearse-spec =

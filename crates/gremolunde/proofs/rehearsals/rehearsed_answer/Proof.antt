@@ -1,4 +1,5 @@
--- `rehearsed_answer` meets its contract: loader and session at the end are shown, or the refusal's number with the loader as it came.
+-- `rehearsed_answer` meets its contract: loader and session at the end are shown, or the refusal's number
+-- with the loader as it came.
 use mathlib.Core.Path.{ap, sym, _∙_}
 use Rattle.gremolunde.specs.Answers.{rehearsedAnswer}
 use Rattle.line.specs.Paper.{paperRehearsed}
@@ -26,10 +27,25 @@ no-session-requires : tie.Need-no-session-requires
 no-session-requires c κs = search needs
 
 returns : tie.Need-returns
-returns c = (λ i. record { number = 0; loader = c .before .loader-shown .ensures i; session = c .session-shown .ensures i }) ∙ ap (λ (x : Rehearsed). rehearsedAnswer (c .before .before .before .before .before .before .before .args .loader) (paperRehearsed x)) (sym (c .before .before .before .before .before .answer .given .1))
+returns c =
+    (λ i. record {
+      number = 0;
+      loader = c .before .loader-shown .ensures i;
+      session = c .session-shown .ensures i;
+    })
+    ∙ ap (λ (x : Rehearsed). rehearsedAnswer
+    (c .before .before .before .before .before .before .before .args .loader) (paperRehearsed x))
+    (sym (c .before .before .before .before .before .answer .given .1))
 
 returns-2 : tie.Need-returns-2
-returns-2 c = (λ i. record { number = c .before .number .ensures i; loader = c .before .before .before .before .before .args .loader; session = c .no-session .ensures i }) ∙ ap (λ (x : Rehearsed). rehearsedAnswer (c .before .before .before .before .before .args .loader) (paperRehearsed x)) (sym (c .before .before .before .answer2 .given .1))
+returns-2 c =
+    (λ i. record {
+      number = c .before .number .ensures i;
+      loader = c .before .before .before .before .before .args .loader;
+      session = c .no-session .ensures i;
+    })
+    ∙ ap (λ (x : Rehearsed). rehearsedAnswer (c .before .before .before .before .before .args .loader)
+    (paperRehearsed x)) (sym (c .before .before .before .answer2 .given .1))
 
 pub rehearsed-answer-spec : {M : Type 1} → statement M
 rehearsed-answer-spec =

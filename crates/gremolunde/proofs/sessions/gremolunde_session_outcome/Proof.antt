@@ -1,4 +1,5 @@
--- `gremolunde_session_outcome` meets its contract: it is the outcome of the session that the state stands for.
+-- `gremolunde_session_outcome` meets its contract: it is the
+-- outcome of the session that the state stands for.
 use mathlib.Core.Path.{ap, _∙_}
 use borrow.Author.Needs.{needs}
 use Rattle.session.specs.declared.session.Session.{Session}
@@ -16,7 +17,8 @@ cast-result : tie.Need-cast-result
 cast-result c = search needs
 
 returns : tie.Need-returns
-returns c = c .outcome-in .ensures ∙ ap (λ (s : Session). outcomeIn (s .phase)) (c .before .session-meant .ensures)
+returns c =
+    c .outcome-in .ensures ∙ ap (λ (s : Session). outcomeIn (s .phase)) (c .before .session-meant .ensures)
 
 pub gremolunde-session-outcome-spec : {M : Type 1} → statement M
 gremolunde-session-outcome-spec =

@@ -1,4 +1,5 @@
--- `gremolunde_session_proved` meets its contract: it is the session that the state stands for, its answer as C gets it.
+-- `gremolunde_session_proved` meets its contract: it is the session that the state stands for, its answer as
+-- C gets it.
 use mathlib.Core.Path.{ap, sym, _∙_}
 use borrow.Author.Needs.{needs}
 use Rattle.gremolunde.specs.Answers.{markAnswer}
@@ -15,7 +16,9 @@ mark-answer-requires : tie.Need-mark-answer-requires
 mark-answer-requires c κs = search needs
 
 returns : tie.Need-returns
-returns c = rw (sym (c .before .before .session-meant .ensures)) (c .mark-answer .ensures ∙ ap markAnswer (c .before .proved .ensures))
+returns c =
+    rw (sym (c .before .before .session-meant .ensures))
+    (c .mark-answer .ensures ∙ ap markAnswer (c .before .proved .ensures))
 
 pub gremolunde-session-proved-spec : {M : Type 1} → statement M
 gremolunde-session-proved-spec =

@@ -21,7 +21,13 @@ same-length : tie.Need-same-length
 same-length c = search needs
 
 returns : tie.Need-returns
-returns c = rw (sym (c .before .before .before .before .before .run-meant .ensures)) (c .stepped-answer .ensures ∙ (λ i. steppedAnswer (c .before .before .before .before .before .before .no-session .ensures i) (c .before .before .before .start .ensures .0 i)), c .before .before .before .start .ensures .1)
+returns c =
+    rw (sym (c .before .before .before .before .before .run-meant .ensures)) (
+      c .stepped-answer .ensures
+          ∙ (λ i. steppedAnswer (c .before .before .before .before .before .before .no-session .ensures i)
+          (c .before .before .before .start .ensures .0 i)),
+      c .before .before .before .start .ensures .1,
+    )
 
 pub gremolunde-session-start-spec : {M : Type 1} → statement M
 gremolunde-session-start-spec =

@@ -1,4 +1,5 @@
--- `gremolunde_session_step` meets its contract: it is the session that the state stands for, its answer as C gets it.
+-- `gremolunde_session_step` meets its contract: it is the session
+-- that the state stands for, its answer as C gets it.
 use mathlib.Core.Path.{ap, sym, _∙_}
 use borrow.Author.Needs.{needs}
 use Rattle.gremolunde.specs.Answers.{steppedAnswer}
@@ -18,7 +19,14 @@ same-length : tie.Need-same-length
 same-length c = search needs
 
 returns : tie.Need-returns
-returns c = rw (sym (c .before .before .before .before .before .session-meant .ensures)) (c .stepped-answer .ensures ∙ ap (steppedAnswer (c .before .before .before .before .before .before .before .before .before .before .args .session)) (c .before .before .before .step .ensures .0), c .before .before .before .step .ensures .1)
+returns c =
+    rw (sym (c .before .before .before .before .before .session-meant .ensures)) (
+      c .stepped-answer .ensures
+          ∙ ap (steppedAnswer
+          (c .before .before .before .before .before .before .before .before .before .before .args .session))
+          (c .before .before .before .step .ensures .0),
+      c .before .before .before .step .ensures .1,
+    )
 
 pub gremolunde-session-step-spec : {M : Type 1} → statement M
 gremolunde-session-step-spec =

@@ -1,4 +1,5 @@
--- `stepped_answer` meets its contract: the next session is shown, or the refusal's number with the session as it came.
+-- `stepped_answer` meets its contract: the next session is shown, or
+-- the refusal's number with the session as it came.
 use mathlib.Core.Path.{ap, sym, _∙_}
 use borrow.Author.Needs.{needs}
 use Rattle.session.specs.Paper.{paperStepped}
@@ -20,10 +21,24 @@ number-requires : tie.Need-number-requires
 number-requires c κs = search needs
 
 returns : tie.Need-returns
-returns c = (λ i. record { number = 0; length = c .before .before .before .answer .given .0 .0 .len; session = c .session-shown .ensures i }) ∙ ap (λ (x : Stepped). steppedAnswer (c .before .before .before .before .before .args .session) (paperStepped x)) (sym (c .before .before .before .answer .given .1))
+returns c =
+    (λ i. record {
+      number = 0;
+      length = c .before .before .before .answer .given .0 .0 .len;
+      session = c .session-shown .ensures i;
+    })
+    ∙ ap (λ (x : Stepped). steppedAnswer (c .before .before .before .before .before .args .session)
+    (paperStepped x)) (sym (c .before .before .before .answer .given .1))
 
 returns-2 : tie.Need-returns-2
-returns-2 c = (λ i. record { number = c .number .ensures i; length = 0; session = c .before .before .before .before .args .session }) ∙ ap (λ (x : Stepped). steppedAnswer (c .before .before .before .before .args .session) (paperStepped x)) (sym (c .before .before .answer2 .given .1))
+returns-2 c =
+    (λ i. record {
+      number = c .number .ensures i;
+      length = 0;
+      session = c .before .before .before .before .args .session;
+    })
+    ∙ ap (λ (x : Stepped). steppedAnswer (c .before .before .before .before .args .session) (paperStepped x))
+    (sym (c .before .before .answer2 .given .1))
 
 pub stepped-answer-spec : {M : Type 1} → statement M
 stepped-answer-spec =

@@ -24,7 +24,16 @@ returns-5 : tie.Need-returns-5
 returns-5 c = rw (c .match .keys5) refl
 
 returns-6 : tie.Need-returns-6
-returns-6 c = let r = c .before .match .rest in simp (c .nowhere .ensures, ne-eqb _ _ (r .0 .0 .0 .0 .1), ne-eqb _ _ (r .0 .0 .0 .1), ne-eqb _ _ (r .0 .0 .1), ne-eqb _ _ (r .0 .1), ne-eqb _ _ (r .1))
+returns-6 c =
+    let r = c .before .match .rest in
+    simp (
+      c .nowhere .ensures,
+      ne-eqb _ _ (r .0 .0 .0 .0 .1),
+      ne-eqb _ _ (r .0 .0 .0 .1),
+      ne-eqb _ _ (r .0 .0 .1),
+      ne-eqb _ _ (r .0 .1),
+      ne-eqb _ _ (r .1),
+    )
 
 pub end-meant-spec : {M : Type 1} → statement M
 end-meant-spec =

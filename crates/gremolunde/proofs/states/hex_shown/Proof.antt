@@ -10,7 +10,14 @@ flag-requires-2 : tie.Need-flag-requires-2
 flag-requires-2 c κs = search needs
 
 returns : tie.Need-returns
-returns c = let h = c .before .before .args .reader in λ i. record { linear = h .linear; segment = h .segment; ended = c .before .flag .ensures i; taken = c .flag2 .ensures i }
+returns c =
+    let h = c .before .before .args .reader in
+    λ i. record {
+      linear = h .linear;
+      segment = h .segment;
+      ended = c .before .flag .ensures i;
+      taken = c .flag2 .ensures i;
+    }
 
 pub hex-shown-spec : {M : Type 1} → statement M
 hex-shown-spec = tie.close (tie.spec flag-requires flag-requires-2 returns)

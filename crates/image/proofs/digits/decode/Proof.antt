@@ -62,7 +62,8 @@ module _ (line : List ℕ) (i : ℕ) (h : 2 * i + 2 < length line) where
 
 abbrev Inv-loop : tie.InvT-loop
 Inv-loop line bytes₀ n i₀ bytes i =
-    (i ≤ n) × (length bytes ≡ length bytes₀) × (allDigits (drop (2 * i + 1) line) ≡ allDigits (drop 1 line)) × (take i bytes ++ decoded (drop (2 * i + 1) line) ≡ decoded (drop 1 line))
+    (i ≤ n) × (length bytes ≡ length bytes₀) × (allDigits (drop (2 * i + 1) line) ≡ allDigits (drop 1 line)) ×
+    (take i bytes ++ decoded (drop (2 * i + 1) line) ≡ decoded (drop 1 line))
 
 abbrev μ-loop : tie.MeasureT-loop
 μ-loop line bytes₀ n i₀ bytes i = n - i

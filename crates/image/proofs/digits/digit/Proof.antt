@@ -47,7 +47,8 @@ returns-3 c =
     simp (
       above 0x30 0x39 (c .before .before .before .before .before .before .args .c) (omega arith),
       above 0x41 0x46 (c .before .before .before .before .before .before .args .c) (omega arith),
-      within 0x61 0x66 (c .before .before .before .before .before .before .args .c) (omega arith) (omega arith),
+      within 0x61 0x66 (c .before .before .before .before .before .before .args .c) (omega arith)
+          (omega arith),
     )
 
 returns-4 : tie.Need-returns-4

@@ -24,7 +24,8 @@ module _ (flash : List ℕ) (a i n : ℕ) where
 
 abbrev Inv-loop : tie.InvT-loop
 Inv-loop flash₀ count at i₀ flash i =
-    (i ≤ count) × (length flash ≡ length flash₀) × (eraseOf flash (at + i) (count - i) ≡ eraseOf flash₀ at count)
+    (i ≤ count) × (length flash ≡ length flash₀) ×
+    (eraseOf flash (at + i) (count - i) ≡ eraseOf flash₀ at count)
 
 abbrev μ-loop : tie.MeasureT-loop
 μ-loop flash₀ count at i₀ flash i = count - i

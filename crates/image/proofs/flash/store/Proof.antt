@@ -12,7 +12,8 @@ use Rattle.image.proofs.flash.store.Tie as tie
 
 abbrev Inv-loop : tie.InvT-loop
 Inv-loop flash₀ bytes at i₀ flash i =
-    (i ≤ length bytes) × (length flash ≡ length flash₀) × (storeOf flash (at + i) (drop i bytes) ≡ storeOf flash₀ at bytes)
+    (i ≤ length bytes) × (length flash ≡ length flash₀) ×
+    (storeOf flash (at + i) (drop i bytes) ≡ storeOf flash₀ at bytes)
 
 abbrev μ-loop : tie.MeasureT-loop
 μ-loop flash₀ bytes at i₀ flash i = length bytes - i
@@ -45,8 +46,12 @@ loop-less : tie.Need-loop-less Inv-loop μ-loop
 loop-less c = search needs
 
 loop-again : tie.Need-loop-again Inv-loop μ-loop
-loop-again c =
-    (omega arith, simp length-set (omega arith), stored-turn _ _ _ _ _ (omega arith) ∙ c .before .before .before .loop .inv .2)
+loop-again c = (
+  omega arith,
+  simp length-set (omega arith),
+  stored-turn _ _ _ _ _ (omega arith)
+      ∙ c .before .before .before .loop .inv .2,
+)
 
 same-length : tie.Need-same-length Inv-loop μ-loop
 same-length c = search needs

@@ -24,7 +24,8 @@ add-if1 c = search needs
 returns : tie.Need-returns
 unfolding first framingOf
 returns c = let b = c .before .before .before .before .args .bytes .now in
-    simp (ne-eqb (c .before .before .before .before .args .n) (11 + 2 * count b) (λ e. c .if1 .taken (omega (arith, c .before .wide .ensures .0))))
+    simp (ne-eqb (c .before .before .before .before .args .n) (11 + 2 * count b)
+    (λ e. c .if1 .taken (omega (arith, c .before .wide .ensures .0))))
 
 sum-requires : tie.Need-sum-requires
 sum-requires c κs = search needs
@@ -32,12 +33,20 @@ sum-requires c κs = search needs
 returns-2 : tie.Need-returns-2
 unfolding first framingOf
 returns-2 c = let b = c .before .before .before .before .before .before .args .bytes .now in
-    simp (eq-eqb (c .before .before .before .before .before .before .args .n) (11 + 2 * count b) (omega (arith, c .before .before .before .wide .ensures .0)), ne-eqb _ _ (λ e. c .if2 .taken (c .before .sum .ensures ∙ e)))
+    simp (
+      eq-eqb (c .before .before .before .before .before .before .args .n) (11 + 2 * count b)
+          (omega (arith, c .before .before .before .wide .ensures .0)),
+      ne-eqb _ _ (λ e. c .if2 .taken (c .before .sum .ensures ∙ e)),
+    )
 
 returns-3 : tie.Need-returns-3
 unfolding first framingOf
 returns-3 c = let b = c .before .before .before .before .before .before .args .bytes .now in
-    simp (eq-eqb (c .before .before .before .before .before .before .args .n) (11 + 2 * count b) (omega (arith, c .before .before .before .wide .ensures .0)), eq-eqb _ _ (sym (c .before .sum .ensures) ∙ c .if2 .left))
+    simp (
+      eq-eqb (c .before .before .before .before .before .before .args .n) (11 + 2 * count b)
+          (omega (arith, c .before .before .before .wide .ensures .0)),
+      eq-eqb _ _ (sym (c .before .sum .ensures) ∙ c .if2 .left),
+    )
 
 pub framing-spec : {M : Type 1} → statement M
 framing-spec =

@@ -44,15 +44,21 @@ module _ (address kind : ℕ) (s old : List ℕ) (few : length s ≤ 16) (room :
       let lv : length v ≡ 9 + 2 * length s = omega (arith, length-append w (spelt s)) in
       let lu : length u ≡ 9 + 2 * length s + 2 = omega (arith, length-append v (spelt (x ∷ []))) in
       let rb : b ≡ overlay w old =
-      eb ∙ ap (λ (l : List ℕ). copyOf l 1 (spelt head)) (overlay-next [] old 0 0x3A refl (omega arith)) ∙ copy-overlay (0x3A ∷ []) old (spelt head) 1 refl (omega arith) in
-      let rc : c ≡ overlay v old = ec ∙ ap (λ (l : List ℕ). copyOf l 9 (spelt s)) rb ∙ copy-overlay w old (spelt s) 9 lw (omega arith) in
+      eb ∙ ap (λ (l : List ℕ). copyOf l 1 (spelt head)) (overlay-next [] old 0 0x3A refl (omega arith))
+      ∙ copy-overlay (0x3A ∷ []) old (spelt head) 1 refl (omega arith) in
+      let rc : c ≡ overlay v old = ec ∙ ap (λ (l : List ℕ). copyOf l 9 (spelt s)) rb
+      ∙ copy-overlay w old (spelt s) 9 lw (omega arith) in
       let rd : d ≡ overlay u old =
-      ed ∙ ap (λ (l : List ℕ). copyOf l (9 + 2 * length s) (spelt (x ∷ []))) rc ∙ copy-overlay v old (spelt (x ∷ [])) (9 + 2 * length s) lv (omega arith) in
+      ed ∙ ap (λ (l : List ℕ). copyOf l (9 + 2 * length s) (spelt (x ∷ []))) rc
+      ∙ copy-overlay v old (spelt (x ∷ [])) (9 + 2 * length s) lv (omega arith) in
       let t : u ≡ 0x3A ∷ spelt (content address kind s ++ (x ∷ [])) =
-      sym (ap (λ (l : List ℕ). 0x3A ∷ l) (spelt-append (content address kind s) (x ∷ []) ∙ ap (λ (l : List ℕ). l ++ spelt (x ∷ [])) (spelt-append head s))) in
+      sym (ap (λ (l : List ℕ). 0x3A ∷ l)
+      (spelt-append (content address kind s) (x ∷ [])
+      ∙ ap (λ (l : List ℕ). l ++ spelt (x ∷ [])) (spelt-append head s))) in
       ap (λ (l : List ℕ). set l (9 + 2 * length s + 2) 0x0A) rd
       ∙ overlay-next u old (9 + 2 * length s + 2) 0x0A lu (omega arith)
-      ∙ ap (λ (l : List ℕ). overlay (l ++ (0x0A ∷ [])) old) (t ∙ ap (λ (y : ℕ). 0x3A ∷ spelt (content address kind s ++ (y ∷ []))) ex)
+      ∙ ap (λ (l : List ℕ). overlay (l ++ (0x0A ∷ [])) old)
+      (t ∙ ap (λ (y : ℕ). 0x3A ∷ spelt (content address kind s ++ (y ∷ []))) ex)
 
 cast-wrapping-add-u8 : tie.Need-cast-wrapping-add-u8
 cast-wrapping-add-u8 c = search needs

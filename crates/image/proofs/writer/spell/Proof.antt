@@ -21,7 +21,8 @@ module _ (buffer : List ℕ) (a i : ℕ) (s : List ℕ) where
       ≡ copyOf buffer (a + 2 * i) (spelt (drop i s))
   unfolding stored spelt
   spell-turn h l k eh el =
-      let e : a + 2 * (i + 1) ≡ a + 2 * i + 1 + 1 = omega arith in rw (e, add-one i, drop-cons s i 0 k, eh, el)
+      let e : a + 2 * (i + 1) ≡ a + 2 * i + 1 + 1 = omega arith in
+      rw (e, add-one i, drop-cons s i 0 k, eh, el)
 
   spell-ended : length s ≤ i → copyOf buffer (a + 2 * i) (spelt (drop i s)) ≡ buffer
   unfolding stored spelt
@@ -29,7 +30,8 @@ module _ (buffer : List ℕ) (a i : ℕ) (s : List ℕ) where
 
 abbrev Inv-loop : tie.InvT-loop
 Inv-loop buffer₀ at bytes i₀ buffer i =
-    (i ≤ length bytes) × (length buffer ≡ length buffer₀) × (copyOf buffer (at + 2 * i) (spelt (drop i bytes)) ≡ copyOf buffer₀ at (spelt bytes))
+    (i ≤ length bytes) × (length buffer ≡ length buffer₀) ×
+    (copyOf buffer (at + 2 * i) (spelt (drop i bytes)) ≡ copyOf buffer₀ at (spelt bytes))
 
 abbrev μ-loop : tie.MeasureT-loop
 μ-loop buffer₀ at bytes i₀ buffer i = length bytes - i
@@ -74,7 +76,8 @@ loop-again : tie.Need-loop-again Inv-loop μ-loop
 loop-again c = (
   omega arith,
   simp length-set (omega arith),
-  spell-turn _ _ _ _ _ _ (omega arith) (c .before .before .letter .ensures) (c .letter2 .ensures) ∙ c .before .before .before .before .before .loop .inv .2,
+  spell-turn _ _ _ _ _ _ (omega arith) (c .before .before .letter .ensures) (c .letter2 .ensures)
+      ∙ c .before .before .before .before .before .loop .inv .2,
 )
 
 same-length : tie.Need-same-length Inv-loop μ-loop

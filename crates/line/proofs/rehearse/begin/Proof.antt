@@ -2,8 +2,10 @@
 use mathlib.Core.Path.{sym, ap, _∙_}
 use native.Mathlib.Omega.{arith}
 use borrow.Author.Needs.{needs}
-use Rattle.line.proofs.Beginning.{begun-moment, begun-again, starting, start-refused, driven}
+use Rattle.line.proofs.Beginning.{begun-moment, begun-again, start-refused, driven}
+use Rattle.basis.specs.Board.{pages}
 use Rattle.line.specs.Line.{lossAt}
+use Rattle.session.specs.Laws.Steps.{starting}
 use Rattle.session.specs.Paper.{paperStepped}
 use Rattle.session.specs.declared.session.Next.{Next}
 use Rattle.line.proofs.rehearse.begin.Statement.{statement}
@@ -31,16 +33,16 @@ drive-requires c κs =
     let t = n .before .before .before .before in
     let s = entry t in
     let a = s .args in
-    let b = starting (a .image .now) (a .map .now) (a .kind) _ _
+    let b = starting pages (a .image .now) (a .map .now) _ (a .kind) _
     (ap paperStepped (sym (n .next .given .1)) ∙ t .start .ensures .0) in (
       record {
-        image-size = b .image-size;
-        map-size = b .map-size;
+        image-size = b .file .right;
+        map-size = b .file .long;
         flash-size = s .pre .0;
         packet-size = t .start .kept .1 .1 .1 .0 ∙ s .pre .1;
         answer-size = s .pre .2;
       },
-      b .some,
+      b .file .some,
       omega (arith, ap (λ (x : Next). x .len) (b .next-is)),
       begun-again b (a .loader) _ (c .before .before .before .reset .ensures) (a .flash .now) _ _
           (t .start .ensures .1),
@@ -75,7 +77,7 @@ returns-2 c =
     let t = n .before .before .before .before in
     let s = entry t in
     let a = s .args in
-    let b = starting (a .image .now) (a .map .now) (a .kind) _ _
+    let b = starting pages (a .image .now) (a .map .now) _ (a .kind) _
     (ap paperStepped (sym (n .next .given .1)) ∙ t .start .ensures .0) in
     driven (a .image .now) (a .map .now) (a .kind) (a .loader) (lossAt (a .losses .now)) (a .flash .now)
     (s .pre .0) (s .pre .1) b _ _ _

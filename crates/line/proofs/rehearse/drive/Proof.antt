@@ -6,9 +6,10 @@ use native.Mathlib.Omega.{arith}
 use borrow.Author.Needs.{needs}
 use borrow.Author.Tests.{not-true, not-false}
 use lib.ListN.{length}
+use Rattle.basis.specs.Board.{pages}
 use Rattle.line.proofs.Driving.{len-fits, exchanged, not-past, done, again}
 use Rattle.line.specs.Line.{Moment, Lent, lossAt, momentAt, momentIn}
-use Rattle.session.specs.Laws.Totals.{total-fits}
+use Rattle.session.specs.Laws.Totals.{total-most}
 use Rattle.session.specs.Phases.{ended}
 use Rattle.session.specs.Plan.{total}
 use Rattle.line.proofs.rehearse.drive.Statement.{statement}
@@ -17,11 +18,12 @@ use Rattle.packet.specs.Packet.{packetMost}
 
 abbrev Inv-loop : tie.InvT-loop
 Inv-loop losses image map flash₀ packet₀ answer₀ link₀ i₀ flash packet answer link i =
-    (Lent image map flash packet answer) × (link .len ≤ packetMost) × (i ≤ total map + 1)
-    × (momentIn link flash packet ≡ momentAt image map (lossAt losses) (momentIn link₀ flash₀ packet₀) i)
+    (Lent pages image map flash packet answer) × (link .len ≤ packetMost) × (i ≤ total pages map + 1)
+    × (momentIn link flash packet ≡ momentAt pages image map (lossAt losses)
+    (momentIn link₀ flash₀ packet₀) i)
 
 abbrev μ-loop : tie.MeasureT-loop
-μ-loop losses image map flash₀ packet₀ answer₀ link₀ i₀ flash packet answer link i = total map + 2 - i
+μ-loop losses image map flash₀ packet₀ answer₀ link₀ i₀ flash packet answer link i = total pages map + 2 - i
 
 -- the entry, as the loop looks back to it
 abbrev entry : tie.At-loop Inv-loop μ-loop → tie.Start Inv-loop μ-loop
@@ -32,13 +34,14 @@ open-yet : (c : tie.Then1 Inv-loop μ-loop) → ended (c .before .before .loop .
 open-yet c = not-true _ (sym (c .before .is-open .ensures) ∙ c .if1 .taken)
 
 early : (c : tie.Then1 Inv-loop μ-loop)
-    → let l = c .before .before in l .loop .i ≤ total (entry l .args .map .now)
+    → let l = c .before .before in l .loop .i ≤ total pages (entry l .args .map .now)
 early c =
     let l = c .before .before in
     let s = entry l in
     let a = s .args in
     let n = s .pre .0 in
-    not-past (a .image .now) (a .map .now) (a .flash .now) (n .image-size) (n .map-size) (s .pre .1)
+    not-past (a .image .now) (a .map .now) (a .flash .now)
+    (record { right = n .image-size; long = n .map-size; some = s .pre .1 })
     (λ k. omega (arith, l .before .before .before .before .before .shared-slice-known2 .given k))
     (a .first .session .kind) (a .first .loader) (n .flash-size) (lossAt (a .losses .now)) _ (s .pre .3)
     (l .loop .i) _ (l .loop .inv .3) (open-yet c)
@@ -63,7 +66,7 @@ exchange-requires c κs =
 add-i : tie.Need-add-i Inv-loop μ-loop
 add-i c =
     let t = c .before .before .before .before .before .before .before .before .before .before .before in
-    omega (arith, early t, total-fits (entry (t .before .before) .args .map .now))
+    omega (arith, early t, total-most pages (entry (t .before .before) .args .map .now))
 
 loop-less : tie.Need-loop-less Inv-loop μ-loop
 loop-less c =

@@ -43,13 +43,22 @@ same-length : tie.Need-same-length
 same-length c = search needs
 
 returns : tie.Need-returns
-returns c = log-put _ _ _ _ _ (sym (c .before .before .before .before .before .before .before .read .ensures) ∙ ap paperReading (c .before .before .before .before .before .x .given .1)) (c .before .before .record-line .ensures)
+returns c =
+    log-put _ _ _ _ _
+    (sym (c .before .before .before .before .before .before .before .read .ensures)
+    ∙ ap paperReading (c .before .before .before .before .before .x .given .1))
+    (c .before .before .record-line .ensures)
 
 same-length-2 : tie.Need-same-length-2
 same-length-2 c = search needs
 
 returns-2 : tie.Need-returns-2
-returns-2 c = log-put _ _ _ _ _ (sym (c .before .before .before .before .before .before .before .before .read .ensures) ∙ ap paperReading (c .before .before .before .before .before .before .why .given .1) ∙ ap refused (sym (c .before .before .before .number .ensures))) (c .before .before .refusal-line .ensures)
+returns-2 c =
+    log-put _ _ _ _ _
+    (sym (c .before .before .before .before .before .before .before .before .read .ensures)
+    ∙ ap paperReading (c .before .before .before .before .before .before .why .given .1)
+    ∙ ap refused (sym (c .before .before .before .number .ensures)))
+    (c .before .before .refusal-line .ensures)
 
 pub log-line-spec : {M : Type 1} → statement M
 log-line-spec =

@@ -73,7 +73,18 @@ last-field-requires c κs =
     let d3 = d4 .before .before .before .before .before .before in
     let d2 = d3 .before .before .before .before .before .before in
     let d1 = d2 .before .before .before .before .before .before in
-    omega (arith, d1 .field .ensures .1 .1, d2 .field2 .ensures .1 .1, d3 .field3 .ensures .1 .1, d4 .field4 .ensures .1 .1, d1 .field .kept .0, d2 .field2 .kept .0, d3 .field3 .kept .0, d4 .field4 .kept .0, d1 .before .before .before .before .before .pre)
+    omega (
+      arith,
+      d1 .field .ensures .1 .1,
+      d2 .field2 .ensures .1 .1,
+      d3 .field3 .ensures .1 .1,
+      d4 .field4 .ensures .1 .1,
+      d1 .field .kept .0,
+      d2 .field2 .kept .0,
+      d3 .field3 .kept .0,
+      d4 .field4 .kept .0,
+      d1 .before .before .before .before .before .pre,
+    )
 
 same-length : tie.Need-same-length
 same-length c =
@@ -81,7 +92,14 @@ same-length c =
     let d3 = d4 .before .before .before .before .before .before in
     let d2 = d3 .before .before .before .before .before .before in
     let d1 = d2 .before .before .before .before .before .before in
-    omega (arith, d1 .field .kept .0, d2 .field2 .kept .0, d3 .field3 .kept .0, d4 .field4 .kept .0, c .before .before .last-field .kept .0)
+    omega (
+      arith,
+      d1 .field .kept .0,
+      d2 .field2 .kept .0,
+      d3 .field3 .kept .0,
+      d4 .field4 .kept .0,
+      c .before .before .last-field .kept .0,
+    )
 
 returns : tie.Need-returns
 unfolding recordLine
@@ -91,8 +109,16 @@ returns c =
     let d3 = d4 .before .before .before .before .before .before in
     let d2 = d3 .before .before .before .before .before .before in
     let d1 = d2 .before .before .before .before .before .before in
-    five-fields _ _ _ _ _ _ _ _ _ _ _ _ _ _ _ _ _ _ _ _ _ (d1 .field .ensures) (d2 .field2 .ensures) (d3 .field3 .ensures) (d4 .field4 .ensures) (d5 .last-field .ensures)
-    (omega (arith, d1 .field .ensures .1 .1, d2 .field2 .ensures .1 .1, d3 .field3 .ensures .1 .1, d4 .field4 .ensures .1 .1, d1 .before .before .before .before .before .pre))
+    five-fields _ _ _ _ _ _ _ _ _ _ _ _ _ _ _ _ _ _ _ _ _ (d1 .field .ensures) (d2 .field2 .ensures)
+    (d3 .field3 .ensures) (d4 .field4 .ensures) (d5 .last-field .ensures)
+    (omega (
+      arith,
+      d1 .field .ensures .1 .1,
+      d2 .field2 .ensures .1 .1,
+      d3 .field3 .ensures .1 .1,
+      d4 .field4 .ensures .1 .1,
+      d1 .before .before .before .before .before .pre,
+    ))
 
 pub record-line-spec : {M : Type 1} → statement M
 record-line-spec =

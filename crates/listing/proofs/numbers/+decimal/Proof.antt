@@ -1,4 +1,5 @@
--- `decimal` meets its contract: the last digit goes behind those of a tenth of the number. The measure is the number.
+-- `decimal` meets its contract: the last digit goes behind those of
+-- a tenth of the number. The measure is the number.
 use Prim.Native.Nat.{ℕ, _+_, _/_, _%_, _≤_, _<_}
 use mathlib.Core.List.{List, [], _∷_}
 use mathlib.Core.Path.{_≡_, refl, sym, ap, _∙_}
@@ -36,7 +37,8 @@ module _ (b : List ℕ) (at n : ℕ) where
       (omega (arith, decimal-room n h, f .0), (copied, omega (arith, decimal-room n h, f .0)))
     where
       copied : set c e (48 + n % 10) ≡ copyOf b at (decimalOf n)
-      copied = rw (decimal-more n h) (copy-last b at (decimalOf (n / 10)) c e (digit (n % 10)) (f .0) (f .1 .0))
+      copied =
+          rw (decimal-more n h) (copy-last b at (decimalOf (n / 10)) c e (digit (n % 10)) (f .0) (f .1 .0))
 
 abbrev μ-decimal : Measures 1 decimal-kinds.ps ℕ
 μ-decimal κs a = a .1 .1 .0
@@ -81,7 +83,14 @@ decimal-decimal-requires : (t : ℕ) → decimal-lts.Need-decimal-requires (
   decimal-below t,
   decimal.Post,
 ) (decimal-at t) decimal.Post
-decimal-decimal-requires t c κs = (omega arith, omega (arith, decimal-room (c .before .before .before .args .n) (c .before .if1 .left), c .before .before .before .pre .1))
+decimal-decimal-requires t c κs = (
+  omega arith,
+  omega (
+    arith,
+    decimal-room (c .before .before .before .args .n) (c .before .if1 .left),
+    c .before .before .before .pre .1,
+  ),
+)
 
 decimal-cast-buffer-2 :
     (t : ℕ) →
@@ -99,14 +108,26 @@ decimal-slice-write-buffer-2 : (t : ℕ) → decimal-lts.Need-slice-write-buffer
 ) (decimal-at t) decimal.Post
 decimal-slice-write-buffer-2 t c =
     let s = c .before .before .before .before .before .before in
-    omega (arith, decimal-room (s .args .n) (c .before .before .before .before .if1 .left), s .pre .1, c .before .before .decimal .ensures .0, c .before .before .decimal .kept .0)
+    omega (
+      arith,
+      decimal-room (s .args .n) (c .before .before .before .before .if1 .left),
+      s .pre .1,
+      c .before .before .decimal .ensures .0,
+      c .before .before .decimal .kept .0,
+    )
 
 decimal-add-result-2 :
     (t : ℕ) →
     decimal-lts.Need-add-result-2 (decimal-below t, decimal.Post) (decimal-at t) decimal.Post
 decimal-add-result-2 t c =
     let s = c .before .before .before .before .before .before in
-    omega (arith, decimal-room (s .args .n) (c .before .before .before .before .if1 .left), s .pre .1, c .before .before .decimal .ensures .0, c .before .before .decimal .kept .0)
+    omega (
+      arith,
+      decimal-room (s .args .n) (c .before .before .before .before .if1 .left),
+      s .pre .1,
+      c .before .before .decimal .ensures .0,
+      c .before .before .decimal .kept .0,
+    )
 
 decimal-same-length-2 :
     (t : ℕ) →
@@ -118,7 +139,8 @@ decimal-returns-2 :
     decimal-lts.Need-returns-2 (decimal-below t, decimal.Post) (decimal-at t) decimal.Post
 decimal-returns-2 t c =
     let s = c .before .before .before .before .before .before in
-    decimal-next _ _ _ _ _ _ (c .before .before .before .before .if1 .left) (decimal-most (s .args .n) (s .fits .n .fits)) (c .before .before .decimal .ensures)
+    decimal-next _ _ _ _ _ _ (c .before .before .before .before .if1 .left)
+    (decimal-most (s .args .n) (s .fits .n .fits)) (c .before .before .decimal .ensures)
 
 pub +decimal-spec : {M : Type 1} → statement M
 +decimal-spec =

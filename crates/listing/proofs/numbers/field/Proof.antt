@@ -16,8 +16,10 @@ use Rattle.listing.proofs.numbers.field.Tie as tie
 field-put : (b : List ℕ) (at n : ℕ) (w c d : List ℕ) (e : ℕ) → c ≡ copyOf b at w
     → Field c (at + length w) (decimalOf n) d e (at + length w + 20)
     → Field b at (w ++ decimalOf n) d e (at + length w + 20)
-field-put b at n w c d e ec f =
-    (omega (arith, length-append w (decimalOf n), f .0), (f .1 .0 ∙ copy-then b at w (decimalOf n) c (at + length w) refl ec, f .1 .1))
+field-put b at n w c d e ec f = (
+  omega (arith, length-append w (decimalOf n), f .0),
+  (f .1 .0 ∙ copy-then b at w (decimalOf n) c (at + length w) refl ec, f .1 .1),
+)
 
 copy-requires : tie.Need-copy-requires
 copy-requires c κs = search needs
@@ -34,7 +36,9 @@ same-length : tie.Need-same-length
 same-length c = search needs
 
 returns : tie.Need-returns
-returns c = field-put _ _ _ _ _ _ _ (c .before .before .before .before .before .before .copy .ensures) (c .before .before .decimal .ensures)
+returns c =
+    field-put _ _ _ _ _ _ _ (c .before .before .before .before .before .before .copy .ensures)
+    (c .before .before .decimal .ensures)
 
 pub field-spec : {M : Type 1} → statement M
 field-spec = tie.close (tie.spec copy-requires add-decimal decimal-requires same-length returns)

@@ -13,8 +13,10 @@ use Rattle.listing.proofs.numbers.last_field.Tie as tie
 last-put : (b : List ℕ) (at n : ℕ) (w c : List ℕ) (e : ℕ)
     → Field b at (w ++ decimalOf n) c e (at + length w + 20)
     → Field b at ((w ++ decimalOf n) ++ lineEnd) (set c e 0x0A) (e + 1) (at + length w + 21)
-last-put b at n w c e f =
-    (omega (arith, length-append (w ++ decimalOf n) lineEnd, f .0), (copy-last b at (w ++ decimalOf n) c e 0x0A (f .0) (f .1 .0), omega (arith, f .1 .1)))
+last-put b at n w c e f = (
+  omega (arith, length-append (w ++ decimalOf n) lineEnd, f .0),
+  (copy-last b at (w ++ decimalOf n) c e 0x0A (f .0) (f .1 .0), omega (arith, f .1 .1)),
+)
 
 field-requires : tie.Need-field-requires
 field-requires c κs = search needs

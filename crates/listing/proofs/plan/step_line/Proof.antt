@@ -30,18 +30,26 @@ module _ (b p : List ℕ) (at n : ℕ) where
   -- the number, a space, the letter, a space, the packet and 0A, one behind the other
   step-put : (c d : List ℕ) (e k : ℕ) → Field b at (decimalOf n) c e (at + 20) → k ≡ getD p 3 0
       → d ≡ copyOf (set (set (set c e 0x20) (e + 1) k) (e + 2) 0x20) (e + 3) (spelt p)
-      → (e + 3 + 2 * length p + 1 ≡ at + length (stepLine n p)) × (set d (e + 3 + 2 * length p) 0x0A ≡ copyOf b at (stepLine n p)) × (length (stepLine n p) ≤ 2 * length p + 24)
+      → (e + 3 + 2 * length p + 1 ≡ at + length (stepLine n p))
+      × (set d (e + 3 + 2 * length p) 0x0A ≡ copyOf b at (stepLine n p))
+      × (length (stepLine n p) ≤ 2 * length p + 24)
   unfolding stepLine
   step-put c d e k f ek ed =
       let l = step-length in
       let t : List ℕ = spelt p ++ lineEnd in
       let x : List ℕ = set (set (set c e 0x20) (e + 1) k) (e + 2) 0x20 in
-      let q : e + 3 + 2 * length p ≡ e + 3 + length (spelt p) = omega (arith, length-spelt p) in
-      (omega (arith, f .0), copy-last x (e + 3) (spelt p) d (e + 3 + 2 * length p) 0x0A q ed ∙ sym (copy-three c e 0x20 k 0x20 t) ∙ ap (λ (y : ℕ). copyOf c e (0x20 ∷ y ∷ 0x20 ∷ t)) ek ∙ copy-then b at (decimalOf n) (0x20 ∷ getD p 3 0 ∷ 0x20 ∷ t) c e (f .0) (f .1 .0), omega (arith, f .0, f .1 .1))
+      let q : e + 3 + 2 * length p ≡ e + 3 + length (spelt p) = omega (arith, length-spelt p) in (
+        omega (arith, f .0),
+        copy-last x (e + 3) (spelt p) d (e + 3 + 2 * length p) 0x0A q ed
+            ∙ sym (copy-three c e 0x20 k 0x20 t) ∙ ap (λ (y : ℕ). copyOf c e (0x20 ∷ y ∷ 0x20 ∷ t)) ek
+            ∙ copy-then b at (decimalOf n) (0x20 ∷ getD p 3 0 ∷ 0x20 ∷ t) c e (f .0) (f .1 .0),
+        omega (arith, f .0, f .1 .1),
+      )
 
 decimal-requires : tie.Need-decimal-requires
 decimal-requires c κs =
-    let s = c .before .before .before in omega (arith, decimal-most (s .args .step) (s .fits .step .fits), s .pre)
+    let s = c .before .before .before in
+    omega (arith, decimal-most (s .args .step) (s .fits .step .fits), s .pre)
 
 slice-write-buffer : tie.Need-slice-write-buffer
 slice-write-buffer c = search needs
@@ -54,21 +62,42 @@ add-buffer c = search needs
 
 slice-write-buffer-2 : tie.Need-slice-write-buffer-2
 slice-write-buffer-2 c =
-    let d = c .before .before .before .decimal in simp length-set (omega (arith, d .ensures .1 .1, d .kept .0, c .before .before .before .before .before .before .before .pre))
+    let d = c .before .before .before .decimal in
+    simp length-set
+    (omega (
+      arith,
+      d .ensures .1 .1,
+      d .kept .0,
+      c .before .before .before .before .before .before .before .pre,
+    ))
 
 add-buffer-2 : tie.Need-add-buffer-2
 add-buffer-2 c = search needs
 
 slice-write-buffer-3 : tie.Need-slice-write-buffer-3
 slice-write-buffer-3 c =
-    let d = c .before .before .before .decimal in simp length-set (omega (arith, d .ensures .1 .1, d .kept .0, c .before .before .before .before .before .before .before .pre))
+    let d = c .before .before .before .decimal in
+    simp length-set
+    (omega (
+      arith,
+      d .ensures .1 .1,
+      d .kept .0,
+      c .before .before .before .before .before .before .before .pre,
+    ))
 
 add-spell : tie.Need-add-spell
 add-spell c = search needs
 
 spell-requires : tie.Need-spell-requires
 spell-requires c κs =
-    let d = c .before .before .before .before .decimal in simp length-set (omega (arith, d .ensures .1 .1, d .kept .0, c .before .before .before .before .before .before .before .before .pre))
+    let d = c .before .before .before .before .decimal in
+    simp length-set
+    (omega (
+      arith,
+      d .ensures .1 .1,
+      d .kept .0,
+      c .before .before .before .before .before .before .before .before .pre,
+    ))
 
 add-last : tie.Need-add-last
 add-last c = search needs
@@ -81,17 +110,31 @@ add-last-2 c = search needs
 
 slice-write-buffer-4 : tie.Need-slice-write-buffer-4
 slice-write-buffer-4 c =
-    let d = c .before .before .before .before .before .before .before .decimal in omega (arith, d .ensures .1 .1, d .kept .0, simp length-set at (c .before .before .spell .kept .0), c .before .before .before .before .before .before .before .before .before .before .before .pre)
+    let d = c .before .before .before .before .before .before .before .decimal in
+    omega (
+      arith,
+      d .ensures .1 .1,
+      d .kept .0,
+      simp length-set at (c .before .before .spell .kept .0),
+      c .before .before .before .before .before .before .before .before .before .before .before .pre,
+    )
 
 add-result : tie.Need-add-result
 add-result c = search needs
 
 same-length : tie.Need-same-length
-same-length c = simp length-set (omega (arith, c .before .before .before .before .before .before .before .decimal .kept .0, simp length-set at (c .before .before .spell .kept .0)))
+same-length c =
+    simp length-set
+    (omega (
+      arith,
+      c .before .before .before .before .before .before .before .decimal .kept .0,
+      simp length-set at (c .before .before .spell .kept .0),
+    ))
 
 returns : tie.Need-returns
 returns c =
-    step-put _ _ _ _ _ _ _ _ (c .before .before .before .before .before .before .before .decimal .ensures) (c .before .before .before .before .command-letter .ensures) (c .before .before .spell .ensures)
+    step-put _ _ _ _ _ _ _ _ (c .before .before .before .before .before .before .before .decimal .ensures)
+    (c .before .before .before .before .command-letter .ensures) (c .before .before .spell .ensures)
 
 pub step-line-spec : {M : Type 1} → statement M
 step-line-spec =

@@ -21,7 +21,9 @@ refused-put x old b c d e q r s f g p h =
     let at : ℕ → Blame = λ k. record { line = x .line; number = k } in
     let t : List ℕ = field (0x20 ∷ []) q ++ lineEnd in
     let o =
-    put-over old (field refusedWord (x .line) ++ t) c e (put-next old (field refusedWord (x .line)) t b c d e s (put-first old (field refusedWord (x .line)) b d r f) g) (omega (arith, g .1 .1)) in
+    put-over old (field refusedWord (x .line) ++ t) c e
+    (put-next old (field refusedWord (x .line)) t b c d e s
+    (put-first old (field refusedWord (x .line)) b d r f) g) (omega (arith, g .1 .1)) in
     (o .0 ∙ ap (λ k. length (refusalAt (at k))) p, o .1 ∙ ap (λ k. overlay (refusalAt (at k)) old) p)
 
 slice-aggregate-field : tie.Need-slice-aggregate-field
@@ -48,7 +50,13 @@ same-length c = search needs
 returns : tie.Need-returns
 returns c =
     let f = c .before .before .before .before .before .before .before .before .field .ensures in
-    refused-put _ _ _ _ _ _ _ _ _ f (c .before .before .last-field .ensures) (c .before .before .before .number .ensures) (omega (arith, f .1 .1, c .before .before .before .before .before .before .before .before .before .before .before .before .pre))
+    refused-put _ _ _ _ _ _ _ _ _ f (c .before .before .last-field .ensures)
+    (c .before .before .before .number .ensures)
+    (omega (
+      arith,
+      f .1 .1,
+      c .before .before .before .before .before .before .before .before .before .before .before .before .pre,
+    ))
 
 pub refusal-at-spec : {M : Type 1} → statement M
 refusal-at-spec =

@@ -13,7 +13,8 @@ use Rattle.listing.proofs.Texts.{Shown, fed-shown}
 use Rattle.listing.proofs.text.read.Statement.{statement}
 use Rattle.listing.proofs.text.read.Tie as tie
 
-module _ (size : ℕ) (text line image map : List ℕ) (room : lineRoom ≤ length line) (few : length text + 1 < 2 ^ 64) where
+module _ (size : ℕ) (text line image map : List ℕ) (room : lineRoom ≤ length line)
+    (few : length text + 1 < 2 ^ 64) where
   read-by : (p q r : Progress) (i1 m1 l2 i2 m2 i3 m3 : List ℕ)
       → Shown 0 p i1 m1 (settled (startIn size image map) image map)
       → state q l2 i2 m2 ≡ feedOf size (state p line i1 m1) text
@@ -50,7 +51,15 @@ same-length-2 : tie.Need-same-length-2
 same-length-2 c = search needs
 
 returns : tie.Need-returns
-returns c = read-by _ _ _ _ _ (omega arith) (omega (arith, c .before .before .before .before .before .before .before .before .before .before .before .before .before .before .before .before .before .before .before .before .before .before .before .before .before .before .before .before .good .0 .1)) _ _ _ _ _ _ _ _ _ _ (c .before .before .before .before .before .before .before .before .before .before .before .before .before .before .before .before .before .before .before .before .before .before .start .ensures) (c .before .before .before .before .before .before .before .before .before .before .before .before .before .before .feed .ensures) (c .before .before .before .before .before .close .ensures) _ (c .ended .ensures)
+returns c =
+    read-by _ _ _ _ _ (omega arith)
+    (omega (
+      arith,
+      c .before .before .before .before .before .before .before .before .before .before .before .before .before .before .before .before .before .before .before .before .before .before .before .before .before .before .before .before .good .0 .1,
+    )) _ _ _ _ _ _ _ _ _ _
+    (c .before .before .before .before .before .before .before .before .before .before .before .before .before .before .before .before .before .before .before .before .before .before .start .ensures)
+    (c .before .before .before .before .before .before .before .before .before .before .before .before .before .before .feed .ensures)
+    (c .before .before .before .before .before .close .ensures) _ (c .ended .ensures)
 
 pub read-spec : {M : Type 1} → statement M
 read-spec =

@@ -26,7 +26,9 @@ no-mass : (c : tie.Else2) → massErase (entry c .args .address .0) (entry c .ar
 no-mass c = sym (c .before .is-mass .ensures) ∙ c .if2 .left
 
 returns : tie.Need-returns
-returns c = let a = c .before .before .args in leaves-all _ _ (erasing-open pages (a .loader) (a .address .0) (a .count) (a .flash .now) (c .if1 .taken))
+returns c =
+    let a = c .before .before .args in
+    leaves-all _ _ (erasing-open pages (a .loader) (a .address .0) (a .count) (a .flash .now) (c .if1 .taken))
 
 is-mass-requires : tie.Need-is-mass-requires
 is-mass-requires c κs = search needs
@@ -41,8 +43,10 @@ returns-2 : tie.Need-returns-2
 returns-2 c = let a = c .before .before .before .before .before .before .before .before .args in
     let m = c .before .before .mass-erase .ensures in
     does _ _
-    (erasing-mass pages (a .loader) (a .address .0) (a .count) (a .flash .now) (c .before .before .before .before .before .before .if1 .left)
-    (sym (c .before .before .before .before .before .is-mass .ensures) ∙ c .before .before .before .before .if2 .taken))
+    (erasing-mass pages (a .loader) (a .address .0) (a .count) (a .flash .now)
+    (c .before .before .before .before .before .before .if1 .left)
+    (sym (c .before .before .before .before .before .is-mass .ensures)
+    ∙ c .before .before .before .before .if2 .taken))
     (m .0) (m .1) (m .2)
 
 judge-requires : tie.Need-judge-requires
@@ -67,16 +71,27 @@ mul-erase : tie.Need-mul-erase
 mul-erase c = search needs
 
 erase-requires : tie.Need-erase-requires
-erase-requires c κs = let a = c .before .before .before .before .before .before .before .before .before .before .args in
-    let e = erase-let pages (a .loader) (a .address .0) (a .count) (given tt) (sym (c .before .before .before .before .before .judge .ensures) ∙ ap paperVerdict (c .before .before .before .enum-told .given .1)) in
-    omega (arith, e .1, e .2, c .before .before .before .before .before .before .before .before .before .before .pre, c .start .ensures, c .before .page .ensures)
+erase-requires c κs =
+    let a = c .before .before .before .before .before .before .before .before .before .before .args in
+    let e = erase-let pages (a .loader) (a .address .0) (a .count) (given tt)
+    (sym (c .before .before .before .before .before .judge .ensures)
+    ∙ ap paperVerdict (c .before .before .before .enum-told .given .1)) in
+    omega (
+      arith,
+      e .1,
+      e .2,
+      c .before .before .before .before .before .before .before .before .before .before .pre,
+      c .start .ensures,
+      c .before .page .ensures,
+    )
 
 returns-3 : tie.Need-returns-3
 returns-3 c = let e = c .before .before .before .before in
     let a = entry e .args in
     leaves-all _ _
     (erasing-pages pages (a .loader) (a .address .0) (a .count) (a .flash .now) (closed e) (no-mass e)
-    ∙ alike _ _ _ (sym (c .before .before .before .judge .ensures) ∙ ap paperVerdict (c .before .why .given .1)))
+    ∙ alike _ _ _
+    (sym (c .before .before .before .judge .ensures) ∙ ap paperVerdict (c .before .why .given .1)))
 
 same-length-2 : tie.Need-same-length-2
 same-length-2 c = search needs
@@ -84,12 +99,16 @@ same-length-2 c = search needs
 returns-4 : tie.Need-returns-4
 returns-4 c = let e = c .before .before .before .before .before .before .before .before .before in
     let a = entry e .args in
-    let place = c .before .before .before .start .ensures ∙ ap startOf (c .before .before .before .before .page .ensures) in
+    let place = c .before .before .before .start .ensures
+    ∙ ap startOf (c .before .before .before .before .page .ensures) in
     does _ _
     (erasing-pages pages (a .loader) (a .address .0) (a .count) (a .flash .now) (closed e) (no-mass e)
-    ∙ through _ _ _ (sym (c .before .before .before .before .before .before .before .before .judge .ensures) ∙ ap paperVerdict (c .before .before .before .before .before .before .enum-told .given .1)))
+    ∙ through _ _ _
+    (sym (c .before .before .before .before .before .before .before .before .judge .ensures)
+    ∙ ap paperVerdict (c .before .before .before .before .before .before .enum-told .given .1)))
     refl refl
-    (c .before .before .erase .ensures ∙ ap (λ (s : ℕ). eraseOf (a .flash .now) s (a .count * pageSize)) place)
+    (c .before .before .erase .ensures
+    ∙ ap (λ (s : ℕ). eraseOf (a .flash .now) s (a .count * pageSize)) place)
 
 pub erase-spec : {M : Type 1} → statement M
 erase-spec =

@@ -1,4 +1,5 @@
--- `judge` meets its contract: each test is a row of the table, and the groups asked for are those of the pages.
+-- `judge` meets its contract: each test is a row of the table,
+-- and the groups asked for are those of the pages.
 use Prim.Native.Nat.{ℕ, _+_, _-_, _≤_, _<_}
 use mathlib.Core.Path.{_≡_, ap, ap₂, sym, _∙_}
 use native.Mathlib.Omega.{arith}
@@ -20,7 +21,10 @@ group-to : (j : ℕ) → pageGroupOf (j + 3) ≡ groupOf (startOf j + (groupSize
 group-to j = omega arith
 
 -- so the groups asked for are those of the pages
-spanned : (c : tie.After-any) → let a = c .before .before .before .before .before .before .before .before .before .args in c .any .result ≡ protectedPages (a .loader .protection) (pageOf (a .address .0)) (pageOf (a .address .0) + a .count)
+spanned : (c : tie.After-any)
+    → let a = c .before .before .before .before .before .before .before .before .before .args in
+    c .any .result
+    ≡ protectedPages (a .loader .protection) (pageOf (a .address .0)) (pageOf (a .address .0) + a .count)
 spanned c =
     let a = c .before .before .before .before .before .before .before .before .before .args in
     let p = c .before .before .before .before .before .before .before .before .page .ensures in
@@ -30,8 +34,14 @@ spanned c =
     (c .before .group2 .ensures ∙ ap (λ (x : ℕ). pageGroupOf (x + a .count + 3)) p ∙ group-to _)
 
 -- past the tests of 7 there are pages, and they begin and end in flash
-inside : (c : tie.Else3) → let a = c .before .before .before .before .before .args in (a .count ≡ 0 → ⊥) × (a .address .0 < flashSize) × (pageOf (a .address .0) + a .count ≤ pages)
-inside c = (c .before .before .before .if1 .left, c .before .if2 .left, omega (arith, c .before .before .before .before .page .ensures, c .if3 .left))
+inside : (c : tie.Else3)
+    → let a = c .before .before .before .before .before .args in (a .count ≡ 0 → ⊥)
+    × (a .address .0 < flashSize) × (pageOf (a .address .0) + a .count ≤ pages)
+inside c = (
+  c .before .before .before .if1 .left,
+  c .before .if2 .left,
+  omega (arith, c .before .before .before .before .page .ensures, c .if3 .left),
+)
 
 page-requires : tie.Need-page-requires
 page-requires c κs = search needs
@@ -40,13 +50,20 @@ add-end : tie.Need-add-end
 add-end c = search needs
 
 returns : tie.Need-returns
-returns c = let a = c .before .before .args in sym (erase-none pages (a .loader) (a .address .0) (a .count) (given tt) (c .if1 .taken))
+returns c =
+    let a = c .before .before .args in
+    sym (erase-none pages (a .loader) (a .address .0) (a .count) (given tt) (c .if1 .taken))
 
 returns-2 : tie.Need-returns-2
-returns-2 c = let a = c .before .before .before .before .args in sym (erase-past pages (a .loader) (a .address .0) (a .count) (given tt) (c .if2 .taken))
+returns-2 c =
+    let a = c .before .before .before .before .args in
+    sym (erase-past pages (a .loader) (a .address .0) (a .count) (given tt) (c .if2 .taken))
 
 returns-3 : tie.Need-returns-3
-returns-3 c = let a = c .before .before .before .before .before .args in sym (erase-over pages (a .loader) (a .address .0) (a .count) (given tt) (omega (arith, c .before .before .before .before .page .ensures, c .if3 .taken)))
+returns-3 c =
+    let a = c .before .before .before .before .before .args in
+    sym (erase-over pages (a .loader) (a .address .0) (a .count) (given tt)
+    (omega (arith, c .before .before .before .before .page .ensures, c .if3 .taken)))
 
 group-requires : tie.Need-group-requires
 group-requires c κs = search needs
@@ -61,14 +78,18 @@ any-requires : tie.Need-any-requires
 any-requires c κs = search needs
 
 returns-4 : tie.Need-returns-4
-returns-4 c = let a = c .before .before .before .before .before .before .before .before .before .before .args in
+returns-4 c =
+    let a = c .before .before .before .before .before .before .before .before .before .before .args in
     let i = inside (c .before .before .before .before .before) in
-    sym (erase-protected pages (a .loader) (a .address .0) (a .count) (given tt) (i .0) (i .1) (i .2) (sym (spanned (c .before)) ∙ c .if4 .taken))
+    sym (erase-protected pages (a .loader) (a .address .0) (a .count) (given tt) (i .0) (i .1) (i .2)
+    (sym (spanned (c .before)) ∙ c .if4 .taken))
 
 returns-5 : tie.Need-returns-5
-returns-5 c = let a = c .before .before .before .before .before .before .before .before .before .before .args in
+returns-5 c =
+    let a = c .before .before .before .before .before .before .before .before .before .before .args in
     let i = inside (c .before .before .before .before .before) in
-    sym (erase-passes pages (a .loader) (a .address .0) (a .count) (given tt) (i .0) (i .1) (i .2) (sym (spanned (c .before)) ∙ c .if4 .left))
+    sym (erase-passes pages (a .loader) (a .address .0) (a .count) (given tt) (i .0) (i .1) (i .2)
+    (sym (spanned (c .before)) ∙ c .if4 .left))
 
 pub judge-spec : {M : Type 1} → statement M
 judge-spec =

@@ -18,7 +18,8 @@ add-if2 c = search needs
 
 returns-2 : tie.Need-returns-2
 unfolding adding
-returns-2 c = stays _ (skip _ _ _ _ (c .before .before .if1 .left) ∙ stop _ _ _ _ (le-leb _ _ (c .if2 .taken)))
+returns-2 c =
+    stays _ (skip _ _ _ _ (c .before .before .if1 .left) ∙ stop _ _ _ _ (le-leb _ _ (c .if2 .taken)))
 
 added-requires : tie.Need-added-requires
 added-requires c κs = search needs
@@ -28,7 +29,12 @@ with-added-requires c κs = search needs
 
 returns-3 : tie.Need-returns-3
 unfolding adding
-returns-3 c = changes _ (skip _ _ _ _ (c .before .before .before .before .before .before .if1 .left) ∙ skip _ _ _ _ (lt-leb _ _ (c .before .before .before .before .if2 .left)) ∙ done _) (c .with-added .ensures ∙ ap (withAdded (c .before .before .before .before .before .before .before .before .args .loader)) (c .before .added .ensures))
+returns-3 c =
+    changes _ (skip _ _ _ _ (c .before .before .before .before .before .before .if1 .left)
+    ∙ skip _ _ _ _ (lt-leb _ _ (c .before .before .before .before .if2 .left)) ∙ done _)
+    (c .with-added .ensures
+    ∙ ap (withAdded (c .before .before .before .before .before .before .before .before .args .loader))
+    (c .before .added .ensures))
 
 pub add-spec : {M : Type 1} → statement M
 add-spec =

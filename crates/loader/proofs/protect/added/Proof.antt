@@ -16,7 +16,10 @@ with-read-requires : tie.Need-with-read-requires
 with-read-requires c κs = search needs
 
 returns : tie.Need-returns
-returns c = simp (lt-ltb _ _ (c .before .before .if1 .taken)) (c .with-group .ensures ∙ ap (withGroup (c .before .before .before .before .args .protection)) (c .before .group .ensures))
+returns c =
+    simp (lt-ltb _ _ (c .before .before .if1 .taken))
+    (c .with-group .ensures
+    ∙ ap (withGroup (c .before .before .before .before .args .protection)) (c .before .group .ensures))
 
 returns-2 : tie.Need-returns-2
 returns-2 c = simp (le-ltb _ _ (c .before .if1 .left)) (c .with-read .ensures)

@@ -20,7 +20,10 @@ with-added-requires c κs = search needs
 
 returns-2 : tie.Need-returns-2
 unfolding opening
-returns-2 c = changes _ (skip _ _ _ _ (c .before .before .if1 .left) ∙ done _) (c .with-added .ensures ∙ ap (withAdded (c .before .before .before .args .loader)) (c .before .none .ensures))
+returns-2 c =
+    changes _ (skip _ _ _ _ (c .before .before .if1 .left) ∙ done _)
+    (c .with-added .ensures
+    ∙ ap (withAdded (c .before .before .before .args .loader)) (c .before .none .ensures))
 
 pub open-spec : {M : Type 1} → statement M
 open-spec = tie.close (tie.spec returns none-requires with-added-requires returns-2)

@@ -24,7 +24,9 @@ returns-2 c = simp (c .before .match .keys2) (c .add .ensures)
 
 returns-3 : tie.Need-returns-3
 unfolding protecting
-returns-3 c = simp (ne-eqb _ _ (c .before .match .rest .0 .1), ne-eqb _ _ (c .before .match .rest .1)) (c .close .ensures)
+returns-3 c =
+    simp (ne-eqb _ _ (c .before .match .rest .0 .1), ne-eqb _ _ (c .before .match .rest .1))
+    (c .close .ensures)
 
 pub protect-spec : {M : Type 1} → statement M
 protect-spec =

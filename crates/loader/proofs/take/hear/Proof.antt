@@ -16,7 +16,10 @@ opens-board-requires : tie.Need-opens-board-requires
 opens-board-requires c κs = search needs
 
 returns : tie.Need-returns
-returns c = leaves-all _ _ (waiting-unheard pages _ _ _ (c .before .before .enum-told .given .1) (sym (c .before .opens-board .ensures) ∙ not-true _ (c .if1 .taken)))
+returns c =
+    leaves-all _ _
+    (waiting-unheard pages _ _ _ (c .before .before .enum-told .given .1)
+    (sym (c .before .opens-board .ensures) ∙ not-true _ (c .if1 .taken)))
 
 with-condition-requires : tie.Need-with-condition-requires
 with-condition-requires c κs = search needs
@@ -31,13 +34,20 @@ enum-told-3 : tie.Need-enum-told-3
 enum-told-3 c = search needs
 
 returns-2 : tie.Need-returns-2
-returns-2 c = does _ _ (heard-waiting pages _ _ _ (c .before .before .before .enum-told .given .1) (sym (c .before .before .opens-board .ensures) ∙ not-false _ (c .before .if1 .left))) refl (c .with-condition .ensures) refl
+returns-2 c =
+    does _ _ (heard-waiting pages _ _ _ (c .before .before .before .enum-told .given .1)
+    (sym (c .before .before .opens-board .ensures) ∙ not-false _ (c .before .if1 .left))) refl
+    (c .with-condition .ensures) refl
 
 same-length : tie.Need-same-length
 same-length c = search needs
 
 returns-3 : tie.Need-returns-3
-returns-3 c = rw (heard-serving pages (c .before .before .before .before .before .before .before .before .args .loader) (c .before .before .before .before .before .before .before .before .args .input .now) (c .before .before .before .before .before .before .before .before .args .flash .now) (c .before .before .before .before .enum-told2 .given .1)) (c .before .before .serve .ensures)
+returns-3 c =
+    rw (heard-serving pages (c .before .before .before .before .before .before .before .before .args .loader)
+    (c .before .before .before .before .before .before .before .before .args .input .now)
+    (c .before .before .before .before .before .before .before .before .args .flash .now)
+    (c .before .before .before .before .enum-told2 .given .1)) (c .before .before .serve .ensures)
 
 returns-4 : tie.Need-returns-4
 returns-4 c = leaves-all _ _ (left-unheard pages _ _ _ (c .enum-told3 .given .1))

@@ -17,10 +17,23 @@ use Rattle.loader.proofs.take.serve.Statement.{statement}
 use Rattle.loader.proofs.take.serve.Tie as tie
 
 -- what was read
-told : (c : tie.After-struct-known) → let p = c .before .before .packet .given .0 .0 in readOf (now (c .before .before .before .before .before .before .before .args .input)) ≡ given (record { command = paperCommand (p .command); address = p .address .0; place = p .at; size = p .len })
-told c = sym (c .before .before .before .before .read .ensures) ∙ ap paperReading (c .before .before .packet .given .1)
+told : (c : tie.After-struct-known)
+    → let p = c .before .before .packet .given .0 .0 in readOf
+    (now (c .before .before .before .before .before .before .before .args .input))
+    ≡ given (record {
+      command = paperCommand (p .command);
+      address = p .address .0;
+      place = p .at;
+      size =
+          p .len;
+    })
+told c =
+    sym (c .before .before .before .before .read .ensures)
+    ∙ ap paperReading (c .before .before .packet .given .1)
 
-within : (c : tie.After-struct-known) → let p = c .before .before .packet .given .0 .0 in p .at + p .len ≤ length (now (c .before .before .before .before .before .before .before .args .input))
+within : (c : tie.After-struct-known)
+    → let p = c .before .before .packet .given .0 .0 in p .at + p .len ≤ length
+    (now (c .before .before .before .before .before .before .before .args .input))
 within c = data-within _ _ (told c)
 
 read-requires : tie.Need-read-requires
@@ -33,7 +46,8 @@ enum-known-packet : tie.Need-enum-known-packet
 enum-known-packet c = search needs
 
 add-end : tie.Need-add-end
-add-end c = let h = within c in omega (arith, h, c .before .before .before .before .before .before .before .good)
+add-end c =
+    let h = within c in omega (arith, h, c .before .before .before .before .before .before .before .good)
 
 sub-obey : tie.Need-sub-obey
 sub-obey c = search needs
@@ -48,17 +62,23 @@ obey-requires : tie.Need-obey-requires
 obey-requires c κs = search needs
 
 returns : tie.Need-returns
-returns c = leaves-all _ _ (served-unread _ _ _ _ (sym (c .before .before .before .read .ensures) ∙ ap paperReading (c .before .why .given .1)))
+returns c =
+    leaves-all _ _
+    (served-unread _ _ _ _
+    (sym (c .before .before .before .read .ensures) ∙ ap paperReading (c .before .why .given .1)))
 
 same-length : tie.Need-same-length
 same-length c = search needs
 
 returns-2 : tie.Need-returns-2
-returns-2 c = let a = c .before .before .before .before .before .before .before .before .before .before .before .before .before .args in
+returns-2 c =
+    let a = c .before .before .before .before .before .before .before .before .before .before .before .before .before .args in
     let k = c .before .before .before .before .before .before in
     let p = c .before .before .before .before .before .before .before .before .packet .given .0 .0 in
     let e : p .len ≡ p .at + p .len - p .at = omega arith in
-    rw (served-packet pages (a .loader) (a .input .now) (a .flash .now) _ (told k) ∙ ap (λ (n : ℕ). obeyOf pages (a .loader) (paperCommand (p .command)) (p .address .0) (take n (drop (p .at) (a .input .now))) (a .flash .now)) e)
+    rw (served-packet pages (a .loader) (a .input .now) (a .flash .now) _ (told k)
+    ∙ ap (λ (n : ℕ). obeyOf pages (a .loader) (paperCommand (p .command)) (p .address .0)
+    (take n (drop (p .at) (a .input .now))) (a .flash .now)) e)
     (c .before .before .obey .ensures)
 
 pub serve-spec : {M : Type 1} → statement M

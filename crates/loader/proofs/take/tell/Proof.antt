@@ -22,7 +22,8 @@ told-ack w v e g = rw (g, e)
 told-nothing : (w : Bool) (v : Answer (Unit {0})) (n : ℕ) → quiet n ≡ true → v ≡ refused n → tellOf w v ≡ []
 told-nothing w v n e g = rw (g, e)
 
-told-bel : (w : Bool) (v : Answer (Unit {0})) (n : ℕ) → quiet n ≡ false → v ≡ refused n → tellOf w v ≡ 0x07 ∷ []
+told-bel : (w : Bool) (v : Answer (Unit {0})) (n : ℕ) → quiet n ≡ false → v ≡ refused n
+    → tellOf w v ≡ 0x07 ∷ []
 told-bel w v n e g = rw (g, e)
 
 enum-told : tie.Need-enum-told
@@ -38,7 +39,10 @@ same-length : tie.Need-same-length
 same-length c = search needs
 
 returns : tie.Need-returns
-returns c = rw (told-greeting _ _ (c .before .before .before .before .before .if1 .taken) (ap paperVerdict (c .before .before .before .before .before .before .enum-told .given .1))) (refl, c .before .before .write .ensures)
+returns c =
+    rw (told-greeting _ _ (c .before .before .before .before .before .if1 .taken)
+    (ap paperVerdict (c .before .before .before .before .before .before .enum-told .given .1)))
+    (refl, c .before .before .write .ensures)
 
 slice-write-answer : tie.Need-slice-write-answer
 slice-write-answer c = search needs
@@ -50,7 +54,10 @@ is-quiet-requires : tie.Need-is-quiet-requires
 is-quiet-requires c κs = search needs
 
 returns-2 : tie.Need-returns-2
-returns-2 c = rw (told-nothing (c .before .before .before .before .before .before .args .waiting) _ _ (sym (c .before .is-quiet .ensures) ∙ c .if2 .taken) (ap paperVerdict (c .before .before .before .verdict .given .1))) (refl, refl)
+returns-2 c =
+    rw (told-nothing (c .before .before .before .before .before .before .args .waiting) _ _
+    (sym (c .before .is-quiet .ensures) ∙ c .if2 .taken)
+    (ap paperVerdict (c .before .before .before .verdict .given .1))) (refl, refl)
 
 slice-write-answer-2 : tie.Need-slice-write-answer-2
 slice-write-answer-2 c = search needs
@@ -59,13 +66,22 @@ same-length-2 : tie.Need-same-length-2
 same-length-2 c = search needs
 
 returns-3 : tie.Need-returns-3
-returns-3 c = rw (told-ack _ _ (c .if1 .left) (ap paperVerdict (c .before .enum-told .given .1))) (refl, overlay-next [] (c .before .before .before .before .args .answer .now) 0 6 refl (omega arith))
+returns-3 c =
+    rw (told-ack _ _ (c .if1 .left) (ap paperVerdict (c .before .enum-told .given .1)))
+    (refl, overlay-next [] (c .before .before .before .before .args .answer .now) 0 6 refl (omega arith))
 
 same-length-3 : tie.Need-same-length-3
 same-length-3 c = search needs
 
 returns-4 : tie.Need-returns-4
-returns-4 c = rw (told-bel (c .before .before .before .before .before .before .args .waiting) _ _ (sym (c .before .is-quiet .ensures) ∙ c .if2 .left) (ap paperVerdict (c .before .before .before .verdict .given .1))) (refl, overlay-next [] (c .before .before .before .before .before .before .args .answer .now) 0 7 refl (omega arith))
+returns-4 c =
+    rw (told-bel (c .before .before .before .before .before .before .args .waiting) _ _
+    (sym (c .before .is-quiet .ensures) ∙ c .if2 .left)
+    (ap paperVerdict (c .before .before .before .verdict .given .1))) (
+      refl,
+      overlay-next [] (c .before .before .before .before .before .before .args .answer .now) 0 7 refl
+          (omega arith),
+    )
 
 pub tell-spec : {M : Type 1} → statement M
 tell-spec =

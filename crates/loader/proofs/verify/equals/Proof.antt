@@ -11,7 +11,8 @@ use Rattle.loader.proofs.verify.equals.Statement.{statement}
 use Rattle.loader.proofs.verify.equals.Tie as tie
 
 abbrev Inv-loop : tie.InvT-loop
-Inv-loop flash at turned i₀ i = (i ≤ length turned) × (equalsOf flash at turned ≡ equalsOf flash (at + i) (drop i turned))
+Inv-loop flash at turned i₀ i =
+    (i ≤ length turned) × (equalsOf flash at turned ≡ equalsOf flash (at + i) (drop i turned))
 
 abbrev μ-loop : tie.MeasureT-loop
 μ-loop flash at turned i₀ i = length turned - i
@@ -32,7 +33,10 @@ restored-requires : tie.Need-restored-requires Inv-loop μ-loop
 restored-requires c κs = search needs
 
 returns : tie.Need-returns Inv-loop μ-loop
-returns c = sym (c .before .before .before .before .before .loop .inv .1 ∙ equals-differs _ _ _ _ (c .before .before .before .before .loop-test .taken) (λ e. c .if1 .taken (e ∙ sym (c .before .restored .ensures))))
+returns c =
+    sym (c .before .before .before .before .before .loop .inv .1
+    ∙ equals-differs _ _ _ _ (c .before .before .before .before .loop-test .taken)
+    (λ e. c .if1 .taken (e ∙ sym (c .before .restored .ensures))))
 
 add-i : tie.Need-add-i Inv-loop μ-loop
 add-i c = search needs
@@ -41,7 +45,12 @@ loop-less : tie.Need-loop-less Inv-loop μ-loop
 loop-less c = search needs
 
 loop-again : tie.Need-loop-again Inv-loop μ-loop
-loop-again c = (omega arith, c .before .before .before .before .before .loop .inv .1 ∙ equals-on _ _ _ _ (c .before .before .before .before .loop-test .taken) (c .if1 .left ∙ c .before .restored .ensures))
+loop-again c = (
+  omega arith,
+  c .before .before .before .before .before .loop .inv .1
+      ∙ equals-on _ _ _ _ (c .before .before .before .before .loop-test .taken)
+      (c .if1 .left ∙ c .before .restored .ensures),
+)
 
 returns-2 : tie.Need-returns-2 Inv-loop μ-loop
 returns-2 c = sym (c .before .loop .inv .1 ∙ equals-end _ _ _ _ (c .loop-test .left))

@@ -24,7 +24,8 @@ cast-result : tie.Need-cast-result
 cast-result c = search needs
 
 returns-2 : tie.Need-returns-2
-returns-2 c = let a = c .before .before .args in as-difference (a .address .0) (a .size) (c .before .if1 .left)
+returns-2 c =
+    let a = c .before .before .args in as-difference (a .address .0) (a .size) (c .before .if1 .left)
 
 pub past-end-spec : {M : Type 1} → statement M
 past-end-spec = tie.close (tie.spec returns cast-result returns-2)

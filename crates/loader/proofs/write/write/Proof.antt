@@ -22,18 +22,29 @@ enum-told : tie.Need-enum-told
 enum-told c = search needs
 
 store-requires : tie.Need-store-requires
-store-requires c κs = let a = c .before .before .before .before .before .before .args in let e = write-let pages (a .loader) (a .address .0) (length (a .bytes .now)) (given tt) (sym (c .before .before .before .judge .ensures) ∙ ap paperVerdict (c .before .enum-told .given .1)) in omega (arith, e .1, c .before .before .before .before .before .before .pre)
+store-requires c κs =
+    let a = c .before .before .before .before .before .before .args in
+    let e = write-let pages (a .loader) (a .address .0) (length (a .bytes .now)) (given tt)
+    (sym (c .before .before .before .judge .ensures) ∙ ap paperVerdict (c .before .enum-told .given .1)) in
+    omega (arith, e .1, c .before .before .before .before .before .before .pre)
 
 returns : tie.Need-returns
 unfolding writing
-returns c = leaves-all _ _ (alike _ _ _ (sym (c .before .before .before .judge .ensures) ∙ ap paperVerdict (c .before .why .given .1)))
+returns c =
+    leaves-all _ _
+    (alike _ _ _
+    (sym (c .before .before .before .judge .ensures) ∙ ap paperVerdict (c .before .why .given .1)))
 
 same-length : tie.Need-same-length
 same-length c = search needs
 
 returns-2 : tie.Need-returns-2
 unfolding writing
-returns-2 c = does _ _ (through _ _ _ (sym (c .before .before .before .before .before .before .judge .ensures) ∙ ap paperVerdict (c .before .before .before .before .enum-told .given .1))) refl refl (c .before .before .store .ensures)
+returns-2 c =
+    does _ _ (through _ _ _
+    (sym (c .before .before .before .before .before .before .judge .ensures)
+    ∙ ap paperVerdict (c .before .before .before .before .enum-told .given .1))) refl refl
+    (c .before .before .store .ensures)
 
 pub write-spec : {M : Type 1} → statement M
 write-spec =

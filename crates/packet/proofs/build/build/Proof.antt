@@ -20,7 +20,8 @@ module _ (room c a : ℕ) (d : List ℕ) (t k : ℕ) (h : packetMost ≤ room) (
   build-refused : first (table c (length d + 5) t) (given c) ≡ refused k → buildOf room c a d ≡ refused k
   build-refused f = build-table room c a d h ∙ alike _ _ _ (rw e at f)
 
-  build-given : first (table c (length d + 5) t) (given c) ≡ given k → (length d ≤ dataMost) × (buildOf room c a d ≡ given (packet c a d))
+  build-given : first (table c (length d + 5) t) (given c) ≡ given k
+      → (length d ≤ dataMost) × (buildOf room c a d ≡ given (packet c a d))
   build-given f =
       let g = table-holds c (length d + 5) (getD d 0 0) (given c) (rw e at f) in (
         omega (arith, shape-short c (length d + 5) (getD d 0 0) (g .1)),
@@ -52,7 +53,8 @@ write-requires c κs =
       if1 .left,
       build-given _ (a .command) (a .address .0) (a .plain .now) _ _ (if1 .left)
           (c .before .before .before .before .first-byte .ensures)
-          (sym (c .before .before .before .look-up .ensures) ∙ ap paperRow (c .before .enum-told .given .1)) .0,
+          (sym (c .before .before .before .look-up .ensures)
+          ∙ ap paperRow (c .before .enum-told .given .1)) .0,
     )
 
 returns-2 : tie.Need-returns-2

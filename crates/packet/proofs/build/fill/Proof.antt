@@ -14,7 +14,8 @@ use Rattle.packet.proofs.build.fill.Tie as tie
 
 abbrev Inv-loop : tie.InvT-loop
 Inv-loop part₀ command plain i₀ part i =
-    (i ≤ length plain) × (length part ≡ length part₀) × (part ≡ overlay (take i (map (carriedOf command) plain)) part₀)
+    (i ≤ length plain) × (length part ≡ length part₀) ×
+    (part ≡ overlay (take i (map (carriedOf command) plain)) part₀)
 
 abbrev μ-loop : tie.MeasureT-loop
 μ-loop part₀ command plain i₀ part i = length plain - i
@@ -42,8 +43,14 @@ loop-again c = let a = c .before .before .before .before .before .before .args i
     let f = carriedOf (a .command) in
     let new = map f (a .plain .now) in
     let h : c .before .before .before .loop .i < length new = simp length-map (omega arith) in
-    let k : c .before .before .before .loop .i < length (a .part .now) = omega arith in
-    (search needs, simp length-set (c .before .before .before .loop .inv .1), cc (overlay-more new (a .part .now) (c .before .before .before .loop .i) (f 0) h k, List·getD-map f (a .plain .now) (c .before .before .before .loop .i) 0))
+    let k : c .before .before .before .loop .i < length (a .part .now) = omega arith in (
+      search needs,
+      simp length-set (c .before .before .before .loop .inv .1),
+      cc (
+        overlay-more new (a .part .now) (c .before .before .before .loop .i) (f 0) h k,
+        List·getD-map f (a .plain .now) (c .before .before .before .loop .i) 0,
+      ),
+    )
 
 same-length : tie.Need-same-length Inv-loop μ-loop
 same-length c = c .before .loop .inv .1

@@ -50,7 +50,8 @@ same-length : tie.Need-same-length
 same-length c = search needs
 
 returns : tie.Need-returns
-returns c = let a = c .args in sets-eq (frontOf (a .n) (a .command) (a .address .0)) (a .buffer .now) 0 (c .pre .0)
+returns c =
+    let a = c .args in sets-eq (frontOf (a .n) (a .command) (a .address .0)) (a .buffer .now) 0 (c .pre .0)
 
 pub front-spec : {M : Type 1} → statement M
 front-spec =

@@ -14,9 +14,12 @@ use Rattle.packet.specs.Packet.{frontOf, carriedOf, summed, packet}
 use Rattle.packet.proofs.build.write.Statement.{statement}
 use Rattle.packet.proofs.build.write.Tie as tie
 
--- a buffer F with the front written, its part P behind the front with the data, and the checksum x of what stands from N on
-module _ (c a : ℕ) (d old F P : List ℕ) (eF : F ≡ overlay (frontOf (length d + 5) c a) old) (eP : P ≡ overlay (map (carriedOf c) d) (take (length F - 8) (drop 8 F))) where
-  closed : (x : ℕ) → x ≡ checksumOf (take (8 + length d - 2) (drop 2 (putMid 8 (length F - 8) F P))) → 8 + length d < length old
+-- a buffer F with the front written, its part P behind the front with the data, and the checksum x of what
+-- stands from N on
+module _ (c a : ℕ) (d old F P : List ℕ) (eF : F ≡ overlay (frontOf (length d + 5) c a) old)
+    (eP : P ≡ overlay (map (carriedOf c) d) (take (length F - 8) (drop 8 F))) where
+  closed : (x : ℕ) → x ≡ checksumOf (take (8 + length d - 2) (drop 2 (putMid 8 (length F - 8) F P)))
+      → 8 + length d < length old
       → set (putMid 8 (length F - 8) F P) (8 + length d) x ≡ overlay (packet c a d) old
   unfolding packet
   closed x e h =

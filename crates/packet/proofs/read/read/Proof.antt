@@ -17,7 +17,10 @@ use Rattle.packet.proofs.read.read.Statement.{statement}
 use Rattle.packet.proofs.read.read.Tie as tie
 
 -- what `sum` was handed is the input from the count on
-sum-handed : (c : tie.After-sum) → c .sum .result ≡ sumOf (drop 2 (now (c .before .before .before .before .before .before .before .before .before .args .input)))
+sum-handed : (c : tie.After-sum)
+    → c .sum .result
+    ≡ sumOf (drop 2
+    (now (c .before .before .before .before .before .before .before .before .before .args .input)))
 sum-handed c =
     let s = now (c .before .before .before .before .before .before .before .before .before .args .input) in
     let h : length (drop 2 s) ≤ length s - 2 = simp length-drop (omega arith) in
@@ -39,7 +42,8 @@ left3 : (c : tie.Else3) → Left 3 (now (c .before .before .before .before .befo
 unfolding rows
 left3 c = left2 (c .before .before) ∙ skip _ _ _ _ (le-ltb _ _ (c .if3 .left))
 
-left4 : (c : tie.Else4) → Left 4 (now (c .before .before .before .before .before .before .before .args .input))
+left4 : (c : tie.Else4)
+    → Left 4 (now (c .before .before .before .before .before .before .before .args .input))
 unfolding rows
 left4 c = left3 (c .before) ∙ skip _ _ _ _ (ap not (eq-eqb _ _ (c .if4 .left)))
 
@@ -85,7 +89,9 @@ sum-requires c κs = search needs
 
 returns-5 : tie.Need-returns-5
 unfolding rows
-returns-5 c = sym (left4 (c .before .before .before) ∙ stop _ _ _ _ (ap not (ne-eqb _ _ (λ z. c .if5 .taken (sum-handed (c .before) ∙ z)))))
+returns-5 c =
+    sym (left4 (c .before .before .before)
+    ∙ stop _ _ _ _ (ap not (ne-eqb _ _ (λ z. c .if5 .taken (sum-handed (c .before) ∙ z)))))
 
 tabled-requires : tie.Need-tabled-requires
 tabled-requires c κs = search needs
@@ -93,7 +99,9 @@ tabled-requires c κs = search needs
 returns-6 : tie.Need-returns-6
 unfolding rows
 returns-6 c = let f = c .before in
-    c .tabled .ensures ∙ sym (left4 (f .before .before .before) ∙ skip _ _ _ _ (ap not (eq-eqb _ _ (sym (sum-handed (f .before)) ∙ f .if5 .left))) ∙ done _)
+    c .tabled .ensures
+    ∙ sym (left4 (f .before .before .before)
+    ∙ skip _ _ _ _ (ap not (eq-eqb _ _ (sym (sum-handed (f .before)) ∙ f .if5 .left))) ∙ done _)
 
 pub read-spec : {M : Type 1} → statement M
 read-spec =

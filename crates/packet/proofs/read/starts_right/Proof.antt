@@ -23,7 +23,8 @@ shared-slice-read-result c = search needs
 
 returns-3 : tie.Need-returns-3
 returns-3 c = let s = c .before .before .before .before .args .input .now in
-    sym (both-second (leb 2 (length s)) (both (eqb (getD s 0 0) 0x07) (eqb (getD s 1 0) 0x0E)) (le-leb 2 _ (c .before .before .before .if1 .left))
+    sym (both-second (leb 2 (length s)) (both (eqb (getD s 0 0) 0x07) (eqb (getD s 1 0) 0x0E))
+    (le-leb 2 _ (c .before .before .before .if1 .left))
     ∙ both-second (eqb (getD s 0 0) 0x07) (eqb (getD s 1 0) 0x0E) (eq-eqb _ 0x07 (c .before .if2 .left)))
 
 pub starts-right-spec : {M : Type 1} → statement M

@@ -13,7 +13,8 @@ use Rattle.packet.proofs.read.tabled.Statement.{statement}
 use Rattle.packet.proofs.read.tabled.Tie as tie
 
 module _ (s : List ℕ) (n k : ℕ) (e : n ≡ count s) where
-  tabled-refused : first (table (command s) n (kind s)) (given (command s)) ≡ refused k → tabledOf s ≡ refused k
+  tabled-refused : first (table (command s) n (kind s)) (given (command s)) ≡ refused k
+      → tabledOf s ≡ refused k
   unfolding tabledOf
   tabled-refused f = alike _ _ _ (rw e at f)
 
@@ -46,10 +47,15 @@ sub-t12 : tie.Need-sub-t12
 sub-t12 c = search needs
 
 returns : tie.Need-returns
-returns c = sym (tabled-refused _ _ _ (c .before .before .before .before .before .before .before .pre .0) (sym (c .before .before .before .look-up .ensures) ∙ ap paperRow (c .before .why .given .1)))
+returns c =
+    sym (tabled-refused _ _ _ (c .before .before .before .before .before .before .before .pre .0)
+    (sym (c .before .before .before .look-up .ensures) ∙ ap paperRow (c .before .why .given .1)))
 
 returns-2 : tie.Need-returns-2
-returns-2 c = sym (tabled-listed _ _ _ (c .before .before .before .before .before .before .before .before .pre .0) _ (sym (c .before .before .before .before .look-up .ensures) ∙ ap paperRow (c .before .before .command .given .1)) (c .address-in .ensures))
+returns-2 c =
+    sym (tabled-listed _ _ _ (c .before .before .before .before .before .before .before .before .pre .0) _
+    (sym (c .before .before .before .before .look-up .ensures)
+    ∙ ap paperRow (c .before .before .command .given .1)) (c .address-in .ensures))
 
 pub tabled-spec : {M : Type 1} → statement M
 tabled-spec =

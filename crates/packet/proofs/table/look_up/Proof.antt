@@ -14,12 +14,14 @@ use Rattle.packet.proofs.table.look_up.Statement.{statement}
 use Rattle.packet.proofs.table.look_up.Tie as tie
 
 -- what the table says of a command v, by its row
-in-row : (c n t v : ℕ) (b : Bool) → c ≡ v → listed v ≡ true → inShape v n t ≡ b → first (table c n t) (given c) ≡ pick b (given v) (refused 6)
+in-row : (c n t v : ℕ) (b : Bool) → c ≡ v → listed v ≡ true → inShape v n t ≡ b
+    → first (table c n t) (given c) ≡ pick b (given v) (refused 6)
 unfolding first
 in-row c n t v true e l s = simp (e, l, s)
 in-row c n t v false e l s = simp (e, l, s)
 
-unlisted : (c : ℕ) → (c ≡ 0x45 → ⊥) → (c ≡ 0x57 → ⊥) → (c ≡ 0x56 → ⊥) → (c ≡ 0x50 → ⊥) → (c ≡ 0x52 → ⊥) → listed c ≡ false
+unlisted : (c : ℕ) → (c ≡ 0x45 → ⊥) → (c ≡ 0x57 → ⊥) → (c ≡ 0x56 → ⊥) → (c ≡ 0x50 → ⊥) → (c ≡ 0x52 → ⊥)
+    → listed c ≡ false
 unlisted c e w v p r = simp (ne-eqb _ _ e, ne-eqb _ _ w, ne-eqb _ _ v, ne-eqb _ _ p, ne-eqb _ _ r)
 
 shaped-requires : tie.Need-shaped-requires
@@ -38,7 +40,10 @@ shaped-requires-3 : tie.Need-shaped-requires-3
 shaped-requires-3 c κs = search needs
 
 returns : tie.Need-returns
-returns c = let a = c .before .before .args in sym (in-row (a .command) (a .n) (a .kind) 0x50 false (c .before .match .keys4) refl (both-false (eqb (a .n) 6) (protectType (a .kind)) (ne-eqb _ _ (c .if1 .taken))))
+returns c =
+    let a = c .before .before .args in
+    sym (in-row (a .command) (a .n) (a .kind) 0x50 false (c .before .match .keys4) refl
+    (both-false (eqb (a .n) 6) (protectType (a .kind)) (ne-eqb _ _ (c .if1 .taken))))
 
 protect-type-requires : tie.Need-protect-type-requires
 protect-type-requires c κs = search needs
@@ -50,22 +55,42 @@ shaped-requires-5 : tie.Need-shaped-requires-5
 shaped-requires-5 c κs = search needs
 
 returns-2 : tie.Need-returns-2
-returns-2 c = let a = c .before .before .args in c .shaped .ensures ∙ sym (in-row (a .command) (a .n) (a .kind) 0x45 _ (c .before .match .keys1) refl refl)
+returns-2 c =
+    let a = c .before .before .args in
+    c .shaped .ensures ∙ sym (in-row (a .command) (a .n) (a .kind) 0x45 _ (c .before .match .keys1) refl refl)
 
 returns-3 : tie.Need-returns-3
-returns-3 c = let a = c .before .before .before .args in c .shaped2 .ensures ∙ sym (in-row (a .command) (a .n) (a .kind) 0x57 _ (c .before .before .match .keys2) refl (sym (c .before .data-count .ensures)))
+returns-3 c =
+    let a = c .before .before .before .args in
+    c .shaped2 .ensures
+    ∙ sym (in-row (a .command) (a .n) (a .kind) 0x57 _ (c .before .before .match .keys2) refl
+    (sym (c .before .data-count .ensures)))
 
 returns-4 : tie.Need-returns-4
-returns-4 c = let a = c .before .before .before .args in c .shaped3 .ensures ∙ sym (in-row (a .command) (a .n) (a .kind) 0x56 _ (c .before .before .match .keys3) refl (sym (c .before .data-count2 .ensures)))
+returns-4 c =
+    let a = c .before .before .before .args in
+    c .shaped3 .ensures
+    ∙ sym (in-row (a .command) (a .n) (a .kind) 0x56 _ (c .before .before .match .keys3) refl
+    (sym (c .before .data-count2 .ensures)))
 
 returns-5 : tie.Need-returns-5
-returns-5 c = let a = c .before .before .before .before .args in c .shaped4 .ensures ∙ sym (in-row (a .command) (a .n) (a .kind) 0x50 _ (c .before .before .before .match .keys4) refl (both-second (eqb (a .n) 6) (protectType (a .kind)) (eq-eqb _ _ (c .before .before .if1 .left)) ∙ sym (c .before .protect-type .ensures)))
+returns-5 c =
+    let a = c .before .before .before .before .args in
+    c .shaped4 .ensures
+    ∙ sym (in-row (a .command) (a .n) (a .kind) 0x50 _ (c .before .before .before .match .keys4) refl
+    (both-second (eqb (a .n) 6) (protectType (a .kind)) (eq-eqb _ _ (c .before .before .if1 .left))
+    ∙ sym (c .before .protect-type .ensures)))
 
 returns-6 : tie.Need-returns-6
-returns-6 c = let a = c .before .before .args in c .shaped5 .ensures ∙ sym (in-row (a .command) (a .n) (a .kind) 0x52 _ (c .before .match .keys5) refl refl)
+returns-6 c =
+    let a = c .before .before .args in
+    c .shaped5 .ensures
+    ∙ sym (in-row (a .command) (a .n) (a .kind) 0x52 _ (c .before .match .keys5) refl refl)
 
 returns-7 : tie.Need-returns-7
-returns-7 c = let r = c .match .rest in sym (stop _ _ _ _ (ap not (unlisted _ (r .0 .0 .0 .0 .1) (r .0 .0 .0 .1) (r .0 .0 .1) (r .0 .1) (r .1))))
+returns-7 c =
+    let r = c .match .rest in
+    sym (stop _ _ _ _ (ap not (unlisted _ (r .0 .0 .0 .0 .1) (r .0 .0 .0 .1) (r .0 .0 .1) (r .0 .1) (r .1))))
 
 pub look-up-spec : {M : Type 1} → statement M
 look-up-spec =

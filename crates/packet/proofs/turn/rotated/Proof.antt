@@ -32,7 +32,8 @@ unfolding gathered
 gathered-rotated k b hk hb =
     eqb→eq (gathered (15 - k) b 8) (rotatedOf k b)
     (one-of (λ (b : ℕ). eqb (gathered (15 - k) b 8) (rotatedOf k b)) 256
-    (one-of (λ (k : ℕ). allBelow (λ (b : ℕ). eqb (gathered (15 - k) b 8) (rotatedOf k b)) 256) 8 tt k hk) b hb)
+    (one-of (λ (k : ℕ). allBelow (λ (b : ℕ). eqb (gathered (15 - k) b 8) (rotatedOf k b)) 256) 8 tt k hk)
+    b hb)
 
 abbrev Inv-loop : tie.InvT-loop
 Inv-loop b left out₀ i₀ out i = (i ≤ 8) × (out ≡ gathered (15 - left) b i)
@@ -51,7 +52,12 @@ sub-from-2 : tie.Need-sub-from-2 Inv-loop μ-loop
 sub-from-2 c = search needs
 
 mul-out : tie.Need-mul-out Inv-loop μ-loop
-mul-out c = omega (arith, gathered-fits (15 - c .before .before .args .left) (c .before .before .args .b) (c .before .loop .i) (c .loop-test .taken))
+mul-out c =
+    omega (
+      arith,
+      gathered-fits (15 - c .before .before .args .left) (c .before .before .args .b) (c .before .loop .i)
+          (c .loop-test .taken),
+    )
 
 cast-out : tie.Need-cast-out Inv-loop μ-loop
 cast-out c = search needs
@@ -60,7 +66,12 @@ shr-out : tie.Need-shr-out Inv-loop μ-loop
 shr-out c = omega arith
 
 add-out : tie.Need-add-out Inv-loop μ-loop
-add-out c = omega (arith, gathered-fits (15 - c .before .before .args .left) (c .before .before .args .b) (c .before .loop .i) (c .loop-test .taken))
+add-out c =
+    omega (
+      arith,
+      gathered-fits (15 - c .before .before .args .left) (c .before .before .args .b) (c .before .loop .i)
+          (c .loop-test .taken),
+    )
 
 add-i : tie.Need-add-i Inv-loop μ-loop
 add-i c = search needs
@@ -74,7 +85,9 @@ loop-again c = (omega arith, rw (add-one, c .before .loop .inv .1))
 
 returns : tie.Need-returns Inv-loop μ-loop
 returns c = let e : c .before .loop .i ≡ 8 = omega arith in
-    c .before .loop .inv .1 ∙ rw e (gathered-rotated (c .before .before .args .left) (c .before .before .args .b) (omega arith) (omega arith))
+    c .before .loop .inv .1
+    ∙ rw e (gathered-rotated (c .before .before .args .left) (c .before .before .args .b) (omega arith)
+    (omega arith))
 
 pub rotated-spec : {M : Type 1} → statement M
 rotated-spec =

@@ -34,7 +34,8 @@ unfolding nameOf
 returns c =
     let m = c .before .before .args .map .now in
     let a = c .before .before .args .address .0 in
-    let e : 1 * 2 ^ (a % 8) % 2 ^ 8 ≡ 2 ^ (a % 8) = shl-exact 1 (a % 8) 8 (omega arith) (omega arith) ∙ one-mul (2 ^ (a % 8)) in
+    let e : 1 * 2 ^ (a % 8) % 2 ^ 8 ≡ 2 ^ (a % 8) = shl-exact 1 (a % 8) 8 (omega arith) (omega arith)
+    ∙ one-mul (2 ^ (a % 8)) in
     ap (λ (x : ℕ). set m (a / 8) (bitOr (getD m (a / 8) 0) x)) e
 
 pub name-spec : {M : Type 1} → statement M

@@ -1,4 +1,5 @@
--- `page_row_len` meets its contract: the row from the start is what was passed and the row from here; past the map no page is touched.
+-- `page_row_len` meets its contract: the row from the start is what was passed and the row from here; past
+-- the map no page is touched.
 use Prim.Native.Nat.{_+_, _-_, _≤_}
 use mathlib.Core.Path.{_≡_, sym, _∙_}
 use native.Mathlib.Omega.{arith}
@@ -12,7 +13,8 @@ use Rattle.runs.proofs.pages.page_row_len.Statement.{statement}
 use Rattle.runs.proofs.pages.page_row_len.Tie as tie
 
 abbrev Inv-loop : tie.InvT-loop
-Inv-loop map cap start n₀ n = (n ≤ cap) × (len (touched map) start cap ≡ n + len (touched map) (start + n) (cap - n))
+Inv-loop map cap start n₀ n =
+    (n ≤ cap) × (len (touched map) start cap ≡ n + len (touched map) (start + n) (cap - n))
 
 abbrev μ-loop : tie.MeasureT-loop
 μ-loop map cap start n₀ n = cap - n
@@ -33,7 +35,9 @@ touched-requires : tie.Need-touched-requires Inv-loop μ-loop
 touched-requires c κs = search needs
 
 returns-2 : tie.Need-returns-2 Inv-loop μ-loop
-returns-2 c = sym (len-stop _ _ _ _ (c .before .before .before .before .loop .inv .1) (sym (c .before .touched .ensures) ∙ not-true _ (c .if2 .taken)))
+returns-2 c =
+    sym (len-stop _ _ _ _ (c .before .before .before .before .loop .inv .1)
+    (sym (c .before .touched .ensures) ∙ not-true _ (c .if2 .taken)))
 
 add-n : tie.Need-add-n Inv-loop μ-loop
 add-n c = search needs
@@ -42,7 +46,11 @@ loop-less : tie.Need-loop-less Inv-loop μ-loop
 loop-less c = search needs
 
 loop-again : tie.Need-loop-again Inv-loop μ-loop
-loop-again c = (search needs, len-go _ _ _ _ (c .before .before .before .before .loop .inv .1) (omega arith) (sym (c .before .touched .ensures) ∙ not-false _ (c .if2 .left)))
+loop-again c = (
+  search needs,
+  len-go _ _ _ _ (c .before .before .before .before .loop .inv .1) (omega arith)
+      (sym (c .before .touched .ensures) ∙ not-false _ (c .if2 .left)),
+)
 
 returns-3 : tie.Need-returns-3 Inv-loop μ-loop
 returns-3 c = sym (len-end _ _ _ _ (c .before .loop .inv .1) (omega arith))

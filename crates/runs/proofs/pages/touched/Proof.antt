@@ -16,7 +16,10 @@ any-named-requires c κs = search needs
 
 returns : tie.Need-returns
 unfolding touched
-returns c = c .any-named .ensures ∙ ap (λ (a : ℕ). anyNamed (c .before .before .before .args .map .now) a pageSize) (c .before .start .ensures)
+returns c =
+    c .any-named .ensures
+    ∙ ap (λ (a : ℕ). anyNamed (c .before .before .before .args .map .now) a pageSize)
+    (c .before .start .ensures)
 
 pub touched-spec : {M : Type 1} → statement M
 touched-spec = tie.close (tie.spec start-requires any-named-requires returns)

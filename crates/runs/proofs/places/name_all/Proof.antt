@@ -22,7 +22,8 @@ module _ (map : List ℕ) (a i n : ℕ) where
 
 abbrev Inv-loop : tie.InvT-loop
 Inv-loop map₀ count first i₀ map i =
-    (i ≤ count) × (length map ≡ length map₀) × (nameAllOf map (first + i) (count - i) ≡ nameAllOf map₀ first count)
+    (i ≤ count) × (length map ≡ length map₀) ×
+    (nameAllOf map (first + i) (count - i) ≡ nameAllOf map₀ first count)
 
 abbrev μ-loop : tie.MeasureT-loop
 μ-loop map₀ count first i₀ map i = count - i
@@ -43,7 +44,12 @@ loop-less : tie.Need-loop-less Inv-loop μ-loop
 loop-less c = search needs
 
 loop-again : tie.Need-loop-again Inv-loop μ-loop
-loop-again c = (omega arith, c .before .before .name .kept .0 ∙ c .before .before .before .before .before .loop .inv .1, rw (c .before .before .name .ensures) (turn _ _ _ _ (omega arith)) ∙ c .before .before .before .before .before .loop .inv .2)
+loop-again c = (
+  omega arith,
+  c .before .before .name .kept .0 ∙ c .before .before .before .before .before .loop .inv .1,
+  rw (c .before .before .name .ensures) (turn _ _ _ _ (omega arith))
+      ∙ c .before .before .before .before .before .loop .inv .2,
+)
 
 same-length : tie.Need-same-length Inv-loop μ-loop
 same-length c = search needs

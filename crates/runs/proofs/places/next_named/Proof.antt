@@ -22,7 +22,9 @@ named-requires : tie.Need-named-requires Inv-loop μ-loop
 named-requires c κs = search needs
 
 returns : tie.Need-returns Inv-loop μ-loop
-returns c = sym (c .before .before .before .loop .inv ∙ next-stop _ _ _ (omega arith) (sym (c .before .named .ensures) ∙ c .if1 .taken))
+returns c =
+    sym (c .before .before .before .loop .inv
+    ∙ next-stop _ _ _ (omega arith) (sym (c .before .named .ensures) ∙ c .if1 .taken))
 
 add-at : tie.Need-add-at Inv-loop μ-loop
 add-at c = search needs
@@ -31,7 +33,9 @@ loop-less : tie.Need-loop-less Inv-loop μ-loop
 loop-less c = search needs
 
 loop-again : tie.Need-loop-again Inv-loop μ-loop
-loop-again c = c .before .before .before .loop .inv ∙ next-go _ _ _ (omega arith) (sym (c .before .named .ensures) ∙ c .if1 .left)
+loop-again c =
+    c .before .before .before .loop .inv
+    ∙ next-go _ _ _ (omega arith) (sym (c .before .named .ensures) ∙ c .if1 .left)
 
 returns-2 : tie.Need-returns-2 Inv-loop μ-loop
 returns-2 c = sym (c .before .loop .inv ∙ next-end _ _ _ (omega arith))

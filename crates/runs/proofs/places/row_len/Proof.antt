@@ -10,7 +10,8 @@ use Rattle.runs.proofs.places.row_len.Statement.{statement}
 use Rattle.runs.proofs.places.row_len.Tie as tie
 
 abbrev Inv-loop : tie.InvT-loop
-Inv-loop map cap start n₀ n = (n ≤ cap) × (len (named map) start cap ≡ n + len (named map) (start + n) (cap - n))
+Inv-loop map cap start n₀ n =
+    (n ≤ cap) × (len (named map) start cap ≡ n + len (named map) (start + n) (cap - n))
 
 abbrev μ-loop : tie.MeasureT-loop
 μ-loop map cap start n₀ n = cap - n
@@ -28,7 +29,9 @@ stride-requires : tie.Need-stride-requires Inv-loop μ-loop
 stride-requires c κs = search needs
 
 returns : tie.Need-returns Inv-loop μ-loop
-returns c = sym (len-stop _ _ _ _ (c .before .before .before .loop .inv .1) (c .before .stride .ensures .2 (c .if1 .taken)))
+returns c =
+    sym (len-stop _ _ _ _ (c .before .before .before .loop .inv .1)
+    (c .before .stride .ensures .2 (c .if1 .taken)))
 
 add-n : tie.Need-add-n Inv-loop μ-loop
 add-n c = search needs
@@ -37,7 +40,11 @@ loop-less : tie.Need-loop-less Inv-loop μ-loop
 loop-less c = search needs
 
 loop-again : tie.Need-loop-again Inv-loop μ-loop
-loop-again c = (search needs, len-step _ _ _ _ _ (c .before .before .before .loop .inv .1) (omega (arith, c .before .stride .ensures .0)) (c .before .stride .ensures .1))
+loop-again c = (
+  search needs,
+  len-step _ _ _ _ _ (c .before .before .before .loop .inv .1)
+      (omega (arith, c .before .stride .ensures .0)) (c .before .stride .ensures .1),
+)
 
 returns-2 : tie.Need-returns-2 Inv-loop μ-loop
 returns-2 c = sym (len-end _ _ _ _ (c .before .loop .inv .1) (omega arith))

@@ -53,16 +53,23 @@ returns-2 : tie.Need-returns-2
 returns-2 c = ended _ _ _ (sym (c .before .named .ensures) ∙ not-true _ (c .if2 .taken))
 
 returns-3 : tie.Need-returns-3
-returns-3 c = one _ _ _ (c .before .before .before .before .before .pre) (sym (c .before .before .named .ensures) ∙ not-false _ (c .before .if2 .left))
+returns-3 c =
+    one _ _ _ (c .before .before .before .before .before .pre)
+    (sym (c .before .before .named .ensures) ∙ not-false _ (c .before .if2 .left))
 
 returns-4 : tie.Need-returns-4
-returns-4 c = one _ _ _ (c .before .before .before .before .before .before .pre) (sym (c .before .before .before .named .ensures) ∙ not-false _ (c .before .before .if2 .left))
+returns-4 c =
+    one _ _ _ (c .before .before .before .before .before .before .pre)
+    (sym (c .before .before .before .named .ensures) ∙ not-false _ (c .before .before .if2 .left))
 
 shared-slice-read-if5 : tie.Need-shared-slice-read-if5
 shared-slice-read-if5 c = search needs
 
 returns-5 : tie.Need-returns-5
-returns-5 c = one _ _ _ (c .before .before .before .before .before .before .before .before .pre) (sym (c .before .before .before .before .before .named .ensures) ∙ not-false _ (c .before .before .before .before .if2 .left))
+returns-5 c =
+    one _ _ _ (c .before .before .before .before .before .before .before .before .pre)
+    (sym (c .before .before .before .before .before .named .ensures)
+    ∙ not-false _ (c .before .before .before .before .if2 .left))
 
 returns-6 : tie.Need-returns-6
 returns-6 c = eight _ _ _ (c .before .before .before .if3 .left) (c .before .before .if4 .left) (c .if5 .left)

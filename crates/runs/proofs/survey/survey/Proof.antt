@@ -1,4 +1,5 @@
--- `survey` meets its contract: the walk halts at the place's page, and the counts grow where a run or a piece starts.
+-- `survey` meets its contract: the walk halts at the place's page,
+-- and the counts grow where a run or a piece starts.
 use native.Mathlib.Omega.{arith}
 use borrow.Author.Needs.{needs}
 use Rattle.runs.proofs.Surveys.{tallies-none, tallies-bytes, surveyed}
@@ -21,7 +22,8 @@ over-pages-requires-3 : tie.Need-over-pages-requires-3
 over-pages-requires-3 c κs = search needs
 
 up-to-requires : tie.Need-up-to-requires
-up-to-requires c κs = (omega arith, omega arith, omega arith, tallies-bytes _ _ (c .before .before .over-pages .ensures))
+up-to-requires c κs =
+    (omega arith, omega arith, omega arith, tallies-bytes _ _ (c .before .before .over-pages .ensures))
 
 add-t12-2 : tie.Need-add-t12-2
 add-t12-2 c = search needs
@@ -34,7 +36,10 @@ returns c =
     let p = c .before .before .before .before .before .before .before .over-pages3 in
     let q = c .before .before .before .before .before .before .before .before .over-pages2 in
     let r = c .before .before .before .before .before .before .before .before .before .over-pages in
-    surveyed _ _ _ (c .before .before .before .before .before .before .before .before .before .before .before .page .ensures) (r .ensures) (q .ensures) (p .ensures) (c .before .before .before .before .before .before .up-to .ensures) (c .before .before .before .before .over-places .ensures)
+    surveyed _ _ _
+    (c .before .before .before .before .before .before .before .before .before .before .before .page .ensures)
+    (r .ensures) (q .ensures) (p .ensures) (c .before .before .before .before .before .before .up-to .ensures)
+    (c .before .before .before .before .over-places .ensures)
 
 pub survey-spec : {M : Type 1} → statement M
 survey-spec =

@@ -22,8 +22,13 @@ cast-over-words-2 c = search needs
 over-words-requires : tie.Need-over-words-requires
 over-words-requires c κs =
     let g = c .before .before .before .args in
-    let e : startOf (g .page .0) ≡ 64 * (8 * g .page .0) = omega arith in
-    (omega arith, omega arith, omega arith, c .before .before .before .pre .3 ∙ ap (tallyAt (named (g .map .now)) pieceMost) e)
+    let e : startOf (g .page .0) ≡ 64 * (8 * g .page .0) = omega arith in (
+      omega arith,
+      omega arith,
+      omega arith,
+      c .before .before .before .pre .3
+          ∙ ap (tallyAt (named (g .map .now)) pieceMost) e,
+    )
 
 mul-t10 : tie.Need-mul-t10
 mul-t10 c = search needs
@@ -31,8 +36,13 @@ mul-t10 c = search needs
 over-places-requires : tie.Need-over-places-requires
 over-places-requires c κs =
     let g = c .before .before .before .before .args in
-    let e : 64 * (g .at .0 / 64) ≡ g .at .0 / 64 * 64 = omega arith in
-    (omega arith, omega arith, omega arith, c .over-words .ensures ∙ ap (tallyAt (named (g .map .now)) pieceMost) e)
+    let e : 64 * (g .at .0 / 64) ≡ g .at .0 / 64 * 64 = omega arith in (
+      omega arith,
+      omega arith,
+      omega arith,
+      c .over-words .ensures
+          ∙ ap (tallyAt (named (g .map .now)) pieceMost) e,
+    )
 
 returns : tie.Need-returns
 returns c = search needs

@@ -1,9 +1,11 @@
--- `over_pages` meets its contract: the tallies are those of the pages passed; a page is touched where the count of named bytes grows.
+-- `over_pages` meets its contract: the tallies are those of the pages passed; a page is touched where the
+-- count of named bytes grows.
 use Prim.Native.Nat.{_+_, _*_, _-_, _≤_}
 use mathlib.Core.Path.{_≡_, ap, _∙_}
 use native.Mathlib.Omega.{arith}
 use borrow.Author.Needs.{needs}
 use Rattle.basis.specs.Board
+use Rattle.basis.specs.Board.{pages}
 use Rattle.basis.specs.Units.{startOf}
 use Rattle.runs.specs.Map.{named}
 use Rattle.runs.specs.Pages.{touched}
@@ -16,7 +18,9 @@ use Rattle.runs.proofs.walks.over_pages.Statement.{statement}
 use Rattle.runs.proofs.walks.over_pages.Tie as tie
 
 abbrev Inv-loop : tie.InvT-loop
-Inv-loop map bytes₀ pages₀ end page₀ bytes pages page = (page ≤ end) × (bytes ≡ tallyAt (named map) pieceMost (startOf page)) × (pages ≡ tallyAt (touched map) Board.pages page)
+Inv-loop map bytes₀ pages₀ end page₀ bytes pages page =
+    (page ≤ end) × (bytes ≡ tallyAt (named map) pieceMost (startOf page)) ×
+    (pages ≡ tallyAt (touched map) Board.pages page)
 
 abbrev μ-loop : tie.MeasureT-loop
 μ-loop map bytes₀ pages₀ end page₀ bytes pages page = end - page
@@ -38,13 +42,20 @@ add-over-words c = search needs
 over-words-requires : tie.Need-over-words-requires Inv-loop μ-loop
 over-words-requires c κs =
     let l = c .before .loop in
-    let e : startOf (l .page) ≡ 64 * (8 * l .page) = omega arith in
-    (omega arith, omega arith, omega arith, l .inv .1 ∙ ap (tallyAt (named (c .before .before .before .before .before .args .map .now)) pieceMost) e)
+    let e : startOf (l .page) ≡ 64 * (8 * l .page) = omega arith in (
+      omega arith,
+      omega arith,
+      omega arith,
+      l .inv .1
+          ∙ ap (tallyAt (named (c .before .before .before .before .before .args .map .now)) pieceMost) e,
+    )
 
 took-requires : tie.Need-took-requires Inv-loop μ-loop
 took-requires c κs =
     let l = c .before .before .before .before .loop in
-    let t = tally-le (touched (c .before .before .before .before .before .before .before .before .args .map .now)) Board.pages (omega arith) (l .page) (l .inv .2) in
+    let t = tally-le
+    (touched (c .before .before .before .before .before .before .before .before .args .map .now)) Board.pages
+    (omega arith) (l .page) (l .inv .2) in
     omega arith
 
 add-page : tie.Need-add-page Inv-loop μ-loop
@@ -67,7 +78,7 @@ returns c =
     let g = c .before .before .before .before .before .args in
     let l = c .before .loop in
     let e : l .page ≡ g .to .0 = omega arith in
-    tallies-of _ _ (l .inv .1) (l .inv .2) ∙ ap (talliesAt (g .map .now)) e
+    tallies-of _ _ (l .inv .1) (l .inv .2) ∙ ap (talliesAt pages (g .map .now)) e
 
 pub over-pages-spec : {M : Type 1} → statement M
 over-pages-spec =

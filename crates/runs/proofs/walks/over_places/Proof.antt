@@ -25,7 +25,8 @@ named-requires c κs = search needs
 took-requires : tie.Need-took-requires Inv-loop μ-loop
 took-requires c κs =
     let l = c .before .before .loop in
-    let t = tally-le (named (c .before .before .before .before .args .map .now)) pieceMost (omega arith) (l .at) (l .inv .1) in
+    let t = tally-le (named (c .before .before .before .before .args .map .now)) pieceMost (omega arith)
+    (l .at) (l .inv .1) in
     omega arith
 
 add-at : tie.Need-add-at Inv-loop μ-loop
@@ -36,8 +37,11 @@ loop-less c = search needs
 
 loop-again : tie.Need-loop-again Inv-loop μ-loop
 loop-again c =
-    let l = c .before .before .before .loop in
-    (search needs, tally-again (named (c .before .before .before .before .before .args .map .now)) pieceMost (l .at) (l .inv .1) (c .before .named .ensures) (c .took .ensures))
+    let l = c .before .before .before .loop in (
+      search needs,
+      tally-again (named (c .before .before .before .before .before .args .map .now)) pieceMost (l .at)
+          (l .inv .1) (c .before .named .ensures) (c .took .ensures),
+    )
 
 returns : tie.Need-returns Inv-loop μ-loop
 returns c =

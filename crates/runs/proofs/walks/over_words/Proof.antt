@@ -30,7 +30,8 @@ word-requires c κs = search needs
 took-word-requires : tie.Need-took-word-requires Inv-loop μ-loop
 took-word-requires c κs =
     let l = c .before .before .loop in
-    let t = tally-le (named (c .before .before .before .before .args .map .now)) pieceMost (omega arith) (64 * l .i) (l .inv .1) in
+    let t = tally-le (named (c .before .before .before .before .args .map .now)) pieceMost (omega arith)
+    (64 * l .i) (l .inv .1) in
     omega arith
 
 add-i : tie.Need-add-i Inv-loop μ-loop
@@ -43,8 +44,12 @@ loop-again : tie.Need-loop-again Inv-loop μ-loop
 loop-again c =
     let g = c .before .before .before .before .before .args in
     let l = c .before .before .before .loop in
-    let bytes : Bytes (g .map .now) = λ k. omega (arith, c .before .before .before .before .shared-slice-known .given k) in
-    (search needs, word-again (g .map .now) pieceMost (l .i) bytes (l .inv .1) (c .before .word .ensures) (c .took-word .ensures))
+    let bytes : Bytes (g .map .now) = λ k. omega
+    (arith, c .before .before .before .before .shared-slice-known .given k) in (
+      search needs,
+      word-again (g .map .now) pieceMost (l .i) bytes (l .inv .1) (c .before .word .ensures)
+          (c .took-word .ensures),
+    )
 
 returns : tie.Need-returns Inv-loop μ-loop
 returns c =

@@ -25,7 +25,12 @@ cast-result-2 : tie.Need-cast-result-2
 cast-result-2 c = omega (arith, c .before .shared-slice-known .given (c .before .before .args .at))
 
 add-result : tie.Need-add-result
-add-result c = omega (arith, c .before .shared-slice-known .given (c .before .before .args .at), c .shared-slice-known2 .given (c .before .before .args .at + 1))
+add-result c =
+    omega (
+      arith,
+      c .before .shared-slice-known .given (c .before .before .args .at),
+      c .shared-slice-known2 .given (c .before .before .args .at + 1),
+    )
 
 returns : tie.Need-returns
 unfolding wordOf

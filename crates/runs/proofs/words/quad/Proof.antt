@@ -30,7 +30,8 @@ add-result c = search needs
 returns : tie.Need-returns
 returns c =
     let g = c .before .before .before .args in
-    ap₂ (λ (a b : ℕ). a * 0x1_0000 + b) (c .pair2 .ensures) (c .before .pair .ensures) ∙ word-join (g .map .now) 2 (g .at) 2
+    ap₂ (λ (a b : ℕ). a * 0x1_0000 + b) (c .pair2 .ensures) (c .before .pair .ensures)
+    ∙ word-join (g .map .now) 2 (g .at) 2
 
 pub quad-spec : {M : Type 1} → statement M
 quad-spec =

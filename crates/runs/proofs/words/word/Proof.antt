@@ -30,7 +30,8 @@ add-result c = search needs
 returns : tie.Need-returns
 returns c =
     let g = c .before .before .before .args in
-    ap₂ (λ (a b : ℕ). a * 0x1_0000_0000 + b) (c .quad2 .ensures) (c .before .quad .ensures) ∙ word-join (g .map .now) 4 (g .at) 4
+    ap₂ (λ (a b : ℕ). a * 0x1_0000_0000 + b) (c .quad2 .ensures) (c .before .quad .ensures)
+    ∙ word-join (g .map .now) 4 (g .at) 4
 
 pub word-spec : {M : Type 1} → statement M
 word-spec =

@@ -1,27 +1,35 @@
 -- `read` meets its contract: each test is a row of the table, in its order.
 use mathlib.Core.Path.{sym, _∙_}
 use borrow.Author.Needs.{needs}
+use Rattle.basis.specs.Board.{pages}
 use Rattle.service_log.specs.Laws.Log.{read-short, read-length, read-long, read-version, read-false, read-given}
 use Rattle.service_log.proofs.read.read.Statement.{statement}
 use Rattle.service_log.proofs.read.read.Tie as tie
 
 returns : tie.Need-returns
-returns c = sym (read-short _ (c .if1 .taken))
+returns c = sym (read-short pages _ (c .if1 .taken))
 
 pair-at-requires : tie.Need-pair-at-requires
 pair-at-requires c κs = search needs
 
 returns-2 : tie.Need-returns-2
-returns-2 c = sym (read-length _ (c .before .before .if1 .left) (λ q. c .if2 .taken (c .before .pair-at .ensures ∙ q)))
+returns-2 c =
+    sym (read-length pages _ (c .before .before .if1 .left)
+    (λ q. c .if2 .taken (c .before .pair-at .ensures ∙ q)))
 
 returns-3 : tie.Need-returns-3
-returns-3 c = sym (read-long _ (c .before .before .before .if1 .left) (sym (c .before .before .pair-at .ensures) ∙ c .before .if2 .left) (c .if3 .taken))
+returns-3 c =
+    sym (read-long pages _ (c .before .before .before .if1 .left)
+    (sym (c .before .before .pair-at .ensures) ∙ c .before .if2 .left) (c .if3 .taken))
 
 shared-slice-read-version : tie.Need-shared-slice-read-version
 shared-slice-read-version c = search needs
 
 returns-4 : tie.Need-returns-4
-returns-4 c = sym (read-version _ (c .before .before .before .before .before .if1 .left) (sym (c .before .before .before .before .pair-at .ensures) ∙ c .before .before .before .if2 .left) (c .before .before .if3 .left) (c .if4 .taken))
+returns-4 c =
+    sym (read-version pages _ (c .before .before .before .before .before .if1 .left)
+    (sym (c .before .before .before .before .pair-at .ensures) ∙ c .before .before .before .if2 .left)
+    (c .before .before .if3 .left) (c .if4 .taken))
 
 shared-slice-read-outcome : tie.Need-shared-slice-read-outcome
 shared-slice-read-outcome c = search needs
@@ -48,10 +56,26 @@ is-false-requires : tie.Need-is-false-requires
 is-false-requires c κs = search needs
 
 returns-5 : tie.Need-returns-5
-returns-5 c = sym (read-false _ (c .before .before .before .before .before .before .before .before .before .before .before .if1 .left) (sym (c .before .before .before .before .before .before .before .before .before .before .pair-at .ensures) ∙ c .before .before .before .before .before .before .before .before .before .if2 .left) (c .before .before .before .before .before .before .before .before .if3 .left) (c .before .before .before .before .before .before .if4 .left) (c .before .before .before .before .pair-at2 .ensures) (c .before .before .before .pair-at3 .ensures) (c .before .before .pair-at4 .ensures) (sym (c .before .is-false .ensures) ∙ c .if5 .taken))
+returns-5 c =
+    sym (read-false pages _
+    (c .before .before .before .before .before .before .before .before .before .before .before .if1 .left)
+    (sym (c .before .before .before .before .before .before .before .before .before .before .pair-at .ensures)
+    ∙ c .before .before .before .before .before .before .before .before .before .if2 .left)
+    (c .before .before .before .before .before .before .before .before .if3 .left)
+    (c .before .before .before .before .before .before .if4 .left)
+    (c .before .before .before .before .pair-at2 .ensures) (c .before .before .before .pair-at3 .ensures)
+    (c .before .before .pair-at4 .ensures) (sym (c .before .is-false .ensures) ∙ c .if5 .taken))
 
 returns-6 : tie.Need-returns-6
-returns-6 c = sym (read-given _ (c .before .before .before .before .before .before .before .before .before .before .before .if1 .left) (sym (c .before .before .before .before .before .before .before .before .before .before .pair-at .ensures) ∙ c .before .before .before .before .before .before .before .before .before .if2 .left) (c .before .before .before .before .before .before .before .before .if3 .left) (c .before .before .before .before .before .before .if4 .left) (c .before .before .before .before .pair-at2 .ensures) (c .before .before .before .pair-at3 .ensures) (c .before .before .pair-at4 .ensures) (sym (c .before .is-false .ensures) ∙ c .if5 .left))
+returns-6 c =
+    sym (read-given pages _
+    (c .before .before .before .before .before .before .before .before .before .before .before .if1 .left)
+    (sym (c .before .before .before .before .before .before .before .before .before .before .pair-at .ensures)
+    ∙ c .before .before .before .before .before .before .before .before .before .if2 .left)
+    (c .before .before .before .before .before .before .before .before .if3 .left)
+    (c .before .before .before .before .before .before .if4 .left)
+    (c .before .before .before .before .pair-at2 .ensures) (c .before .before .before .pair-at3 .ensures)
+    (c .before .before .pair-at4 .ensures) (sym (c .before .is-false .ensures) ∙ c .if5 .left))
 
 pub read-spec : {M : Type 1} → statement M
 read-spec =

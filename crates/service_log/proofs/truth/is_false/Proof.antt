@@ -2,6 +2,7 @@
 use mathlib.Core.Path.{sym, _∙_}
 use borrow.Author.Needs.{needs}
 use borrow.Author.Tests.{not-true, not-false}
+use Rattle.basis.specs.Board.{pages}
 use Rattle.service_log.specs.Laws.FalseRecords.{false-unknown, false-few, false-empty, false-many, false-above, false-valid, false-whole, true-greeted, false-ungreeted}
 use Rattle.service_log.proofs.truth.is_false.Statement.{statement}
 use Rattle.service_log.proofs.truth.is_false.Tie as tie
@@ -10,31 +11,69 @@ is-known-requires : tie.Need-is-known-requires
 is-known-requires c κs = search needs
 
 returns : tie.Need-returns
-returns c = false-unknown _ _ _ _ (sym (c .before .is-known .ensures) ∙ not-true _ (c .if1 .taken))
+returns c = false-unknown pages _ _ _ _ (sym (c .before .is-known .ensures) ∙ not-true _ (c .if1 .taken))
 
 returns-2 : tie.Need-returns-2
-returns-2 c = false-few _ _ _ _ (sym (c .before .before .is-known .ensures) ∙ not-false _ (c .before .if1 .left)) (c .if2 .taken)
+returns-2 c =
+    false-few pages _ _ _ _ (sym (c .before .before .is-known .ensures) ∙ not-false _ (c .before .if1 .left))
+    (c .if2 .taken)
 
 returns-3 : tie.Need-returns-3
-returns-3 c = false-empty _ _ _ _ (sym (c .before .before .before .is-known .ensures) ∙ not-false _ (c .before .before .if1 .left)) (c .before .if2 .left) (c .if3 .taken)
+returns-3 c =
+    false-empty pages _ _ _ _
+    (sym (c .before .before .before .is-known .ensures) ∙ not-false _ (c .before .before .if1 .left))
+    (c .before .if2 .left) (c .if3 .taken)
 
 returns-4 : tie.Need-returns-4
-returns-4 c = false-many _ _ _ _ (sym (c .before .before .before .before .is-known .ensures) ∙ not-false _ (c .before .before .before .if1 .left)) (c .before .before .if2 .left) (c .before .if3 .left) (c .if4 .taken)
+returns-4 c =
+    false-many pages _ _ _ _
+    (sym (c .before .before .before .before .is-known .ensures)
+    ∙ not-false _ (c .before .before .before .if1 .left)) (c .before .before .if2 .left)
+    (c .before .if3 .left) (c .if4 .taken)
 
 returns-5 : tie.Need-returns-5
-returns-5 c = false-above _ _ _ _ (sym (c .before .before .before .before .before .is-known .ensures) ∙ not-false _ (c .before .before .before .before .if1 .left)) (c .before .before .before .if2 .left) (c .before .before .if3 .left) (c .before .if4 .left) (c .if5 .taken)
+returns-5 c =
+    false-above pages _ _ _ _
+    (sym (c .before .before .before .before .before .is-known .ensures)
+    ∙ not-false _ (c .before .before .before .before .if1 .left)) (c .before .before .before .if2 .left)
+    (c .before .before .if3 .left) (c .before .if4 .left) (c .if5 .taken)
 
 returns-6 : tie.Need-returns-6
-returns-6 c = false-valid _ _ _ _ (sym (c .before .before .before .before .before .before .is-known .ensures) ∙ not-false _ (c .before .before .before .before .before .if1 .left)) (c .before .before .before .before .if2 .left) (c .before .before .before .if3 .left) (c .before .before .if4 .left) (c .before .if5 .left) (c .if6 .taken)
+returns-6 c =
+    false-valid pages _ _ _ _
+    (sym (c .before .before .before .before .before .before .is-known .ensures)
+    ∙ not-false _ (c .before .before .before .before .before .if1 .left))
+    (c .before .before .before .before .if2 .left) (c .before .before .before .if3 .left)
+    (c .before .before .if4 .left) (c .before .if5 .left) (c .if6 .taken)
 
 returns-7 : tie.Need-returns-7
-returns-7 c = false-whole _ _ _ _ (sym (c .before .before .before .before .before .before .before .is-known .ensures) ∙ not-false _ (c .before .before .before .before .before .before .if1 .left)) (c .before .before .before .before .before .if2 .left) (c .before .before .before .before .if3 .left) (c .before .before .before .if4 .left) (c .before .before .if5 .left) (c .before .if6 .left) (c .if7 .taken)
+returns-7 c =
+    false-whole pages _ _ _ _
+    (sym (c .before .before .before .before .before .before .before .is-known .ensures)
+    ∙ not-false _ (c .before .before .before .before .before .before .if1 .left))
+    (c .before .before .before .before .before .if2 .left) (c .before .before .before .before .if3 .left)
+    (c .before .before .before .if4 .left) (c .before .before .if5 .left) (c .before .if6 .left)
+    (c .if7 .taken)
 
 returns-8 : tie.Need-returns-8
-returns-8 c = true-greeted _ _ _ _ (sym (c .before .before .before .before .before .before .before .before .is-known .ensures) ∙ not-false _ (c .before .before .before .before .before .before .before .if1 .left)) (c .before .before .before .before .before .before .if2 .left) (c .before .before .before .before .before .if3 .left) (c .before .before .before .before .if4 .left) (c .before .before .before .if5 .left) (c .before .before .if6 .left) (c .before .if7 .left) (c .if8 .taken)
+returns-8 c =
+    true-greeted pages _ _ _ _
+    (sym (c .before .before .before .before .before .before .before .before .is-known .ensures)
+    ∙ not-false _ (c .before .before .before .before .before .before .before .if1 .left))
+    (c .before .before .before .before .before .before .if2 .left)
+    (c .before .before .before .before .before .if3 .left) (c .before .before .before .before .if4 .left)
+    (c .before .before .before .if5 .left) (c .before .before .if6 .left) (c .before .if7 .left)
+    (c .if8 .taken)
 
 returns-9 : tie.Need-returns-9
-returns-9 c = false-ungreeted _ _ _ _ (sym (c .before .before .before .before .before .before .before .before .is-known .ensures) ∙ not-false _ (c .before .before .before .before .before .before .before .if1 .left)) (c .before .before .before .before .before .before .if2 .left) (c .before .before .before .before .before .if3 .left) (c .before .before .before .before .if4 .left) (c .before .before .before .if5 .left) (c .before .before .if6 .left) (c .before .if7 .left) (c .if8 .left)
+returns-9 c =
+    false-ungreeted pages _ _ _ _
+    (sym (c .before .before .before .before .before .before .before .before .is-known .ensures)
+    ∙ not-false _ (c .before .before .before .before .before .before .before .if1 .left))
+    (c .before .before .before .before .before .before .if2 .left)
+    (c .before .before .before .before .before .if3 .left) (c .before .before .before .before .if4 .left)
+    (c .before .before .before .if5 .left) (c .before .before .if6 .left) (c .before .if7 .left)
+    (c .if8 .left)
 
 pub is-false-spec : {M : Type 1} → statement M
 is-false-spec =

@@ -17,7 +17,12 @@ first-piece-requires c κs = search needs
 
 returns-2 : tie.Need-returns-2
 unfolding afterOf
-returns-2 c = simp (← c .before .before .before .next-piece .ensures, ← c .first-piece .ensures, le-ltb _ _ (c .before .if1 .left))
+returns-2 c =
+    simp (
+      ← c .before .before .before .next-piece .ensures,
+      ← c .first-piece .ensures,
+      le-ltb _ _ (c .before .if1 .left),
+    )
 
 pub after-write-spec : {M : Type 1} → statement M
 after-write-spec = tie.close (tie.spec next-piece-requires returns first-piece-requires returns-2)

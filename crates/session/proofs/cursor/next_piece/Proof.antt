@@ -11,7 +11,9 @@ row-len-requires : tie.Need-row-len-requires
 row-len-requires c κs = search needs
 
 add-end : tie.Need-add-end
-add-end c = let s = c .before .before .before .args in omega (arith, c .before .row-len .ensures, len-le (named (s .map .now)) (s .address .0) pieceMost)
+add-end c =
+    let s = c .before .before .before .args in
+    omega (arith, c .before .row-len .ensures, len-le (named (s .map .now)) (s .address .0) pieceMost)
 
 next-named-requires : tie.Need-next-named-requires
 next-named-requires c κs = search needs

@@ -11,7 +11,9 @@ page-row-len-requires : tie.Need-page-row-len-requires
 page-row-len-requires c κs = search needs
 
 add-end : tie.Need-add-end
-add-end c = let s = c .before .before .before .args in omega (arith, c .before .page-row-len .ensures, len-le (touched (s .map .now)) (s .page .0) pages)
+add-end c =
+    let s = c .before .before .before .args in
+    omega (arith, c .before .page-row-len .ensures, len-le (touched (s .map .now)) (s .page .0) pages)
 
 next-touched-requires : tie.Need-next-touched-requires
 next-touched-requires c κs = search needs

@@ -24,7 +24,12 @@ same-requires c κs = search needs
 
 returns-3 : tie.Need-returns-3
 unfolding classifyOf
-returns-3 c = rw (c .before .before .before .before .before .if1 .left, sym (c .before .before .before .before .greets .ensures) ∙ c .before .before .before .if2 .left, sym (c .before .same .ensures) ∙ c .if3 .taken)
+returns-3 c =
+    rw (
+      c .before .before .before .before .before .if1 .left,
+      sym (c .before .before .before .before .greets .ensures) ∙ c .before .before .before .if2 .left,
+      sym (c .before .same .ensures) ∙ c .if3 .taken,
+    )
 
 slice-aggregate-same-2 : tie.Need-slice-aggregate-same-2
 slice-aggregate-same-2 c = search needs
@@ -34,11 +39,25 @@ same-requires-2 c κs = search needs
 
 returns-4 : tie.Need-returns-4
 unfolding classifyOf
-returns-4 c = rw (c .before .before .before .before .before .before .before .before .if1 .left, sym (c .before .before .before .before .before .before .before .greets .ensures) ∙ c .before .before .before .before .before .before .if2 .left, sym (c .before .before .before .before .same .ensures) ∙ c .before .before .before .if3 .left, sym (c .before .same2 .ensures) ∙ c .if4 .taken)
+returns-4 c =
+    rw (
+      c .before .before .before .before .before .before .before .before .if1 .left,
+      sym (c .before .before .before .before .before .before .before .greets .ensures)
+          ∙ c .before .before .before .before .before .before .if2 .left,
+      sym (c .before .before .before .before .same .ensures) ∙ c .before .before .before .if3 .left,
+      sym (c .before .same2 .ensures) ∙ c .if4 .taken,
+    )
 
 returns-5 : tie.Need-returns-5
 unfolding classifyOf
-returns-5 c = rw (c .before .before .before .before .before .before .before .before .if1 .left, sym (c .before .before .before .before .before .before .before .greets .ensures) ∙ c .before .before .before .before .before .before .if2 .left, sym (c .before .before .before .before .same .ensures) ∙ c .before .before .before .if3 .left, sym (c .before .same2 .ensures) ∙ c .if4 .left)
+returns-5 c =
+    rw (
+      c .before .before .before .before .before .before .before .before .if1 .left,
+      sym (c .before .before .before .before .before .before .before .greets .ensures)
+          ∙ c .before .before .before .before .before .before .if2 .left,
+      sym (c .before .before .before .before .same .ensures) ∙ c .before .before .before .if3 .left,
+      sym (c .before .same2 .ensures) ∙ c .if4 .left,
+    )
 
 pub classify-spec : {M : Type 1} → statement M
 classify-spec =

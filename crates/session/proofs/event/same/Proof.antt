@@ -1,4 +1,5 @@
--- `same` meets its contract: the answer from the start is the answer from here, until two bytes differ or none is left.
+-- `same` meets its contract: the answer from the start is the answer from here, until two bytes differ or
+-- none is left.
 use Prim.Native.Nat.{_≤_, _-_}
 use mathlib.Core.Path.{_≡_, refl, sym, _∙_}
 use native.Mathlib.Omega.{arith}
@@ -27,7 +28,11 @@ shared-slice-read-if2-2 : tie.Need-shared-slice-read-if2-2 Inv-loop μ-loop
 shared-slice-read-if2-2 c = omega arith
 
 returns-2 : tie.Need-returns-2 Inv-loop μ-loop
-returns-2 c = let s = c .before .before .before .before .before .before .args in sym (c .before .before .before .before .loop .inv .2 ∙ same-differs (s .a .now) (s .b .now) (c .before .before .before .before .loop .i) (c .before .before .before .before .loop .inv .0) (omega arith) (c .if2 .taken))
+returns-2 c =
+    let s = c .before .before .before .before .before .before .args in
+    sym (c .before .before .before .before .loop .inv .2
+    ∙ same-differs (s .a .now) (s .b .now) (c .before .before .before .before .loop .i)
+    (c .before .before .before .before .loop .inv .0) (omega arith) (c .if2 .taken))
 
 add-i : tie.Need-add-i Inv-loop μ-loop
 add-i c = omega arith
@@ -36,10 +41,20 @@ loop-less : tie.Need-loop-less Inv-loop μ-loop
 loop-less c = omega arith
 
 loop-again : tie.Need-loop-again Inv-loop μ-loop
-loop-again c = let s = c .before .before .before .before .before .before .args in (c .before .before .before .before .loop .inv .0, omega arith, c .before .before .before .before .loop .inv .2 ∙ same-next (s .a .now) (s .b .now) (c .before .before .before .before .loop .i) (c .before .before .before .before .loop .inv .0) (omega arith) (c .if2 .left))
+loop-again c =
+    let s = c .before .before .before .before .before .before .args in (
+      c .before .before .before .before .loop .inv .0,
+      omega arith,
+      c .before .before .before .before .loop .inv .2
+          ∙ same-next (s .a .now) (s .b .now) (c .before .before .before .before .loop .i)
+          (c .before .before .before .before .loop .inv .0) (omega arith) (c .if2 .left),
+    )
 
 returns-3 : tie.Need-returns-3 Inv-loop μ-loop
-returns-3 c = let s = c .before .before .before .args in sym (c .before .loop .inv .2 ∙ same-end (s .a .now) (s .b .now) (c .before .loop .i) (c .before .loop .inv .0) (omega arith))
+returns-3 c =
+    let s = c .before .before .before .args in
+    sym (c .before .loop .inv .2
+    ∙ same-end (s .a .now) (s .b .now) (c .before .loop .i) (c .before .loop .inv .0) (omega arith))
 
 pub same-spec : {M : Type 1} → statement M
 same-spec =

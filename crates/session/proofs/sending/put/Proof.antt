@@ -29,24 +29,35 @@ same-length c = search needs
 
 returns : tie.Need-returns
 returns c = let s = c .before .before .before .before .before .before .before .before .before in
-    let b = build-packet (length (s .args .buffer .now)) (s .args .command) (s .args .address .0) (s .args .plain .now) (s .pre .0) (s .pre .1) (s .pre .2) in
-    (given-one (sym (ap paperBuilt (c .before .len .given .1)) ∙ c .before .before .before .before .before .build .ensures .0 ∙ ap counted b), c .before .before .before .before .before .build .ensures .1 ∙ ap (λ (x : Answer (List ℕ)). overlay (written x) (s .args .buffer .now)) b)
+    let b = build-packet (length (s .args .buffer .now)) (s .args .command) (s .args .address .0)
+    (s .args .plain .now) (s .pre .0) (s .pre .1) (s .pre .2) in (
+      given-one (sym (ap paperBuilt (c .before .len .given .1))
+          ∙ c .before .before .before .before .before .build .ensures .0 ∙ ap counted b),
+      c .before .before .before .before .before .build .ensures .1
+          ∙ ap (λ (x : Answer (List ℕ)). overlay (written x) (s .args .buffer .now)) b,
+    )
 
 same-length-2 : tie.Need-same-length-2
 same-length-2 c = search needs
 
 returns-2 : tie.Need-returns-2
 returns-2 c = let s = c .before .before .before .before .before .before .before .before in
-    let b = build-packet (length (s .args .buffer .now)) (s .args .command) (s .args .address .0) (s .args .plain .now) (s .pre .0) (s .pre .1) (s .pre .2) in
-    absurd (apart (sym (ap paperBuilt (c .enum-told .given .1)) ∙ c .before .before .before .before .build .ensures .0 ∙ ap counted b))
+    let b = build-packet (length (s .args .buffer .now)) (s .args .command) (s .args .address .0)
+    (s .args .plain .now) (s .pre .0) (s .pre .1) (s .pre .2) in
+    absurd (apart
+    (sym (ap paperBuilt (c .enum-told .given .1)) ∙ c .before .before .before .before .build .ensures .0
+    ∙ ap counted b))
 
 same-length-3 : tie.Need-same-length-3
 same-length-3 c = search needs
 
 returns-3 : tie.Need-returns-3
 returns-3 c = let s = c .before .before .before .before .before .before .before .before in
-    let b = build-packet (length (s .args .buffer .now)) (s .args .command) (s .args .address .0) (s .args .plain .now) (s .pre .0) (s .pre .1) (s .pre .2) in
-    absurd (apart (sym (ap paperBuilt (c .enum-told2 .given .1)) ∙ c .before .before .before .before .build .ensures .0 ∙ ap counted b))
+    let b = build-packet (length (s .args .buffer .now)) (s .args .command) (s .args .address .0)
+    (s .args .plain .now) (s .pre .0) (s .pre .1) (s .pre .2) in
+    absurd (apart
+    (sym (ap paperBuilt (c .enum-told2 .given .1)) ∙ c .before .before .before .before .build .ensures .0
+    ∙ ap counted b))
 
 pub put-spec : {M : Type 1} → statement M
 put-spec =

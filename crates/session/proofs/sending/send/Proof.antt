@@ -1,6 +1,7 @@
 -- `send` meets its contract, phase by phase.
 use mathlib.Core.Path.{refl, sym, ap, _∙_}
 use borrow.Author.Needs.{needs}
+use Rattle.basis.specs.Board.{pages}
 use Rattle.session.specs.Phases.{atStart}
 use Rattle.session.proofs.sending.send.Statement.{statement}
 use Rattle.session.proofs.sending.send.Tie as tie
@@ -12,19 +13,39 @@ enum-known-phase : tie.Need-enum-known-phase
 enum-known-phase c = search needs
 
 send-erase-requires : tie.Need-send-erase-requires
-send-erase-requires c κs = let s = c .before .before .before .before .before .before .before in (s .pre .1, s .pre .2, sym (ap (atStart (s .args .map .now)) (c .before .before .phase .given .1)) ∙ s .pre .3)
+send-erase-requires c κs =
+    let s = c .before .before .before .before .before .before .before in (
+      s .pre .1,
+      s .pre .2,
+      sym (ap (atStart pages (s .args .map .now)) (c .before .before .phase .given .1))
+          ∙ s .pre .3,
+    )
 
 enum-known-phase-2 : tie.Need-enum-known-phase-2
 enum-known-phase-2 c = search needs
 
 send-piece-requires : tie.Need-send-piece-requires
-send-piece-requires c κs = let s = c .before .before .before .before .before .before .before in (s .pre .0, s .pre .1, s .pre .2, refl, sym (ap (atStart (s .args .map .now)) (c .before .before .phase2 .given .1)) ∙ s .pre .3)
+send-piece-requires c κs =
+    let s = c .before .before .before .before .before .before .before in (
+      s .pre .0,
+      s .pre .1,
+      s .pre .2,
+      refl,
+      sym (ap (atStart pages (s .args .map .now)) (c .before .before .phase2 .given .1)) ∙ s .pre .3,
+    )
 
 enum-known-phase-3 : tie.Need-enum-known-phase-3
 enum-known-phase-3 c = search needs
 
 send-piece-requires-2 : tie.Need-send-piece-requires-2
-send-piece-requires-2 c κs = let s = c .before .before .before .before .before .before .before in (s .pre .0, s .pre .1, s .pre .2, refl, sym (ap (atStart (s .args .map .now)) (c .before .before .phase3 .given .1)) ∙ s .pre .3)
+send-piece-requires-2 c κs =
+    let s = c .before .before .before .before .before .before .before in (
+      s .pre .0,
+      s .pre .1,
+      s .pre .2,
+      refl,
+      sym (ap (atStart pages (s .args .map .now)) (c .before .before .phase3 .given .1)) ∙ s .pre .3,
+    )
 
 enum-told-2 : tie.Need-enum-told-2
 enum-told-2 c = search needs
@@ -42,25 +63,29 @@ same-length : tie.Need-same-length
 same-length c = search needs
 
 returns-2 : tie.Need-returns-2
-returns-2 c = rw (c .before .before .before .before .before .phase .given .1) (c .before .before .send-erase .ensures)
+returns-2 c =
+    rw (c .before .before .before .before .before .phase .given .1) (c .before .before .send-erase .ensures)
 
 same-length-2 : tie.Need-same-length-2
 same-length-2 c = search needs
 
 returns-3 : tie.Need-returns-3
-returns-3 c = rw (c .before .before .before .before .before .phase2 .given .1) (c .before .before .send-piece .ensures)
+returns-3 c =
+    rw (c .before .before .before .before .before .phase2 .given .1) (c .before .before .send-piece .ensures)
 
 same-length-3 : tie.Need-same-length-3
 same-length-3 c = search needs
 
 returns-4 : tie.Need-returns-4
-returns-4 c = rw (c .before .before .before .before .before .phase3 .given .1) (c .before .before .send-piece2 .ensures)
+returns-4 c =
+    rw (c .before .before .before .before .before .phase3 .given .1) (c .before .before .send-piece2 .ensures)
 
 same-length-4 : tie.Need-same-length-4
 same-length-4 c = search needs
 
 returns-5 : tie.Need-returns-5
-returns-5 c = rw (c .before .before .before .before .enum-told2 .given .1) (c .before .before .send-run .ensures)
+returns-5 c =
+    rw (c .before .before .before .before .enum-told2 .given .1) (c .before .before .send-run .ensures)
 
 returns-6 : tie.Need-returns-6
 returns-6 c = rw (c .enum-told3 .given .1) (refl, refl)

@@ -10,14 +10,18 @@ use Rattle.session.proofs.sending.send_erase.Tie as tie
 
 page-row-len-requires : tie.Need-page-row-len-requires
 page-row-len-requires c κs = let s = c .before .before in
-    let l = run-below (s .args .map .now) (s .pre .0) (s .args .page .0) (s .pre .2) in
+    let l = run-below pages (s .args .map .now) (s .pre .0) (s .args .page .0) (s .pre .2) in
     (omega arith, omega arith)
 
 cast-t6 : tie.Need-cast-t6
-cast-t6 c = let s = c .before .before .before in omega (arith, c .page-row-len .ensures, len-le (touched (s .args .map .now)) (s .args .page .0) pages)
+cast-t6 c =
+    let s = c .before .before .before in
+    omega (arith, c .page-row-len .ensures, len-le (touched (s .args .map .now)) (s .args .page .0) pages)
 
 start-requires : tie.Need-start-requires
-start-requires c κs = let s = c .before .before .before .before in omega (arith, run-below (s .args .map .now) (s .pre .0) (s .args .page .0) (s .pre .2))
+start-requires c κs =
+    let s = c .before .before .before .before in
+    omega (arith, run-below pages (s .args .map .now) (s .pre .0) (s .args .page .0) (s .pre .2))
 
 slice-aggregate-put : tie.Need-slice-aggregate-put
 slice-aggregate-put c = search needs
@@ -29,7 +33,11 @@ same-length : tie.Need-same-length
 same-length c = search needs
 
 returns : tie.Need-returns
-returns c = rw (← c .before .before .before .before .before .before .page-row-len .ensures, ← c .before .before .before .before .start .ensures) (c .before .before .put .ensures)
+returns c =
+    rw (
+      ← c .before .before .before .before .before .before .page-row-len .ensures,
+      ← c .before .before .before .before .start .ensures,
+    ) (c .before .before .put .ensures)
 
 pub send-erase-spec : {M : Type 1} → statement M
 send-erase-spec =

@@ -7,6 +7,7 @@ use borrow.Author.Needs.{needs}
 use borrow.Author.Tests.{eqb-true, le-leb}
 use lib.ListN.{length, getD}
 use lib.Dec.{eqb, leb}
+use Rattle.basis.specs.Board.{pages}
 use Rattle.basis.specs.Laws.Choice.{decide, both-second}
 use Rattle.packet.specs.Table.{listed, inShape, dataCount}
 use Rattle.runs.specs.Laws.Files.{file-piece}
@@ -34,7 +35,9 @@ cast-from : tie.Need-cast-from
 cast-from c = search needs
 
 row-len-requires : tie.Need-row-len-requires
-row-len-requires c κs = let s = c .before .before .before .before in omega (arith, piece-below (s .args .map .now) (s .pre .1) (s .args .address .0) (s .pre .4))
+row-len-requires c κs =
+    let s = c .before .before .before .before in
+    omega (arith, piece-below pages (s .args .map .now) (s .pre .1) (s .args .address .0) (s .pre .4))
 
 cast-end : tie.Need-cast-end
 cast-end c = search needs
@@ -49,16 +52,27 @@ part-put-start : tie.Need-part-put-start
 part-put-start c = search needs
 
 part-put-end : tie.Need-part-put-end
-part-put-end c = let s = c .before .before .before .before .before .before in omega (arith, c .before .row-len .ensures, file-piece (s .args .map .now) (s .pre .1) (s .args .address .0) (s .pre .4))
+part-put-end c =
+    let s = c .before .before .before .before .before .before in
+    omega (
+      arith,
+      c .before .row-len .ensures,
+      file-piece pages (s .args .map .now) (s .pre .1) (s .args .address .0) (s .pre .4),
+    )
 
 put-requires : tie.Need-put-requires
 put-requires c κs = let s = c .before .before .before .before .before .before .before in
     let a = s .args .address .0 in
     let m = s .args .map .now in
     let d = pieceBytes (s .args .image .now) m a in
-    let k = piece-carried m (s .pre .1) (s .args .image .now) a (s .pre .0) (s .pre .4) in
-    let e : a + c .before .before .row-len .result - a ≡ pieceLen m a = omega (arith, c .before .before .row-len .ensures) in
-    (s .pre .2, carries-listed (s .args .command) (s .pre .3), rw e (carries-shape (s .args .command) (length d + 5) (getD d 0 0) (s .pre .3) (omega arith) (omega arith)))
+    let k = piece-carried pages m (s .pre .1) (s .args .image .now) a (s .pre .0) (s .pre .4) in
+    let e : a + c .before .before .row-len .result - a ≡ pieceLen m a = omega
+    (arith, c .before .before .row-len .ensures) in (
+      s .pre .2,
+      carries-listed (s .args .command) (s .pre .3),
+      rw e (carries-shape (s .args .command) (length d + 5) (getD d 0 0) (s .pre .3) (omega arith)
+          (omega arith)),
+    )
 
 same-length : tie.Need-same-length
 same-length c = search needs
@@ -66,7 +80,8 @@ same-length c = search needs
 returns : tie.Need-returns
 returns c = let s = c .before .before .before .before .before .before .before .before .before .before in
     let a = s .args .address .0 in
-    let e : a + c .before .before .before .before .before .row-len .result - a ≡ pieceLen (s .args .map .now) a = omega (arith, c .before .before .before .before .before .row-len .ensures) in
+    let e : a + c .before .before .before .before .before .row-len .result - a ≡ pieceLen
+    (s .args .map .now) a = omega (arith, c .before .before .before .before .before .row-len .ensures) in
     rw (← e) (c .before .before .put .ensures)
 
 pub send-piece-spec : {M : Type 1} → statement M

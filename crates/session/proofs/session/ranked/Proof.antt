@@ -7,10 +7,14 @@ use Rattle.session.proofs.session.ranked.Statement.{statement}
 use Rattle.session.proofs.session.ranked.Tie as tie
 
 returns : tie.Need-returns
-returns c = let s = c .before .args in sym (both-false (s .starts) (eqb (s .rank) (s .k)) (not-true (s .starts) (c .if1 .taken)))
+returns c =
+    let s = c .before .args in
+    sym (both-false (s .starts) (eqb (s .rank) (s .k)) (not-true (s .starts) (c .if1 .taken)))
 
 returns-2 : tie.Need-returns-2
-returns-2 c = let s = c .before .args in sym (both-second (s .starts) (eqb (s .rank) (s .k)) (not-false (s .starts) (c .if1 .left)))
+returns-2 c =
+    let s = c .before .args in
+    sym (both-second (s .starts) (eqb (s .rank) (s .k)) (not-false (s .starts) (c .if1 .left)))
 
 pub ranked-spec : {M : Type 1} → statement M
 ranked-spec = tie.close (tie.spec returns returns-2)

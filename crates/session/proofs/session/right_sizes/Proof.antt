@@ -1,6 +1,5 @@
 -- `right_sizes` meets its contract: the three tests, in their order.
 use mathlib.Core.Path.{sym, _∙_}
-use borrow.Author.Needs.{needs}
 use borrow.Author.Tests.{eq-eqb, ne-eqb}
 use Rattle.basis.specs.Laws.Choice.{both-second, both-false}
 use Rattle.session.proofs.session.right_sizes.Statement.{statement}
@@ -10,10 +9,12 @@ returns : tie.Need-returns
 returns c = sym (both-false _ _ (ne-eqb _ _ (c .if1 .taken)))
 
 returns-2 : tie.Need-returns-2
-returns-2 c = sym (both-second _ _ (eq-eqb _ _ (c .before .if1 .left)) ∙ both-false _ _ (ne-eqb _ _ (c .if2 .taken)))
+returns-2 c =
+    sym (both-second _ _ (eq-eqb _ _ (c .before .if1 .left)) ∙ both-false _ _ (ne-eqb _ _ (c .if2 .taken)))
 
 returns-3 : tie.Need-returns-3
-returns-3 c = sym (both-second _ _ (eq-eqb _ _ (c .before .if1 .left)) ∙ both-second _ _ (eq-eqb _ _ (c .if2 .left)))
+returns-3 c =
+    sym (both-second _ _ (eq-eqb _ _ (c .before .if1 .left)) ∙ both-second _ _ (eq-eqb _ _ (c .if2 .left)))
 
 pub right-sizes-spec : {M : Type 1} → statement M
 right-sizes-spec = tie.close (tie.spec returns returns-2 returns-3)

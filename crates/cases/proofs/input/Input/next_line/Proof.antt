@@ -8,7 +8,8 @@ use Rattle.cases.proofs.input.Input.next_line.Statement.{statement}
 use Rattle.cases.proofs.input.Input.next_line.Tie as tie
 
 abbrev Inv-loop : tie.InvT-loop
-Inv-loop buffer₀ line₀ input₀ n₀ buffer line input n = (length buffer ≡ length buffer₀) × (length line ≡ length line₀) × (n ≤ length line)
+Inv-loop buffer₀ line₀ input₀ n₀ buffer line input n =
+    (length buffer ≡ length buffer₀) × (length line ≡ length line₀) × (n ≤ length line)
 
 abbrev μ-loop : tie.MeasureT-loop
 μ-loop buffer₀ line₀ input₀ n₀ buffer line input n = length line - n

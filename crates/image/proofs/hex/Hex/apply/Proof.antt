@@ -105,7 +105,8 @@ other-requires c κs =
     let args = p .args in
     let pre = p .pre in
     let f = framing-count (args .n) (args .bytes .now)
-    (sym (framing .ensures) ∙ ap paperCheck (c .before .before .before .before .before .enum-told .given .1)) in (
+    (sym (framing .ensures)
+    ∙ ap paperCheck (c .before .before .before .before .before .enum-told .given .1)) in (
       omega (arith, f, pre .0),
       sym (c .before .before .before .before .shape .ensures)
           ∙ ap paperCheck (c .before .before .enum-told2 .given .1),

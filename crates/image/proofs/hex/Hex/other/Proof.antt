@@ -16,7 +16,8 @@ pair-at-requires : tie.Need-pair-at-requires
 pair-at-requires c κs =
     omega (
       arith,
-      shape-count (c .before .before .before .args .bytes .now) (c .before .before .before .pre .1) (c .before .before .before .pre .2) (c .if1 .left),
+      shape-count (c .before .before .before .args .bytes .now) (c .before .before .before .pre .1)
+          (c .before .before .before .pre .2) (c .if1 .left),
       c .before .before .before .pre .0,
     )
 

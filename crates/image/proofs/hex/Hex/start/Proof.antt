@@ -48,7 +48,8 @@ same-length-2 c = search needs
 returns-2 : tie.Need-returns-2
 returns-2 c =
     let tested = c .before .before .before .before .before .before .before .before in
-    start-given flashSize _ _ _ _ (sym (tested .before .right-sizes .ensures) ∙ not-false _ (tested .if1 .left))
+    start-given flashSize _ _ _ _
+    (sym (tested .before .right-sizes .ensures) ∙ not-false _ (tested .if1 .left))
     (c .before .before .before .before .before .before .fill .ensures) (c .before .before .fill2 .ensures)
 
 pub start-spec : {M : Type 1} → statement M

@@ -1,5 +1,6 @@
 -- `opening` meets its contract: the phase after the greeting is that of the first packet.
 use borrow.Author.Needs.{needs}
+use Rattle.basis.specs.Board.{pages}
 use Rattle.listing.specs.Laws.Plan.{listing-first}
 use Rattle.listing.proofs.plan.Listing.opening.Statement.{statement}
 use Rattle.listing.proofs.plan.Listing.opening.Tie as tie
@@ -8,7 +9,9 @@ after-requires : tie.Need-after-requires
 after-requires c κs = search needs
 
 returns : tie.Need-returns
-returns c = listing-first _ (c .before .before .pre .0) (c .before .before .pre .1) _ _ (c .after .ensures) (c .before .before .pre .2)
+returns c =
+    listing-first pages _ (c .before .before .pre .0) (c .before .before .pre .1) _ _ (c .after .ensures)
+    (c .before .before .pre .2)
 
 pub opening-spec : {M : Type 1} → statement M
 opening-spec = tie.close (tie.spec after-requires returns)

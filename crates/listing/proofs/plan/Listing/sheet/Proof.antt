@@ -5,6 +5,7 @@ use lib.ListN.{length, drop, length-append}
 use Rattle.listing.specs.Plan.{Listed, packetAt, listingAt, longestLine, Sheet, sheet, sheetOf}
 use mathlib.Core.List.{List, [], _++_}
 use mathlib.Core.Path.{_≡_, refl, sym, ap, _∙_}
+use Rattle.basis.specs.Board.{pages}
 use Rattle.basis.specs.Lists.{overlay, stored, copyOf}
 use Rattle.basis.specs.Laws.Lists.{copy-overlay}
 use Rattle.session.specs.Plan.{plan}
@@ -18,7 +19,7 @@ use Rattle.listing.proofs.plan.Listing.sheet.Tie as tie
 
 -- what is left to write from a listing on
 abbrev left : List ℕ → List ℕ → ℕ → Listing → Sheet
-left image m room l = sheetOf room (l .listed) (drop (l .listed) (plan image m RunKind.Reset))
+left image m room l = sheetOf room (l .listed) (drop (l .listed) (plan pages image m RunKind.Reset))
 
 -- sheet g was to be written into old; the buffer holds it up to `at`, and h is left
 record Writing (g : Sheet) (old buffer : List ℕ) (at : ℕ) (h : Sheet) : Type 0 where
@@ -34,48 +35,82 @@ writing-start image m old l =
     let e : length old - 0 ≡ length old = omega arith in
     rw e (record { same = refl; inside = omega arith; text = refl; long = omega arith; count = refl })
 
-module _ (image m old : List ℕ) (g : Sheet) (l : Listing) (h : Listed image m l) (buffer : List ℕ) (at : ℕ) (w : Writing g old buffer at (left image m (length buffer - at) l)) where
+module _ (image m old : List ℕ) (g : Sheet) (l : Listing) (h : Listed pages image m l) (buffer : List ℕ)
+    (at : ℕ) (w : Writing g old buffer at (left image m (length buffer - at) l)) where
   ended : left image m (length buffer - at) l ≡ sheet [] (l .listed)
-      → (l ≡ listingAt m (g .listed)) × (at ≡ length (g .text)) × (buffer ≡ overlay (g .text) old)
+      → (l ≡ listingAt pages m (g .listed)) × (at ≡ length (g .text)) × (buffer ≡ overlay (g .text) old)
   unfolding stored
   ended e =
       let n : l .listed ≡ g .listed = sym (ap (λ (x : Sheet). x .listed) e) ∙ w .count in
-      let k : at ≡ length (g .text) = omega (arith, sym (ap (λ (x : Sheet). at + length (x .text)) e) ∙ w .long) in
-      let t : buffer ≡ copyOf old 0 (g .text) = sym (ap (λ (x : Sheet). copyOf buffer at (x .text)) e) ∙ w .text in
-      (h .stands ∙ ap (listingAt m) n, k, t ∙ copy-overlay [] old (g .text) 0 refl (omega (arith, w .inside, w .same)))
+      let k : at ≡ length (g .text) = omega
+      (arith, sym (ap (λ (x : Sheet). at + length (x .text)) e) ∙ w .long) in
+      let t : buffer ≡ copyOf old 0 (g .text) = sym (ap (λ (x : Sheet). copyOf buffer at (x .text)) e)
+      ∙ w .text in (
+        h .stands ∙ ap (listingAt pages m) n,
+        k,
+        t
+            ∙ copy-overlay [] old (g .text) 0 refl (omega (arith, w .inside, w .same)),
+      )
 
   -- no room for one more, or none is left
   writing-full : length buffer - at < longestLine
-      → (l ≡ listingAt m (g .listed)) × (at ≡ length (g .text)) × (buffer ≡ overlay (g .text) old)
-  writing-full s = ended (sheet-full (length buffer - at) (l .listed) (drop (l .listed) (plan image m RunKind.Reset)) s)
+      → (l ≡ listingAt pages m (g .listed)) × (at ≡ length (g .text)) × (buffer ≡ overlay (g .text) old)
+  writing-full s =
+      ended (sheet-full (length buffer - at) (l .listed)
+      (drop (l .listed) (plan pages image m RunKind.Reset)) s)
 
   writing-end : l .total ≤ l .listed
-      → (l ≡ listingAt m (g .listed)) × (at ≡ length (g .text)) × (buffer ≡ overlay (g .text) old)
-  writing-end s = ended (ap (sheetOf (length buffer - at) (l .listed)) (listed-end image m l h s) ∙ sheet-end (length buffer - at) (l .listed))
+      → (l ≡ listingAt pages m (g .listed)) × (at ≡ length (g .text)) × (buffer ≡ overlay (g .text) old)
+  writing-end s =
+      ended (ap (sheetOf (length buffer - at) (l .listed)) (listed-end pages image m l h s)
+      ∙ sheet-end (length buffer - at) (l .listed))
 
   module _ (more : l .listed < l .total) (room : longestLine ≤ length buffer - at) where
     abbrev line : List ℕ
-    line = stepLine (l .listed + 1) (packetAt image m (l .listed))
+    line = stepLine (l .listed + 1) (packetAt pages image m (l .listed))
 
     -- and one less is left
-    writing-falls : (x : Listing) → x ≡ listingAt m (l .listed + 1)
+    writing-falls : (x : Listing) → x ≡ listingAt pages m (l .listed + 1)
         → x .total - x .listed < l .total - l .listed
     writing-falls x e =
-        omega (arith, ap (λ (y : Listing). y .listed) e, ap (λ (y : Listing). y .total) e, ap (λ (y : Listing). y .total) (h .stands))
+        omega (
+          arith,
+          ap (λ (y : Listing). y .listed) e,
+          ap (λ (y : Listing). y .total) e,
+          ap (λ (y : Listing). y .total) (h .stands),
+        )
 
     -- one line more
-    writing-next : (x : Listing) (b : List ℕ) (e : ℕ) → x ≡ listingAt m (l .listed + 1)
+    writing-next : (x : Listing) (b : List ℕ) (e : ℕ) → x ≡ listingAt pages m (l .listed + 1)
         → length b ≡ length buffer
         → (e ≡ at + length line) × (b ≡ copyOf buffer at line) × (length line ≤ longestLine)
-        → Listed image m x × Writing g old b e (left image m (length b - e) x)
+        → Listed pages image m x × Writing g old b e (left image m (length b - e) x)
     writing-next x b e ex same f =
         let n : x .listed ≡ l .listed + 1 = ap (λ (y : Listing). y .listed) ex in
-        let rest : Sheet = sheetOf (length buffer - at - length line) (l .listed + 1) (drop (l .listed + 1) (plan image m RunKind.Reset)) in
+        let rest : Sheet = sheetOf (length buffer - at - length line) (l .listed + 1)
+        (drop (l .listed + 1) (plan pages image m RunKind.Reset)) in
         let q : left image m (length buffer - at) l ≡ sheet (line ++ rest .text) (rest .listed) =
-        ap (sheetOf (length buffer - at) (l .listed)) (listed-left image m l h more) ∙ sheet-line (length buffer - at) (l .listed) (packetAt image m (l .listed)) (drop (l .listed + 1) (plan image m RunKind.Reset)) room in
+        ap (sheetOf (length buffer - at) (l .listed)) (listed-left pages image m l h more)
+        ∙ sheet-line (length buffer - at) (l .listed) (packetAt pages image m (l .listed))
+        (drop (l .listed + 1) (plan pages image m RunKind.Reset)) room in
         let r : length b - e ≡ length buffer - at - length line = omega (arith, f .0) in
-        let y : left image m (length b - e) x ≡ rest = rw (n, r) in
-        (next-listed image m l h more x ex, rw y (record { same = same ∙ w .same; inside = omega (arith, f .0, f .2); text = sym (copy-from b e rest f) ∙ ap (λ (z : Sheet). copyOf buffer at (z .text)) (sym q) ∙ w .text; long = omega (arith, f .0, length-append line (rest .text), sym (ap (λ (z : Sheet). at + length (z .text)) q) ∙ w .long); count = sym (ap (λ (z : Sheet). z .listed) q) ∙ w .count }))
+        let y : left image m (length b - e) x ≡ rest = rw (n, r) in (
+          next-listed pages image m l h more x ex,
+          rw y (record {
+            same = same ∙ w .same;
+            inside = omega (arith, f .0, f .2);
+            text = sym (copy-from b e rest f) ∙ ap (λ (z : Sheet). copyOf buffer at (z .text)) (sym q)
+                ∙ w .text;
+            long = omega (
+              arith,
+              f .0,
+              length-append line (rest .text),
+              sym (ap (λ (z : Sheet). at + length (z .text)) q)
+                  ∙ w .long,
+            );
+            count = sym (ap (λ (z : Sheet). z .listed) q) ∙ w .count;
+          }),
+        )
       where
         copy-from : (b : List ℕ) (e : ℕ) (rest : Sheet)
             → (e ≡ at + length line) × (b ≡ copyOf buffer at line) × (length line ≤ longestLine)
@@ -83,13 +118,17 @@ module _ (image m old : List ℕ) (g : Sheet) (l : Listing) (h : Listed image m 
         copy-from b e rest f = sym (copy-then buffer at line (rest .text) b e (f .0) (f .1))
 
 abbrev Inv-loop : tie.InvT-loop
-Inv-loop image map buffer₀ listing₀ at₀ buffer listing at = Listed image map listing × Writing (left image map (length buffer₀) listing₀) buffer₀ buffer at (left image map (length buffer - at) listing)
+Inv-loop image map buffer₀ listing₀ at₀ buffer listing at =
+    Listed pages image map listing × Writing (left image map (length buffer₀) listing₀) buffer₀ buffer at
+    (left image map (length buffer - at) listing)
 
 abbrev μ-loop : tie.MeasureT-loop
 μ-loop image map buffer₀ listing₀ at₀ buffer listing at = listing .total - listing .listed
 
 loop-holds : tie.Need-loop-holds Inv-loop μ-loop
-loop-holds c = let a = c .before .before .before .args in (c .before .before .before .pre, writing-start (a .image .now) (a .map .now) (a .buffer .now) (a .self))
+loop-holds c =
+    let a = c .before .before .before .args in
+    (c .before .before .before .pre, writing-start (a .image .now) (a .map .now) (a .buffer .now) (a .self))
 
 sub-if2 : tie.Need-sub-if2 Inv-loop μ-loop
 sub-if2 c = omega (arith, c .before .before .loop .inv .1 .inside)
@@ -98,22 +137,42 @@ same-length : tie.Need-same-length Inv-loop μ-loop
 same-length c = omega (arith, c .before .before .before .loop .inv .1 .same)
 
 returns : tie.Need-returns Inv-loop μ-loop
-returns c = writing-full _ _ _ _ _ (c .before .before .before .loop .inv .0) _ _ (c .before .before .before .loop .inv .1) (c .if2 .taken)
+returns c =
+    writing-full _ _ _ _ _ (c .before .before .before .loop .inv .0) _ _
+    (c .before .before .before .loop .inv .1) (c .if2 .taken)
 
 line-requires : tie.Need-line-requires Inv-loop μ-loop
-line-requires c κs = (c .before .before .before .before .loop .inv .0, c .before .before .if1 .taken, omega (arith, c .before .if2 .left))
+line-requires c κs = (
+  c .before .before .before .before .loop .inv .0,
+  c .before .before .if1 .taken,
+  omega (arith, c .before .if2 .left),
+)
 
 loop-less : tie.Need-loop-less Inv-loop μ-loop
-loop-less c = writing-falls _ _ _ _ _ (c .before .before .before .before .before .before .before .before .loop .inv .0) _ _ (c .before .before .before .before .before .before .before .before .loop .inv .1) (c .before .before .before .before .before .before .if1 .taken) (c .before .before .before .before .before .if2 .left) _ (c .before .before .before .line .ensures .0)
+loop-less c =
+    writing-falls _ _ _ _ _
+    (c .before .before .before .before .before .before .before .before .loop .inv .0) _ _
+    (c .before .before .before .before .before .before .before .before .loop .inv .1)
+    (c .before .before .before .before .before .before .if1 .taken)
+    (c .before .before .before .before .before .if2 .left) _ (c .before .before .before .line .ensures .0)
 
 loop-again : tie.Need-loop-again Inv-loop μ-loop
-loop-again c = let f = c .before .before .before .line .ensures in writing-next _ _ _ _ _ (c .before .before .before .before .before .before .before .before .loop .inv .0) _ _ (c .before .before .before .before .before .before .before .before .loop .inv .1) (c .before .before .before .before .before .before .if1 .taken) (c .before .before .before .before .before .if2 .left) _ _ _ (f .0) (c .before .before .before .line .kept .1 .1 .1 .0) (f .1, f .2, f .3)
+loop-again c =
+    let f = c .before .before .before .line .ensures in
+    writing-next _ _ _ _ _
+    (c .before .before .before .before .before .before .before .before .loop .inv .0) _ _
+    (c .before .before .before .before .before .before .before .before .loop .inv .1)
+    (c .before .before .before .before .before .before .if1 .taken)
+    (c .before .before .before .before .before .if2 .left) _ _ _ (f .0)
+    (c .before .before .before .line .kept .1 .1 .1 .0) (f .1, f .2, f .3)
 
 same-length-2 : tie.Need-same-length-2 Inv-loop μ-loop
 same-length-2 c = omega (arith, c .before .before .loop .inv .1 .same)
 
 returns-2 : tie.Need-returns-2 Inv-loop μ-loop
-returns-2 c = writing-end _ _ _ _ _ (c .before .before .loop .inv .0) _ _ (c .before .before .loop .inv .1) (c .if1 .left)
+returns-2 c =
+    writing-end _ _ _ _ _ (c .before .before .loop .inv .0) _ _ (c .before .before .loop .inv .1)
+    (c .if1 .left)
 
 pub sheet-spec : {M : Type 1} → statement M
 sheet-spec =

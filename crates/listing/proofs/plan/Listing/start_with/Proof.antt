@@ -1,8 +1,9 @@
 -- `start_with` meets its contract: the session's start decides.
 use mathlib.Core.Path.{sym, ap, _∙_}
 use borrow.Author.Needs.{needs}
+use Rattle.basis.specs.Board.{pages}
 use Rattle.basis.specs.Refusals.{given}
-use Rattle.listing.specs.Laws.Plan.{starts, start-refused}
+use Rattle.listing.specs.Laws.Plan.{begins, start-refused}
 use Rattle.session.specs.Paper.{paperStepped}
 use Rattle.listing.proofs.plan.Listing.start_with.Statement.{statement}
 use Rattle.listing.proofs.plan.Listing.start_with.Tie as tie
@@ -14,8 +15,11 @@ enum-known-next : tie.Need-enum-known-next
 enum-known-next c = search needs
 
 opening-requires : tie.Need-opening-requires
-opening-requires c κs = let a = c .before .before .before .before .before .before .before .before .before .before .args in
-    let s = starts (a .image .now) (a .map .now) _ (c .before .next .given .0 .0) (sym (ap paperStepped (c .before .next .given .1)) ∙ c .before .before .before .before .before .start .ensures .0) in (s .long, s .some, s .counted)
+opening-requires c κs =
+    let a = c .before .before .before .before .before .before .before .before .before .before .args in
+    let s = begins pages (a .image .now) (a .map .now) _ (c .before .next .given .0 .0)
+    (sym (ap paperStepped (c .before .next .given .1))
+    ∙ c .before .before .before .before .before .start .ensures .0) in (s .0 .long, s .0 .some, s .1)
 
 enum-known-x : tie.Need-enum-known-x
 enum-known-x c = search needs
@@ -24,8 +28,12 @@ same-length : tie.Need-same-length
 same-length c = search needs
 
 returns : tie.Need-returns
-returns c = let a = c .before .before .before .before .before .before .before .before .before .before .before .args in
-    let s = starts (a .image .now) (a .map .now) _ (c .before .before .next .given .0 .0) (sym (ap paperStepped (c .before .before .next .given .1)) ∙ c .before .before .before .before .before .before .start .ensures .0) in ap given (c .opening .ensures) ∙ sym (s .begun)
+returns c =
+    let a = c .before .before .before .before .before .before .before .before .before .before .before .args in
+    let s = begins pages (a .image .now) (a .map .now) _ (c .before .before .next .given .0 .0)
+    (sym (ap paperStepped (c .before .before .next .given .1))
+    ∙ c .before .before .before .before .before .before .start .ensures .0) in
+    ap given (c .opening .ensures) ∙ sym (s .2)
 
 same-length-2 : tie.Need-same-length-2
 same-length-2 c = search needs
@@ -33,7 +41,9 @@ same-length-2 c = search needs
 returns-2 : tie.Need-returns-2
 returns-2 c =
     let s = c .before .before .before .before .before .before .before .before .before .before in
-    start-refused (s .args .image .now) (s .args .map .now) _ _ (sym (ap paperStepped (c .before .x .given .1)) ∙ c .before .before .before .before .before .start .ensures .0)
+    start-refused pages (s .args .image .now) (s .args .map .now) _ _
+    (sym (ap paperStepped (c .before .x .given .1))
+    ∙ c .before .before .before .before .before .start .ensures .0)
 
 pub start-with-spec : {M : Type 1} → statement M
 start-with-spec =

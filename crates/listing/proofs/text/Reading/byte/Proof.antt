@@ -39,7 +39,10 @@ same-length-3 : tie.Need-same-length-3
 same-length-3 c = search needs
 
 returns : tie.Need-returns
-returns c = byte-open _ _ _ _ _ _ _ _ (c .before .before .before .before .before .before .before .before .before .before .before .self .given .1) (c .before .before .before .before .before .before .byte .ensures)
+returns c =
+    byte-open _ _ _ _ _ _ _ _
+    (c .before .before .before .before .before .before .before .before .before .before .before .self .given .1)
+    (c .before .before .before .before .before .before .byte .ensures)
 
 returns-2 : tie.Need-returns-2
 returns-2 c = byte-refused _ _ _ _ _ _ _ (c .before .self2 .given .1)

@@ -41,7 +41,10 @@ same-length-2 : tie.Need-same-length-2
 same-length-2 c = search needs
 
 returns : tie.Need-returns
-returns c = close-open _ _ _ _ _ _ _ _ _ _ (c .before .before .before .before .before .before .before .before .before .self .given .1) (c .shut .ensures) (c .before .before .before .before .before .last .ensures)
+returns c =
+    close-open _ _ _ _ _ _ _ _ _ _
+    (c .before .before .before .before .before .before .before .before .before .self .given .1)
+    (c .shut .ensures) (c .before .before .before .before .before .last .ensures)
 
 returns-2 : tie.Need-returns-2
 returns-2 c = close-refused _ _ _ _ _ _ (c .before .self2 .given .1)

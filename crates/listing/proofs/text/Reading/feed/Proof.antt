@@ -45,7 +45,11 @@ module _ (size : ℕ) where
   feed-end s t i h = rw (drop-of-length-le t h)
 
 abbrev Inv-loop : tie.InvT-loop
-Inv-loop bytes line₀ image₀ map₀ reading₀ i₀ line image map reading i = (i ≤ length bytes) × (length line ≡ length line₀) × (length image ≡ length image₀) × (length map ≡ length map₀) × (feedOf flashSize (state (paperReading reading) line image map) (drop i bytes) ≡ feedOf flashSize (state (paperReading reading₀) line₀ image₀ map₀) bytes)
+Inv-loop bytes line₀ image₀ map₀ reading₀ i₀ line image map reading i =
+    (i ≤ length bytes) × (length line ≡ length line₀) × (length image ≡ length image₀) ×
+    (length map ≡ length map₀) ×
+    (feedOf flashSize (state (paperReading reading) line image map) (drop i bytes) ≡ feedOf flashSize
+    (state (paperReading reading₀) line₀ image₀ map₀) bytes)
 
 abbrev μ-loop : tie.MeasureT-loop
 μ-loop bytes line₀ image₀ map₀ reading₀ i₀ line image map reading i = length bytes - i
@@ -81,7 +85,19 @@ loop-less : tie.Need-loop-less Inv-loop μ-loop
 loop-less c = search needs
 
 loop-again : tie.Need-loop-again Inv-loop μ-loop
-loop-again c = (search needs, search needs, search needs, search needs, feed-next flashSize _ _ _ _ _ _ _ (c .before .before .before .before .before .before .before .before .before .before .before .before .before .before .before .before .before .loop-test .taken) (rest-lent (c .before .before .before .before .before .before .before .before .before .before .before .before .before .before .before .before .before .before .before .before .before .before .before .args .bytes .now) (c .before .before .before .before .before .before .before .before .before .before .before .before .before .before .before .before .before .before .loop .i)) (c .before .before .before .before .before .before .before .before .before .before .before .before .before .before .keep .ensures .0) (c .before .before .before .before .before .before .before .before .before .before .before .before .before .before .keep .ensures .1 _ _) (c .before .before .before .before .before .before .byte .ensures) ∙ c .before .before .before .before .before .before .before .before .before .before .before .before .before .before .before .before .before .before .loop .inv .4)
+loop-again c = (
+  search needs,
+  search needs,
+  search needs,
+  search needs,
+  feed-next flashSize _ _ _ _ _ _ _
+      (c .before .before .before .before .before .before .before .before .before .before .before .before .before .before .before .before .before .loop-test .taken)
+      (rest-lent (c .before .before .before .before .before .before .before .before .before .before .before .before .before .before .before .before .before .before .before .before .before .before .before .args .bytes .now) (c .before .before .before .before .before .before .before .before .before .before .before .before .before .before .before .before .before .before .loop .i))
+      (c .before .before .before .before .before .before .before .before .before .before .before .before .before .before .keep .ensures .0)
+      (c .before .before .before .before .before .before .before .before .before .before .before .before .before .before .keep .ensures .1 _ _)
+      (c .before .before .before .before .before .before .byte .ensures)
+      ∙ c .before .before .before .before .before .before .before .before .before .before .before .before .before .before .before .before .before .before .loop .inv .4,
+)
 
 same-length : tie.Need-same-length Inv-loop μ-loop
 same-length c = search needs

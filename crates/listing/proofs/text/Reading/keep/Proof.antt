@@ -34,7 +34,9 @@ same-length : tie.Need-same-length
 same-length c = search needs
 
 returns : tie.Need-returns
-returns c = keep-open _ _ _ _ _ _ _ _ (c .before .before .before .before .before .self .given .1) (c .before .before .keep .ensures)
+returns c =
+    keep-open _ _ _ _ _ _ _ _ (c .before .before .before .before .before .self .given .1)
+    (c .before .before .keep .ensures)
 
 returns-2 : tie.Need-returns-2
 returns-2 c = (search needs, λ image map. keep-refused _ _ _ _ image map (c .before .self2 .given .1))

@@ -21,7 +21,8 @@ enum-known-self-2 : tie.Need-enum-known-self-2
 enum-known-self-2 c = search needs
 
 returns : tie.Need-returns
-returns c = c .shut .ensures ∙ sym (ap (λ (r : Reading). shutOf (paperReading r)) (c .before .before .self .given .1))
+returns c =
+    c .shut .ensures ∙ sym (ap (λ (r : Reading). shutOf (paperReading r)) (c .before .before .self .given .1))
 
 returns-2 : tie.Need-returns-2
 returns-2 c = shut-stopped _ _ (ap paperReading (c .before .self2 .given .1))

@@ -20,7 +20,9 @@ same-length-2 : tie.Need-same-length-2
 same-length-2 c = search needs
 
 returns : tie.Need-returns
-returns c = shown 0 _ _ _ _ _ (c .before .hex .given .1) (c .before .before .before .before .before .before .before .start .ensures)
+returns c =
+    shown 0 _ _ _ _ _ (c .before .hex .given .1)
+    (c .before .before .before .before .before .before .before .start .ensures)
 
 same-length-3 : tie.Need-same-length-3
 same-length-3 c = search needs
@@ -29,7 +31,9 @@ same-length-4 : tie.Need-same-length-4
 same-length-4 c = search needs
 
 returns-2 : tie.Need-returns-2
-returns-2 c = shown 0 _ _ _ _ _ (c .before .refusal .given .1) (c .before .before .before .before .before .before .before .start .ensures)
+returns-2 c =
+    shown 0 _ _ _ _ _ (c .before .refusal .given .1)
+    (c .before .before .before .before .before .before .before .start .ensures)
 
 pub start-spec : {M : Type 1} → statement M
 start-spec =

@@ -18,7 +18,8 @@ module _ (size : ℕ) (t : Text) (b : ℕ) (line image map : List ℕ) where
       → Shown (nextLine t) p i m (settled (recordIn size (t .hex) l image map) image map)
       → state p line i m ≡ fedByte size t b line image map
   ended-by l i m p e el s =
-      fed-shown (nextLine t) p line i m (settled (recordIn size (t .hex) (trimmedOf (take (t .len) line)) image map) image map) (rw el at s)
+      fed-shown (nextLine t) p line i m
+      (settled (recordIn size (t .hex) (trimmedOf (take (t .len) line)) image map) image map) (rw el at s)
       ∙ sym (byte-ends size t b line image map e)
 
 kept-requires : tie.Need-kept-requires
@@ -40,7 +41,12 @@ same-length-3 : tie.Need-same-length-3
 same-length-3 c = search needs
 
 returns : tie.Need-returns
-returns c = ended-by _ _ _ _ _ _ _ _ _ _ (c .before .before .before .before .before .before .before .before .before .before .if1 .taken) (c .before .before .before .before .before .before .before .trimmed .ensures ∙ ap trimmedOf (c .before .before .before .before .before .before .before .before .kept .ensures)) (c .before .before .before .before .take .ensures)
+returns c =
+    ended-by _ _ _ _ _ _ _ _ _ _
+    (c .before .before .before .before .before .before .before .before .before .before .if1 .taken)
+    (c .before .before .before .before .before .before .before .trimmed .ensures
+    ∙ ap trimmedOf (c .before .before .before .before .before .before .before .before .kept .ensures))
+    (c .before .before .before .before .take .ensures)
 
 keep-one-requires : tie.Need-keep-one-requires
 keep-one-requires c κs = search needs
@@ -49,7 +55,9 @@ same-length-4 : tie.Need-same-length-4
 same-length-4 c = search needs
 
 returns-2 : tie.Need-returns-2
-returns-2 c = kept-by _ _ _ _ _ _ _ _ (c .before .before .before .before .before .if1 .left) (c .before .before .keep-one .ensures)
+returns-2 c =
+    kept-by _ _ _ _ _ _ _ _ (c .before .before .before .before .before .if1 .left)
+    (c .before .before .keep-one .ensures)
 
 pub byte-spec : {M : Type 1} → statement M
 byte-spec =

@@ -32,19 +32,24 @@ module _ (size : ℕ) where
 module _ (size : ℕ) (t : Text) (line bytes : List ℕ) where
   -- so many bytes are gone through, and n are kept
   abbrev Gone : ℕ → List ℕ → ℕ → Type 0
-  Gone n k i = (image map : List ℕ) → state (going (withKept t n)) k image map ≡ feedOf size (state (going t) line image map) (take i bytes)
+  Gone n k i =
+      (image map : List ℕ) → state (going (withKept t n)) k image map ≡ feedOf size
+      (state (going t) line image map) (take i bytes)
 
   gone-more : (n m i : ℕ) (k l : List ℕ) → i + 1 < length bytes → (getD bytes i 0 ≡ 0x0A → ⊥)
       → (m ≡ keepOneOf n k) × (l ≡ set k n (getD bytes i 0)) → Gone n k i → Gone m l (i + 1)
   gone-more n m i k l h e f g image map =
-      feed-more size (state (going t) line image map) (state (going (withKept t n)) k image map) (state (going (withKept t m)) l image map) bytes i (omega arith) (g image map) (kept-by size (withKept t n) (getD bytes i 0) k image map m l e f)
+      feed-more size (state (going t) line image map) (state (going (withKept t n)) k image map)
+      (state (going (withKept t m)) l image map) bytes i (omega arith) (g image map)
+      (kept-by size (withKept t n) (getD bytes i 0) k image map m l e f)
 
   gone-kept : (n i j : ℕ) (k : List ℕ) (p : Progress) → (p ≡ going (withKept t n)) × (j ≡ i)
       → i ≤ length bytes - 1 → Gone n k i → Keeps size (going t) line bytes p k j
   gone-kept n i j k p e h g = rw (e .0, e .1) (h, g)
 
 abbrev Inv-loop : tie.InvT-loop
-Inv-loop self bytes line₀ len₀ i₀ line len i = (i ≤ length bytes - 1) × (length line ≡ length line₀) × Gone flashSize self line₀ bytes len line i
+Inv-loop self bytes line₀ len₀ i₀ line len i =
+    (i ≤ length bytes - 1) × (length line ≡ length line₀) × Gone flashSize self line₀ bytes len line i
 
 abbrev μ-loop : tie.MeasureT-loop
 μ-loop self bytes line₀ len₀ i₀ line len i = length bytes - i
@@ -66,7 +71,9 @@ same-length : tie.Need-same-length Inv-loop μ-loop
 same-length c = search needs
 
 returns : tie.Need-returns Inv-loop μ-loop
-returns c = gone-kept _ _ _ _ _ _ _ _ _ (c .stretch .ensures) (c .before .before .before .before .loop .inv .0) (c .before .before .before .before .loop .inv .2)
+returns c =
+    gone-kept _ _ _ _ _ _ _ _ _ (c .stretch .ensures) (c .before .before .before .before .loop .inv .0)
+    (c .before .before .before .before .loop .inv .2)
 
 shared-slice-read-keep-one : tie.Need-shared-slice-read-keep-one Inv-loop μ-loop
 shared-slice-read-keep-one c = search needs
@@ -81,7 +88,13 @@ loop-less : tie.Need-loop-less Inv-loop μ-loop
 loop-less c = search needs
 
 loop-again : tie.Need-loop-again Inv-loop μ-loop
-loop-again c = (search needs, search needs, gone-more _ _ _ _ _ _ _ _ _ (c .before .before .before .before .before .before .before .loop-test .taken) (c .before .before .before .before .before .if1 .left) (c .before .before .keep-one .ensures) (c .before .before .before .before .before .before .before .before .loop .inv .2))
+loop-again c = (
+  search needs,
+  search needs,
+  gone-more _ _ _ _ _ _ _ _ _ (c .before .before .before .before .before .before .before .loop-test .taken)
+      (c .before .before .before .before .before .if1 .left) (c .before .before .keep-one .ensures)
+      (c .before .before .before .before .before .before .before .before .loop .inv .2),
+)
 
 stretch-requires-2 : tie.Need-stretch-requires-2 Inv-loop μ-loop
 stretch-requires-2 c κs = search needs
@@ -90,7 +103,9 @@ same-length-2 : tie.Need-same-length-2 Inv-loop μ-loop
 same-length-2 c = search needs
 
 returns-2 : tie.Need-returns-2 Inv-loop μ-loop
-returns-2 c = gone-kept _ _ _ _ _ _ _ _ _ (c .stretch2 .ensures) (c .before .before .loop .inv .0) (c .before .before .loop .inv .2)
+returns-2 c =
+    gone-kept _ _ _ _ _ _ _ _ _ (c .stretch2 .ensures) (c .before .before .loop .inv .0)
+    (c .before .before .loop .inv .2)
 
 pub keep-spec : {M : Type 1} → statement M
 keep-spec =

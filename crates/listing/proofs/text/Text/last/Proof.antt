@@ -22,7 +22,10 @@ module _ (size : ℕ) (t : Text) (line image map : List ℕ) where
       → Shown (nextLine t) p i m (settled (recordIn size (t .hex) l image map) image map)
       → state p line i m ≡ lastOf size t line image map
   unfolding lastOf
-  last-line l i m p n el s = rw (ne-eqb _ _ n) (fed-shown (nextLine t) p line i m (settled (recordIn size (t .hex) (take (t .len) line) image map) image map) (rw el at s))
+  last-line l i m p n el s =
+      rw (ne-eqb _ _ n)
+      (fed-shown (nextLine t) p line i m
+      (settled (recordIn size (t .hex) (take (t .len) line) image map) image map) (rw el at s))
 
 returns : tie.Need-returns
 returns c = last-none _ _ _ _ _ (c .if1 .taken)
@@ -40,7 +43,10 @@ same-length-2 : tie.Need-same-length-2
 same-length-2 c = search needs
 
 returns-2 : tie.Need-returns-2
-returns-2 c = last-line _ _ _ _ _ _ _ _ _ (c .before .before .before .before .before .before .before .before .if1 .left) (c .before .before .before .before .before .before .before .kept .ensures) (c .before .before .before .before .take .ensures)
+returns-2 c =
+    last-line _ _ _ _ _ _ _ _ _ (c .before .before .before .before .before .before .before .before .if1 .left)
+    (c .before .before .before .before .before .before .before .kept .ensures)
+    (c .before .before .before .before .take .ensures)
 
 pub last-spec : {M : Type 1} → statement M
 last-spec =

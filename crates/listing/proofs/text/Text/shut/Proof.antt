@@ -28,7 +28,9 @@ returns : tie.Need-returns
 returns c = shut-by _ _ (sym (ap paperRead (c .enum-told .given .1)) ∙ c .before .before .close .ensures)
 
 returns-2 : tie.Need-returns-2
-returns-2 c = shut-by _ _ (sym (ap paperRead (c .before .refusal .given .1)) ∙ c .before .before .before .close .ensures)
+returns-2 c =
+    shut-by _ _ (sym (ap paperRead (c .before .refusal .given .1))
+    ∙ c .before .before .before .close .ensures)
 
 pub shut-spec : {M : Type 1} → statement M
 shut-spec = tie.close (tie.spec close-requires enum-told enum-known-refusal returns returns-2)

@@ -35,7 +35,10 @@ same-length-2 : tie.Need-same-length-2
 same-length-2 c = search needs
 
 returns : tie.Need-returns
-returns c = took _ _ (c .before .before .before .before .before .before .before .before .before .before .wrapping-add-u64 .ensures) _ _ _ _ _ (c .before .next .given .1) (c .before .before .before .before .before .before .before .«record» .ensures)
+returns c =
+    took _ _ (c .before .before .before .before .before .before .before .before .before .before .wrapping-add-u64 .ensures)
+    _ _ _ _ _ (c .before .next .given .1)
+    (c .before .before .before .before .before .before .before .«record» .ensures)
 
 same-length-3 : tie.Need-same-length-3
 same-length-3 c = search needs
@@ -44,7 +47,10 @@ same-length-4 : tie.Need-same-length-4
 same-length-4 c = search needs
 
 returns-2 : tie.Need-returns-2
-returns-2 c = took _ _ (c .before .before .before .before .before .before .before .before .before .before .wrapping-add-u64 .ensures) _ _ _ _ _ (c .before .refusal .given .1) (c .before .before .before .before .before .before .before .«record» .ensures)
+returns-2 c =
+    took _ _ (c .before .before .before .before .before .before .before .before .before .before .wrapping-add-u64 .ensures)
+    _ _ _ _ _ (c .before .refusal .given .1)
+    (c .before .before .before .before .before .before .before .«record» .ensures)
 
 pub take-spec : {M : Type 1} → statement M
 take-spec =

@@ -25,7 +25,9 @@ shr-if1 : tie.Need-shr-if1 Inv-loop μ-loop
 shr-if1 c = omega arith
 
 returns : tie.Need-returns Inv-loop μ-loop
-returns c = sym (c .before .before .loop .inv .1 ∙ any-here _ _ _ (c .before .loop-test .taken) (eq-eqb _ 1 (c .if1 .taken)))
+returns c =
+    sym (c .before .before .loop .inv .1
+    ∙ any-here _ _ _ (c .before .loop-test .taken) (eq-eqb _ 1 (c .if1 .taken)))
 
 add-g : tie.Need-add-g Inv-loop μ-loop
 add-g c = omega arith
@@ -34,7 +36,11 @@ loop-less : tie.Need-loop-less Inv-loop μ-loop
 loop-less c = omega arith
 
 loop-again : tie.Need-loop-again Inv-loop μ-loop
-loop-again c = (c .before .before .loop .inv .0, c .before .before .loop .inv .1 ∙ any-on _ _ _ (c .before .loop-test .taken) (ne-eqb _ 1 (c .if1 .left)))
+loop-again c = (
+  c .before .before .loop .inv .0,
+  c .before .before .loop .inv .1
+      ∙ any-on _ _ _ (c .before .loop-test .taken) (ne-eqb _ 1 (c .if1 .left)),
+)
 
 returns-2 : tie.Need-returns-2 Inv-loop μ-loop
 returns-2 c = sym (c .before .loop .inv .1 ∙ any-end _ _ _ (c .loop-test .left))

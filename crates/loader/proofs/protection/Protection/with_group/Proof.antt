@@ -17,7 +17,8 @@ shl-t4 c = search needs
 
 returns : tie.Need-returns
 returns c = let a = c .before .before .args in
-    let e : 1 * 2 ^ (a .group .0) % 2 ^ 64 ≡ 2 ^ (a .group .0) = shl-exact 1 (a .group .0) 64 (omega arith) (omega arith) ∙ one-mul (2 ^ (a .group .0)) in
+    let e : 1 * 2 ^ (a .group .0) % 2 ^ 64 ≡ 2 ^ (a .group .0) = shl-exact 1 (a .group .0) 64 (omega arith)
+    (omega arith) ∙ one-mul (2 ^ (a .group .0)) in
     ap (λ (x : ℕ). record { groups = bitOr (a .self .groups) x; read = a .self .read }) e
 
 pub with-group-spec : {M : Type 1} → statement M

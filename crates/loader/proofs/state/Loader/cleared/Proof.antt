@@ -8,7 +8,13 @@ none-requires : tie.Need-none-requires
 none-requires c κs = search needs
 
 returns : tie.Need-returns
-returns c = λ i. record { condition = c .before .before .args .self .condition; sequence = c .before .before .args .self .sequence; protection = c .none .ensures i; key = clearedKey }
+returns c =
+    λ i. record {
+      condition = c .before .before .args .self .condition;
+      sequence = c .before .before .args .self .sequence;
+      protection = c .none .ensures i;
+      key = clearedKey;
+    }
 
 pub cleared-spec : {M : Type 1} → statement M
 cleared-spec = tie.close (tie.spec none-requires returns)

@@ -12,7 +12,13 @@ none-requires : tie.Need-none-requires
 none-requires c κs = search needs
 
 returns : tie.Need-returns
-returns c = λ i. record { condition = Waiting; sequence = c .before .closed .ensures i; protection = c .none .ensures i; key = clearedKey }
+returns c =
+    λ i. record {
+      condition = Waiting;
+      sequence = c .before .closed .ensures i;
+      protection = c .none .ensures i;
+      key = clearedKey;
+    }
 
 pub factory-spec : {M : Type 1} → statement M
 factory-spec = tie.close (tie.spec closed-requires none-requires returns)

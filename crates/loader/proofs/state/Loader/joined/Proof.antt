@@ -10,7 +10,13 @@ join-requires : tie.Need-join-requires
 join-requires c κs = search needs
 
 returns : tie.Need-returns
-returns c = λ i. record { condition = c .before .before .before .before .before .args .self .condition; sequence = c .before .closed .ensures i; protection = c .join .ensures i; key = c .before .before .before .before .before .args .key }
+returns c =
+    λ i. record {
+      condition = c .before .before .before .before .before .args .self .condition;
+      sequence = c .before .closed .ensures i;
+      protection = c .join .ensures i;
+      key = c .before .before .before .before .before .args .key;
+    }
 
 pub joined-spec : {M : Type 1} → statement M
 joined-spec = tie.close (tie.spec closed-requires join-requires returns)

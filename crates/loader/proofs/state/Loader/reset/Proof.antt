@@ -8,7 +8,13 @@ closed-requires : tie.Need-closed-requires
 closed-requires c κs = search needs
 
 returns : tie.Need-returns
-returns c = λ i. record { condition = Waiting; sequence = c .closed .ensures i; protection = c .before .before .args .self .protection; key = c .before .before .args .self .key }
+returns c =
+    λ i. record {
+      condition = Waiting;
+      sequence = c .closed .ensures i;
+      protection = c .before .before .args .self .protection;
+      key = c .before .before .args .self .key;
+    }
 
 pub reset-spec : {M : Type 1} → statement M
 reset-spec = tie.close (tie.spec closed-requires returns)

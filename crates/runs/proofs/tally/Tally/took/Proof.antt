@@ -25,7 +25,11 @@ returns-2 : tie.Need-returns-2
 unfolding tookOf
 returns-2 c =
     let g = c .before .before .before .before .before .before .before .args in
-    rw (not-false (g .passes) (c .before .before .before .before .before .before .if1 .left), c .before .before .before .before .wrapped .ensures, eq-eqb (g .self .off) 0 (c .before .before .if2 .taken))
+    rw (
+      not-false (g .passes) (c .before .before .before .before .before .before .if1 .left),
+      c .before .before .before .before .wrapped .ensures,
+      eq-eqb (g .self .off) 0 (c .before .before .if2 .taken),
+    )
 
 add-t6 : tie.Need-add-t6
 add-t6 c = search needs
@@ -34,7 +38,11 @@ returns-3 : tie.Need-returns-3
 unfolding tookOf
 returns-3 c =
     let g = c .before .before .before .before .before .before .args in
-    rw (not-false (g .passes) (c .before .before .before .before .before .if1 .left), c .before .before .before .wrapped .ensures, ne-eqb (g .self .off) 0 (c .before .if2 .left))
+    rw (
+      not-false (g .passes) (c .before .before .before .before .before .if1 .left),
+      c .before .before .before .wrapped .ensures,
+      ne-eqb (g .self .off) 0 (c .before .if2 .left),
+    )
 
 pub took-spec : {M : Type 1} → statement M
 took-spec =

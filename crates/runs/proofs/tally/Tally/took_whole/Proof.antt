@@ -20,7 +20,8 @@ sub-t6 : tie.Need-sub-t6
 sub-t6 c =
     let g = c .before .before .before .args in
     let j = c .before .before .joins in
-    word-whole (g .cap) (2 ^ 64 - 1) (g .self) (omega arith) (omega arith) (omega arith) refl (j .result) (j .ensures) .0
+    word-whole (g .cap) (2 ^ 64 - 1) (g .self) (omega arith) (omega arith) (omega arith) refl (j .result)
+    (j .ensures) .0
 
 add-cut : tie.Need-add-cut
 add-cut c = search needs
@@ -32,7 +33,8 @@ returns : tie.Need-returns
 returns c =
     let g = c .before .before .before .before .before .args in
     let j = c .before .before .before .before .joins in
-    word-whole (g .cap) (2 ^ 64 - 1) (g .self) (omega arith) (omega arith) (omega arith) refl (j .result) (j .ensures) .1 (c .cut .result) (c .cut .ensures)
+    word-whole (g .cap) (2 ^ 64 - 1) (g .self) (omega arith) (omega arith) (omega arith) refl (j .result)
+    (j .ensures) .1 (c .cut .result) (c .cut .ensures)
 
 pub took-whole-spec : {M : Type 1} → statement M
 took-whole-spec =

@@ -36,19 +36,28 @@ sub-t13 : tie.Need-sub-t13
 sub-t13 c =
     let g = c .before .before .before .before .before .args in
     let j = c .before .before .joins in
-    omega (arith, word-runs (g .cap) (g .word) (g .self) (omega arith) (omega arith) (omega arith) (j .result) (j .ensures))
+    omega (
+      arith,
+      word-runs (g .cap) (g .word) (g .self) (omega arith) (omega arith) (omega arith) (j .result)
+          (j .ensures),
+    )
 
 sub-t14 : tie.Need-sub-t14
 sub-t14 c =
     let g = c .before .before .before .before .before .args in
     let j = c .before .before .joins in
-    omega (arith, word-runs (g .cap) (g .word) (g .self) (omega arith) (omega arith) (omega arith) (j .result) (j .ensures))
+    omega (
+      arith,
+      word-runs (g .cap) (g .word) (g .self) (omega arith) (omega arith) (omega arith) (j .result)
+          (j .ensures),
+    )
 
 returns-3 : tie.Need-returns-3
 returns-3 c =
     let g = c .before .before .before .before .before .args in
     let j = c .before .before .joins in
-    word-mixed (g .cap) (g .word) (g .self) (omega arith) (omega arith) (omega arith) (j .result) (j .ensures) (c .before .before .before .if2 .left)
+    word-mixed (g .cap) (g .word) (g .self) (omega arith) (omega arith) (omega arith) (j .result) (j .ensures)
+    (c .before .before .before .if2 .left)
 
 pub took-word-spec : {M : Type 1} → statement M
 took-word-spec =

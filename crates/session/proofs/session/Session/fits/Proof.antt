@@ -1,7 +1,9 @@
--- `fits` meets its contract: each test is one of the definition's, and the survey tells the rank of the cursor.
+-- `fits` meets its contract: each test is one of the
+-- definition's, and the survey tells the rank of the cursor.
 use mathlib.Core.Path.{_≡_, ap, _∙_}
 use native.Mathlib.Omega.{arith}
 use borrow.Author.Needs.{needs}
+use Rattle.basis.specs.Board.{pages}
 use Rattle.runs.specs.Survey.{surveyOf}
 use Rattle.session.specs.Phases.{placeOf}
 use Rattle.session.specs.Session.{fitsOf}
@@ -20,45 +22,57 @@ survey-at c = c .before .before .before .before .before .before .before .before 
 
 -- the survey is of the lent map, at the cursor's place
 surveyed : (s : tie.After-survey)
-    → s .survey .result ≡ surveyOf (entry s .args .map .now) (placeOf (entry s .args .self .phase))
-surveyed s = s .survey .ensures ∙ ap (surveyOf (entry s .args .map .now)) (s .before .before .before .place .ensures)
+    → s .survey .result
+    ≡ surveyOf pages (entry s .args .map .now) (placeOf pages (entry s .args .self .phase))
+surveyed s =
+    s .survey .ensures
+    ∙ ap (surveyOf pages (entry s .args .map .now)) (s .before .before .before .place .ensures)
 
 -- past the tests of the counts the phase decides, by what the survey says of it
 decided : (c : tie.Else4) (ph : Phase) → entry (survey-at c) .args .self .phase ≡ ph
     → standsBy (survey-at c .survey .result) ph (entry (survey-at c) .args .self .acknowledged)
-    ≡ fitsOf (entry (survey-at c) .args .map .now) (entry (survey-at c) .args .self)
+    ≡ fitsOf pages (entry (survey-at c) .args .map .now) (entry (survey-at c) .args .self)
 decided c ph q =
     let s = survey-at c in
     fits-place (entry s .args .map .now) (entry s .args .self) (surveyed s)
-    (c .before .before .before .before .before .before .if2 .left) (c .before .before .before .if3 .left) _ (c .before .before .total .ensures) (c .if4 .left)
+    (c .before .before .before .before .before .before .if2 .left) (c .before .before .before .if3 .left) _
+    (c .before .before .total .ensures) (c .if4 .left)
     (omega (arith, s .before .before .before .place .ensures, s .before .if1 .left)) ph q
 
 -- what is summed there fits
-few : (s : tie.After-survey) → Told (entry s .args .map .now) (s .before .before .before .place .result .0) (s .survey .result)
+few : (s : tie.After-survey)
+    → Told (entry s .args .map .now) (s .before .before .before .place .result .0) (s .survey .result)
 few s = told (entry s .args .map .now) (s .before .before .before .place .result .0) (s .survey .ensures)
 
 place-requires : tie.Need-place-requires
 place-requires c κs = search needs
 
 returns : tie.Need-returns
-returns c = let s = c .before .before .before .before in fits-past (s .args .map .now) (s .pre) (s .args .self) (omega (arith, c .before .before .place .ensures))
+returns c =
+    let s = c .before .before .before .before in
+    fits-past (s .args .map .now) (s .pre) (s .args .self) (omega (arith, c .before .before .place .ensures))
 
 survey-requires : tie.Need-survey-requires
 survey-requires c κs = search needs
 
 returns-2 : tie.Need-returns-2
-returns-2 c = let s = c .before .before .before .before in fits-empty (entry s .args .map .now) (entry s .args .self) (surveyed s) (c .if2 .taken)
+returns-2 c =
+    let s = c .before .before .before .before in
+    fits-empty (entry s .args .map .now) (entry s .args .self) (surveyed s) (c .if2 .taken)
 
 returns-3 : tie.Need-returns-3
 returns-3 c = let s = c .before .before .before .before .before .before .before in
-    fits-named (entry s .args .map .now) (entry s .args .self) (surveyed s) (c .before .before .before .if2 .left) (c .if3 .taken)
+    fits-named (entry s .args .map .now) (entry s .args .self) (surveyed s)
+    (c .before .before .before .if2 .left) (c .if3 .taken)
 
 total-requires : tie.Need-total-requires
-total-requires c κs = let t = few (c .before .before .before .before .before .before .before) in (t .runs-few, t .pieces-few)
+total-requires c κs =
+    let t = few (c .before .before .before .before .before .before .before) in (t .runs-few, t .pieces-few)
 
 returns-4 : tie.Need-returns-4
 returns-4 c = let s = c .before .before .before .before .before .before .before .before .before .before in
-    fits-total (entry s .args .map .now) (entry s .args .self) (surveyed s) (c .before .before .before .before .before .before .if2 .left) (c .before .before .before .if3 .left) _
+    fits-total (entry s .args .map .now) (entry s .args .self) (surveyed s)
+    (c .before .before .before .before .before .before .if2 .left) (c .before .before .before .if3 .left) _
     (c .before .before .total .ensures) (c .if4 .taken)
 
 enum-told : tie.Need-enum-told
@@ -74,7 +88,8 @@ enum-told-3 : tie.Need-enum-told-3
 enum-told-3 c = search needs
 
 add-ranked : tie.Need-add-ranked
-add-ranked c = let s = survey-at (c .before .before .before .before) in omega (arith, few s, s .before .if1 .left)
+add-ranked c =
+    let s = survey-at (c .before .before .before .before) in omega (arith, few s, s .before .if1 .left)
 
 ranked-requires-2 : tie.Need-ranked-requires-2
 ranked-requires-2 c κs = search needs
@@ -86,7 +101,8 @@ add-ranked-2 : tie.Need-add-ranked-2
 add-ranked-2 c = search needs
 
 add-ranked-3 : tie.Need-add-ranked-3
-add-ranked-3 c = let s = survey-at (c .before .before .before .before) in omega (arith, few s, s .before .if1 .left)
+add-ranked-3 c =
+    let s = survey-at (c .before .before .before .before) in omega (arith, few s, s .before .if1 .left)
 
 ranked-requires-3 : tie.Need-ranked-requires-3
 ranked-requires-3 c κs = search needs
@@ -110,10 +126,14 @@ returns-6 : tie.Need-returns-6
 returns-6 c = c .ranked .ensures ∙ decided (c .before .before .before) _ (c .before .enum-told2 .given .1)
 
 returns-7 : tie.Need-returns-7
-returns-7 c = c .ranked2 .ensures ∙ decided (c .before .before .before .before .before) _ (c .before .before .before .enum-told3 .given .1)
+returns-7 c =
+    c .ranked2 .ensures
+    ∙ decided (c .before .before .before .before .before) _ (c .before .before .before .enum-told3 .given .1)
 
 returns-8 : tie.Need-returns-8
-returns-8 c = c .ranked3 .ensures ∙ decided (c .before .before .before .before .before) _ (c .before .before .before .enum-told4 .given .1)
+returns-8 c =
+    c .ranked3 .ensures
+    ∙ decided (c .before .before .before .before .before) _ (c .before .before .before .enum-told4 .given .1)
 
 returns-9 : tie.Need-returns-9
 returns-9 c = decided (c .before .before .before .before) _ (c .before .before .enum-told5 .given .1)

@@ -1,6 +1,7 @@
 -- `heard` meets its contract, verdict by verdict.
 use mathlib.Core.Path.{sym, ap, _∙_}
 use borrow.Author.Needs.{needs}
+use Rattle.basis.specs.Board.{pages}
 use Rattle.session.specs.Session.{movedOf, heardOf}
 use Rattle.session.specs.declared.phase.Phase.{Phase}
 use Rattle.session.proofs.session.Session.heard.Statement.{statement}
@@ -31,13 +32,22 @@ moved-requires-3 : tie.Need-moved-requires-3
 moved-requires-3 c κs = search needs
 
 returns : tie.Need-returns
-returns c = let s = c .before .before .before .before .before .args in c .moved .ensures ∙ ap (λ (x : Phase). movedOf (s .self) x 0) (c .before .after .ensures) ∙ sym (ap (heardOf (s .map .now) (s .self)) (c .before .before .enum-told .given .1))
+returns c =
+    let s = c .before .before .before .before .before .args in
+    c .moved .ensures ∙ ap (λ (x : Phase). movedOf (s .self) x 0) (c .before .after .ensures)
+    ∙ sym (ap (heardOf pages (s .map .now) (s .self)) (c .before .before .enum-told .given .1))
 
 returns-2 : tie.Need-returns-2
-returns-2 c = let s = c .before .before .before .before .before .args in c .moved2 .ensures ∙ ap (λ (x : Phase). movedOf (s .self) x 1) (c .before .after2 .ensures) ∙ sym (ap (heardOf (s .map .now) (s .self)) (c .before .before .enum-told2 .given .1))
+returns-2 c =
+    let s = c .before .before .before .before .before .args in
+    c .moved2 .ensures ∙ ap (λ (x : Phase). movedOf (s .self) x 1) (c .before .after2 .ensures)
+    ∙ sym (ap (heardOf pages (s .map .now) (s .self)) (c .before .before .enum-told2 .given .1))
 
 returns-3 : tie.Need-returns-3
-returns-3 c = let s = c .before .before .before .before .before .args in c .moved3 .ensures ∙ sym (ap (heardOf (s .map .now) (s .self)) (c .before .before .meaning .given .1))
+returns-3 c =
+    let s = c .before .before .before .before .before .args in
+    c .moved3 .ensures
+    ∙ sym (ap (heardOf pages (s .map .now) (s .self)) (c .before .before .meaning .given .1))
 
 pub heard-spec : {M : Type 1} → statement M
 heard-spec =

@@ -32,7 +32,9 @@ named-requires : tie.Need-named-requires
 named-requires c κs = search needs
 
 returns-3 : tie.Need-returns-3
-returns-3 c = mark-unnamed _ _ _ (c .before .before .before .before .if1 .left) (sym (c .before .named .ensures) ∙ not-true _ (c .if3 .taken))
+returns-3 c =
+    mark-unnamed _ _ _ (c .before .before .before .before .if1 .left)
+    (sym (c .before .named .ensures) ∙ not-true _ (c .if3 .taken))
 
 survey-requires : tie.Need-survey-requires
 survey-requires c κs = search needs
@@ -42,24 +44,37 @@ one-requires c κs = search needs
 
 add-pieces : tie.Need-add-pieces
 add-pieces c = let s = c .before .before .before .before in
-    omega (arith, rank-few (entry s .args .map .now) (entry s .args .address .0) (s .survey .ensures) (c .before .one .ensures) (s .before .before .before .if2 .left))
+    omega (
+      arith,
+      rank-few (entry s .args .map .now) (entry s .args .address .0) (s .survey .ensures)
+          (c .before .one .ensures) (s .before .before .before .if2 .left),
+    )
 
 add-if4 : tie.Need-add-if4
-add-if4 c = let s = c .before .before .before .before .before in omega (arith, told (entry s .args .map .now) (entry s .args .address .0) (s .survey .ensures))
+add-if4 c =
+    let s = c .before .before .before .before .before in
+    omega (arith, told (entry s .args .map .now) (entry s .args .address .0) (s .survey .ensures))
 
 add-if4-2 : tie.Need-add-if4-2
 add-if4-2 c = let s = c .before .before .before .before .before in
     let m = entry s .args .map .now in
     let a = entry s .args .address .0 in
-    omega (arith, told m a (s .survey .ensures), rank-few m a (s .survey .ensures) (c .before .before .one .ensures) (s .before .before .before .if2 .left))
+    omega (
+      arith,
+      told m a (s .survey .ensures),
+      rank-few m a (s .survey .ensures) (c .before .before .one .ensures)
+          (s .before .before .before .if2 .left),
+    )
 
 returns-4 : tie.Need-returns-4
 returns-4 c = let s = c .before .before .before .before .before .before .before in
-    mark-unproved _ _ _ (long s) (s .survey .ensures) (c .before .before .before .before .one .ensures) (is-named s) (c .if4 .taken)
+    mark-unproved _ _ _ (long s) (s .survey .ensures) (c .before .before .before .before .one .ensures)
+    (is-named s) (c .if4 .taken)
 
 returns-5 : tie.Need-returns-5
 returns-5 c = let s = c .before .before .before .before .before .before .before in
-    mark-proved _ _ _ (long s) (s .survey .ensures) (c .before .before .before .before .one .ensures) (is-named s) (c .if4 .left)
+    mark-proved _ _ _ (long s) (s .survey .ensures) (c .before .before .before .before .one .ensures)
+    (is-named s) (c .if4 .left)
 
 pub proved-spec : {M : Type 1} → statement M
 proved-spec =

@@ -3,10 +3,11 @@ use mathlib.Core.Path.{ap, _∙_}
 use native.Mathlib.Omega.{arith}
 use borrow.Author.Needs.{needs}
 use lib.ListN.{length}
+use Rattle.basis.specs.Board.{pages}
 use Rattle.basis.specs.Lists.{overlay}
 use Rattle.session.specs.Laws.Fits.{fitting, took-start}
 use Rattle.session.specs.Laws.Phases.{stands-below, stands-start}
-use Rattle.session.specs.Laws.Totals.{total-fits}
+use Rattle.session.specs.Laws.Totals.{total-most}
 use Rattle.session.specs.Phases.{atStart, packetOut}
 use Rattle.session.specs.declared.session.Session.{Session}
 use Rattle.session.proofs.session.Session.sent.Statement.{statement}
@@ -16,13 +17,25 @@ took-requires : tie.Need-took-requires
 took-requires c κs = let s = c .before .before .before in
     let m = s .args .map .now in
     let x = s .args .self in
-    let f = fitting m x (s .pre .3) in
-    (s .pre .1, stands-start m (s .pre .1) (x .phase) (x .acknowledged) (f .stands), omega (arith, stands-below m (s .pre .1) (x .phase) (x .acknowledged) (f .stands), total-fits m))
+    let f = fitting pages m x (s .pre .3) in (
+      s .pre .1,
+      stands-start pages m (s .pre .1) (x .phase) (x .acknowledged) (f .stands),
+      omega (
+        arith,
+        stands-below pages m (s .pre .1) (x .phase) (x .acknowledged) (f .stands),
+        total-most pages m,
+      ),
+    )
 
 send-requires : tie.Need-send-requires
 send-requires c κs = let s = c .before .before .before .before .before in
-    let m = s .args .map .now in
-    (s .pre .0, s .pre .1, s .pre .2, ap (λ (x : Session). atStart m (x .phase)) (c .before .took .ensures) ∙ took-start m (s .pre .1) (s .args .self) (s .args .event) (s .pre .3))
+    let m = s .args .map .now in (
+      s .pre .0,
+      s .pre .1,
+      s .pre .2,
+      ap (λ (x : Session). atStart pages m (x .phase)) (c .before .took .ensures)
+          ∙ took-start pages m (s .pre .1) (s .args .self) (s .args .event) (s .pre .3),
+    )
 
 same-length : tie.Need-same-length
 same-length c = search needs
@@ -31,8 +44,12 @@ returns : tie.Need-returns
 returns c = let s = c .before .before .before .before .before .before .before .before .args in
     let e = c .before .before .before .before .took .ensures in (
       e,
-      c .before .before .send .ensures .0 ∙ ap (λ (x : Session). length (packetOut (s .image .now) (s .map .now) (s .self .kind) (x .phase))) e,
-      c .before .before .send .ensures .1 ∙ ap (λ (x : Session). overlay (packetOut (s .image .now) (s .map .now) (s .self .kind) (x .phase)) (s .buffer .now)) e,
+      c .before .before .send .ensures .0
+          ∙ ap (λ (x : Session). length
+          (packetOut pages (s .image .now) (s .map .now) (s .self .kind) (x .phase))) e,
+      c .before .before .send .ensures .1
+          ∙ ap (λ (x : Session). overlay
+          (packetOut pages (s .image .now) (s .map .now) (s .self .kind) (x .phase)) (s .buffer .now)) e,
     )
 
 pub sent-spec : {M : Type 1} → statement M

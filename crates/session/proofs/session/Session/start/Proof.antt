@@ -8,7 +8,7 @@ use borrow.Author.Needs.{needs}
 use borrow.Author.Tests.{not-true, not-false}
 use lib.ListN.{length}
 use lib.Seq.{set-split}
-use Rattle.basis.specs.Board.{flashSize, mapSize, openingByte}
+use Rattle.basis.specs.Board.{flashSize, mapSize, openingByte, pages}
 use Rattle.packet.specs.Packet.{packetMost}
 use Rattle.runs.specs.Survey.{surveyOf}
 use Rattle.runs.specs.declared.survey.Surveyed.{Surveyed}
@@ -23,11 +23,13 @@ use Rattle.session.proofs.session.Session.start.Statement.{statement}
 use Rattle.session.proofs.session.Session.start.Tie as tie
 
 -- what a start makes of a survey is the session that waits
-opened : (m : List ℕ) (kind : RunKind) {f : Surveyed} {n : ℕ} → f ≡ surveyOf m 0 → n ≡ f .all .runs + 2 * f .all .pieces + 1
-    → record { kind = kind; phase = Phase.Greeting; acknowledged = 0; total = n; named = f .all .named } ≡ atGreeting m kind
+opened : (m : List ℕ) (kind : RunKind) {f : Surveyed} {n : ℕ} → f ≡ surveyOf pages m 0
+    → n ≡ f .all .runs + 2 * f .all .pieces + 1
+    → record { kind = kind; phase = Phase.Greeting; acknowledged = 0; total = n; named = f .all .named }
+    ≡ atGreeting pages m kind
 opened m kind {f} {n} e g =
     let t = told m 0 e in
-    let p : n ≡ total m = omega (arith, t .runs, t .pieces) in
+    let p : n ≡ total pages m = omega (arith, t .runs, t .pieces) in
     let q = t .bytes in
     λ i. record { kind = kind; phase = Phase.Greeting; acknowledged = 0; total = p i; named = q i }
 
@@ -35,12 +37,17 @@ opened m kind {f} {n} e g =
 abbrev entry : tie.Else1 → tie.Start
 entry c = c .before .before .before .before .before
 
-sized : (c : tie.Else1) → let a = entry c .args in rightSizes (length (a .image .now)) (length (a .map .now)) (length (a .buffer .now)) ≡ true
+sized : (c : tie.Else1)
+    → let a = entry c .args in rightSizes pages (length (a .image .now)) (length (a .map .now))
+    (length (a .buffer .now)) ≡ true
 sized c = sym (c .before .right-sizes .ensures) ∙ not-false _ (c .if1 .left)
 
 right : (c : tie.Else1) → let a = entry c .args in
-    (length (a .image .now) ≡ flashSize) × (length (a .map .now) ≡ mapSize) × (packetMost ≤ length (a .buffer .now))
-right c = let a = entry c .args in sizes-right (length (a .image .now)) (length (a .map .now)) (length (a .buffer .now)) (sized c)
+    (length (a .image .now) ≡ flashSize) × (length (a .map .now) ≡ mapSize) ×
+    (packetMost ≤ length (a .buffer .now))
+right c =
+    let a = entry c .args in
+    sizes-right pages (length (a .image .now)) (length (a .map .now)) (length (a .buffer .now)) (sized c)
 
 tells : (s : tie.After-survey) → Told (entry (s .before) .args .map .now) 0 (s .survey .result)
 tells s = told (entry (s .before) .args .map .now) 0 (s .survey .ensures)
@@ -49,13 +56,18 @@ right-sizes-requires : tie.Need-right-sizes-requires
 right-sizes-requires c κs = search needs
 
 returns : tie.Need-returns
-returns c = left-alone _ (start-size _ _ _ _ (sym (c .before .right-sizes .ensures) ∙ not-true _ (c .if1 .taken)))
+returns c =
+    left-alone _
+    (start-size pages _ _ _ _ (sym (c .before .right-sizes .ensures) ∙ not-true _ (c .if1 .taken)))
 
 survey-requires : tie.Need-survey-requires
 survey-requires c κs = (right c .1, omega arith)
 
 returns-2 : tie.Need-returns-2
-returns-2 c = left-alone _ (start-empty _ _ _ _ (sized (c .before .before .before .before)) (sym (tells (c .before .before .before) .bytes) ∙ c .if2 .taken))
+returns-2 c =
+    left-alone _
+    (start-empty pages _ _ _ _ (sized (c .before .before .before .before))
+    (sym (tells (c .before .before .before) .bytes) ∙ c .if2 .taken))
 
 slice-write-buffer : tie.Need-slice-write-buffer
 slice-write-buffer c = omega (arith, right (c .before .before .before .before) .2)
@@ -72,7 +84,8 @@ returns-3 c = let e = c .before .before .before .before .before in
     let a = entry e .args in
     let m = a .map .now in
     handed _ _ _
-    (start-given (a .image .now) m (length (a .buffer .now)) (a .kind) (sized e) (λ q. c .before .if2 .left (tells s .bytes ∙ q)))
+    (start-given pages (a .image .now) m (length (a .buffer .now)) (a .kind) (sized e)
+    (λ q. c .before .if2 .left (tells s .bytes ∙ q)))
     (opened m (a .kind) (s .survey .ensures) (c .total .ensures)) refl
     (set-split (a .buffer .now) 0 openingByte (omega (arith, right e .2)))
 

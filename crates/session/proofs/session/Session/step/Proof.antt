@@ -5,7 +5,7 @@ use mathlib.Core.Bool.{true, false}
 use borrow.Author.Needs.{needs}
 use borrow.Author.Tests.{not-true, not-false}
 use lib.ListN.{length}
-use Rattle.basis.specs.Board.{flashSize, mapSize}
+use Rattle.basis.specs.Board.{flashSize, mapSize, pages}
 use Rattle.packet.specs.Packet.{packetMost}
 use Rattle.session.specs.Laws.Steps.{step-size, step-ended, step-foreign, step-taken, sizes-right}
 use Rattle.session.specs.Phases.{ended}
@@ -18,52 +18,72 @@ use Rattle.session.proofs.session.Session.step.Tie as tie
 abbrev entry : tie.Else1 → tie.Start
 entry c = c .before .before .before .before .before .before
 
-sized : (c : tie.Else1) → let a = entry c .args in rightSizes (length (a .image .now)) (length (a .map .now)) (length (a .buffer .now)) ≡ true
+sized : (c : tie.Else1)
+    → let a = entry c .args in rightSizes pages (length (a .image .now)) (length (a .map .now))
+    (length (a .buffer .now)) ≡ true
 sized c = sym (c .before .right-sizes .ensures) ∙ not-false _ (c .if1 .left)
 
 right : (c : tie.Else1) → let a = entry c .args in
-    (length (a .image .now) ≡ flashSize) × (length (a .map .now) ≡ mapSize) × (packetMost ≤ length (a .buffer .now))
-right c = let a = entry c .args in sizes-right (length (a .image .now)) (length (a .map .now)) (length (a .buffer .now)) (sized c)
+    (length (a .image .now) ≡ flashSize) × (length (a .map .now) ≡ mapSize) ×
+    (packetMost ≤ length (a .buffer .now))
+right c =
+    let a = entry c .args in
+    sizes-right pages (length (a .image .now)) (length (a .map .now)) (length (a .buffer .now)) (sized c)
 
 going : (c : tie.Else2) → ended (entry (c .before .before) .args .self .phase) ≡ false
 going c = sym (c .before .ended .ensures) ∙ c .if2 .left
 
-fitted : (c : tie.Else3) → let a = entry (c .before .before .before .before) .args in fitsOf (a .map .now) (a .self) ≡ true
+fitted : (c : tie.Else3)
+    → let a = entry (c .before .before .before .before) .args in fitsOf pages (a .map .now) (a .self) ≡ true
 fitted c = sym (c .before .fits2 .ensures) ∙ not-false _ (c .if3 .left)
 
 right-sizes-requires : tie.Need-right-sizes-requires
 right-sizes-requires c κs = search needs
 
 returns : tie.Need-returns
-returns c = left-alone _ (step-size _ _ _ _ _ (sym (c .before .right-sizes .ensures) ∙ not-true _ (c .if1 .taken)))
+returns c =
+    left-alone _
+    (step-size pages _ _ _ _ _ (sym (c .before .right-sizes .ensures) ∙ not-true _ (c .if1 .taken)))
 
 ended-requires : tie.Need-ended-requires
 ended-requires c κs = search needs
 
 returns-2 : tie.Need-returns-2
-returns-2 c = left-alone _ (step-ended _ _ _ _ _ (sized (c .before .before)) (sym (c .before .ended .ensures) ∙ c .if2 .taken))
+returns-2 c =
+    left-alone _
+    (step-ended pages _ _ _ _ _ (sized (c .before .before)) (sym (c .before .ended .ensures) ∙ c .if2 .taken))
 
 fits-requires : tie.Need-fits-requires
 fits-requires c κs = right (c .before .before) .1
 
 returns-3 : tie.Need-returns-3
-returns-3 c = left-alone _ (step-foreign _ _ _ _ _ (sized (c .before .before .before .before)) (going (c .before .before)) (sym (c .before .fits2 .ensures) ∙ not-true _ (c .if3 .taken)))
+returns-3 c =
+    left-alone _
+    (step-foreign pages _ _ _ _ _ (sized (c .before .before .before .before)) (going (c .before .before))
+    (sym (c .before .fits2 .ensures) ∙ not-true _ (c .if3 .taken)))
 
 classify-requires : tie.Need-classify-requires
 classify-requires c κs = search needs
 
 sent-requires : tie.Need-sent-requires
-sent-requires c κs = let z = right (c .before .before .before .before .before .before) in (z .0, z .1, z .2, fitted (c .before .before))
+sent-requires c κs =
+    let z = right (c .before .before .before .before .before .before) in
+    (z .0, z .1, z .2, fitted (c .before .before))
 
 same-length : tie.Need-same-length
 same-length c = search needs
 
 returns-4 : tie.Need-returns-4
-returns-4 c = let a = entry (c .before .before .before .before .before .before .before .before .before) .args in
+returns-4 c =
+    let a = entry (c .before .before .before .before .before .before .before .before .before) .args in
     let t = c .before .before .sent .ensures in
     handed _ _ _
-    (sym (ap (stepOf (a .image .now) (a .map .now) (length (a .buffer .now)) (a .self)) (c .before .before .before .before .classify .ensures))
-    ∙ step-taken _ _ _ _ _ (sized (c .before .before .before .before .before .before .before .before .before)) (going (c .before .before .before .before .before .before .before)) (fitted (c .before .before .before .before .before)))
+    (sym (ap (stepOf pages (a .image .now) (a .map .now) (length (a .buffer .now)) (a .self))
+    (c .before .before .before .before .classify .ensures))
+    ∙ step-taken pages _ _ _ _ _
+    (sized (c .before .before .before .before .before .before .before .before .before))
+    (going (c .before .before .before .before .before .before .before))
+    (fitted (c .before .before .before .before .before)))
     (t .0) (t .1) (t .2)
 
 pub step-spec : {M : Type 1} → statement M

@@ -1,6 +1,7 @@
 -- `took` meets its contract: the event is judged, and its meaning heard.
 use mathlib.Core.Path.{ap, _∙_}
 use borrow.Author.Needs.{needs}
+use Rattle.basis.specs.Board.{pages}
 use Rattle.session.specs.Session.{heardOf, tookOf}
 use Rattle.session.proofs.session.Session.took.Statement.{statement}
 use Rattle.session.proofs.session.Session.took.Tie as tie
@@ -13,7 +14,9 @@ heard-requires c κs = search needs
 
 returns : tie.Need-returns
 unfolding tookOf
-returns c = let s = c .before .before .before .args in c .heard .ensures ∙ ap (heardOf (s .map .now) (s .self)) (c .before .judge .ensures)
+returns c =
+    let s = c .before .before .before .args in
+    c .heard .ensures ∙ ap (heardOf pages (s .map .now) (s .self)) (c .before .judge .ensures)
 
 pub took-spec : {M : Type 1} → statement M
 took-spec = tie.close (tie.spec judge-requires heard-requires returns)
