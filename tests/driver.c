@@ -4,10 +4,8 @@
  * padding. The driver keeps six buffers, 0 to 5, of 131,072 bytes each, all 0 at first. A request is one byte and the
  * fields behind it:
  *
- *   00 flush      nothing                                         no answer
  *   01 set        u8 buffer, u32 offset, u32 length, the bytes    no answer
  *   02 fill       u8 buffer, u32 offset, u32 length, u8 byte      no answer
- *   03 look       u8 buffer, u32 offset, u32 length               the bytes
  *
  * and one for each function of the library, with its parameters in the order of the header:
  *
@@ -41,9 +39,9 @@
  * may write, in the order of the parameters, the bytes of that part's whole buffer that are not as they were before
  * the call, inside the part or not: u32 how many, and for each u32 offset and u8 new byte, ascending.
  *
- * Answers are flushed before the driver waits for input, and on a flush. It ends with status 0 at the end of input. It
- * ends with status 1 at a request that is none of these or is cut short, at a part that does not lie in its buffer or
- * that overlaps one that the same call may write, and where an answer cannot be written.
+ * Answers are flushed before the driver waits for input. It ends with status 0 at the end of input. It ends with
+ * status 1 at a request that is none of these or is cut short, at a part that does not lie in its buffer or that
+ * overlaps one that the same call may write, and where an answer cannot be written.
  */
 #define _POSIX_C_SOURCE 200809L
 #include "gremolunde.h"
@@ -374,9 +372,6 @@ static void buffers(uint8_t request) {
     case 0x02:
         memset(p.bytes, get8(), p.length);
         break;
-    case 0x03:
-        put_bytes(p.bytes, p.length);
-        return;
     default:
         end(1);
     }
@@ -571,12 +566,7 @@ static void serve(uint8_t request) {
 
 int main(void) {
     while (input_at < input_end || more()) {
-        uint8_t request = get8();
-        if (request == 0x00) {
-            flush();
-        } else {
-            serve(request);
-        }
+        serve(get8());
     }
     end(0);
 }

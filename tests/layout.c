@@ -42,8 +42,8 @@ static int same_session(gremolunde_session a, gremolunde_session b) {
            a.total == b.total && a.named == b.named;
 }
 
-/* What the library was compiled for. */
-static void layout(void) {
+/* What the library was compiled for: the states that a caller keeps, and the answers. */
+static void states(void) {
     HOLD(sizeof(size_t) == 8);
     HOLD(sizeof(gremolunde_loader) == 24);
     AT(gremolunde_loader, groups, 0);
@@ -65,6 +65,9 @@ static void layout(void) {
     AT(gremolunde_session, acknowledged, 12);
     AT(gremolunde_session, total, 16);
     AT(gremolunde_session, named, 20);
+}
+
+static void answers(void) {
     HOLD(sizeof(gremolunde_length) == 16);
     AT(gremolunde_length, number, 0);
     AT(gremolunde_length, length, 8);
@@ -209,9 +212,8 @@ static gremolunde_hex_read line(gremolunde_hex reader, const char *record) {
 }
 
 /* Reads the paper's two records; the file stays in image and map. */
-static void files(void) {
+static void reading(void) {
     gremolunde_hex_read read;
-    gremolunde_hex_written written;
     memset(image, 0, sizeof image);
     memset(map, 0xEE, sizeof map);
     read = gremolunde_hex_start(image, sizeof image, map, sizeof map - 1);
@@ -240,7 +242,11 @@ static void files(void) {
     HOLD(gremolunde_hex_close(read.reader).number == 0);
     read.reader.taken = 0;
     HOLD(gremolunde_hex_close(read.reader).number == 32);
+}
 
+/* Writes what was read. */
+static void writing(void) {
+    gremolunde_hex_written written;
     memset(text, 0xEE, sizeof text);
     written = gremolunde_hex_write(image, sizeof image, map, sizeof map, 7, text, GREMOLUNDE_HEX_RECORD - 1);
     HOLD(written.number == 33 && written.next == 7 && written.length == 0 && all(text, 0, sizeof text, 0xEE));
@@ -411,11 +417,13 @@ static void rehearsals(void) {
 }
 
 int main(void) {
-    layout();
+    states();
+    answers();
     packets();
     commands();
     protection();
-    files();
+    reading();
+    writing();
     plan();
     starts();
     made_up();

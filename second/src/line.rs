@@ -4,6 +4,7 @@ use crate::loader::{Loader, GREETING};
 use crate::packet::LONGEST;
 use crate::refusal::Refusal;
 use crate::session::{Event, Phase, Run, Session};
+use crate::units::FLASH_BYTES;
 
 /// What becomes of a packet and its answer.
 #[derive(Clone, Copy, Debug, Default, PartialEq, Eq)]
@@ -15,7 +16,8 @@ pub enum Exchange {
 }
 
 /// Loads the file into the flash by the loader as it stands after a reset.
-/// Past the end of the list everything arrives.
+/// Past the end of the list everything arrives. Nothing is sent to a flash of
+/// the wrong size.
 pub fn rehearse(
     run: Run,
     image: &[u8],
@@ -24,6 +26,9 @@ pub fn rehearse(
     flash: &mut [u8],
     exchanges: &[Exchange],
 ) -> Result<Session, Refusal> {
+    if flash.len() != FLASH_BYTES {
+        return Err(Refusal::Size);
+    }
     let mut packet = [0; LONGEST];
     let mut answer = [0; GREETING.len()];
     let (mut session, mut length) = Session::start(run, image, map, &mut packet)?;

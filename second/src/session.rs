@@ -139,26 +139,19 @@ impl Session {
         }
     }
 
-    /// Whether V of this byte was acknowledged; a file that is not the
-    /// session's has no such byte.
+    /// Whether V of this byte was acknowledged, counted over the map as lent.
     pub fn proved(&self, map: &[u8], address: u32) -> Result<bool, Refusal> {
         let map = Map::new(map)?;
         let survey = map.survey(None);
-        if !self.counts_match(&survey) {
-            return Ok(false);
-        }
         let written = survey.erases() + survey.pieces;
         let verified = self.acknowledged.saturating_sub(written);
         Ok(map.piece_of(address).is_some_and(|piece| piece < verified))
     }
 
-    fn counts_match(&self, survey: &Survey) -> bool {
-        self.total == survey.total() && self.named == survey.named
-    }
-
     /// Whether a start over such a file and acknowledgements lead here.
     fn belongs_to(&self, survey: &Survey) -> bool {
-        self.counts_match(survey)
+        self.total == survey.total()
+            && self.named == survey.named
             && survey.named > 0
             && survey.sent_before(self.phase) == Some(self.acknowledged)
     }

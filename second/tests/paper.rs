@@ -413,6 +413,8 @@ fn written_file_reads_back() {
     assert_eq!(short, [0xAA; 43]);
 }
 
+const ACK: Event = Event::Answer(&[0x06]);
+
 fn plan_file() -> Reading {
     Reading::of(&[":020200001234B6", ":00000001FF"])
 }
@@ -493,16 +495,16 @@ fn endings_while_packets_are_sent() {
 fn jump_session_runs_at_0() {
     let reading = plan_file();
     let mut session = greeted(&reading, Run::Jump);
-    let ack = Event::Answer(&[0x06]);
     let mut last = Vec::new();
     for _ in 0..3 {
         assert_eq!(session.proved(&reading.map, 0x200), Ok(false));
-        (session, last) = reading.step(session, ack).unwrap();
+        (session, last) = reading.step(session, ACK).unwrap();
     }
     assert_eq!(last, built(Command::Run, 0, &[]));
     assert_eq!(session.proved(&reading.map, 0x201), Ok(true));
     assert_eq!(session.proved(&reading.map, 0x202), Ok(false));
-    assert_eq!(reading.ending(session, ack), Phase::Ended(Outcome::Valid));
+    assert_eq!(session.proved(&reading.map[1..], 0x201), Err(Refusal::Size));
+    assert_eq!(reading.ending(session, ACK), Phase::Ended(Outcome::Valid));
     assert_eq!(
         reading.ending(session, Event::Silence),
         Phase::Ended(Outcome::Silent)
@@ -510,19 +512,30 @@ fn jump_session_runs_at_0() {
 }
 
 #[test]
-fn step_refusals() {
+fn step_refuses_20_then_44() {
     let reading = plan_file();
     let session = greeted(&reading, Run::Reset);
-    let ack = Event::Answer(&[0x06]);
-    let mut short = [0; 258];
-    let refusal = session.step(ack, &reading.image, &reading.map, &mut short);
-    assert_eq!(refusal, Err(Refusal::Size));
+    let ended = Session {
+        phase: Phase::Ended(Outcome::Valid),
+        ..session
+    };
+    for session in [session, ended] {
+        let mut short = [0; 258];
+        let refusal = session.step(ACK, &reading.image, &reading.map, &mut short);
+        assert_eq!(refusal, Err(Refusal::Size));
+    }
+    assert_eq!(reading.step(ended, ACK), Err(44));
+}
+
+#[test]
+fn step_refuses_a_session_of_another_file() {
+    let reading = plan_file();
+    let session = greeted(&reading, Run::Reset);
     let made_up = |change: fn(&mut Session)| {
         let mut session = session;
         change(&mut session);
-        reading.step(session, ack).map(|_| ())
+        reading.step(session, ACK).map(|_| ())
     };
-    assert_eq!(made_up(|s| s.phase = Phase::Ended(Outcome::Valid)), Err(44));
     assert_eq!(made_up(|s| s.total = 5), Err(46));
     assert_eq!(made_up(|s| s.named = 3), Err(46));
     assert_eq!(made_up(|s| s.acknowledged = 4), Err(46));
@@ -530,13 +543,27 @@ fn step_refusals() {
     assert_eq!(made_up(|s| s.acknowledged = 1), Err(46));
     assert_eq!(made_up(|s| s.phase = Phase::Erase(Page(0))), Err(46));
     assert_eq!(made_up(|s| s.phase = Phase::Erase(Page(u32::MAX))), Err(46));
+    let wrong_greeting = |s: &mut Session| (s.phase, s.acknowledged) = (Phase::Greeting, 1);
+    assert_eq!(made_up(wrong_greeting), Err(46));
+    let empty = Session {
+        total: 1,
+        named: 0,
+        ..session
+    };
+    assert_eq!(Reading::new().step(empty, ACK), Err(46));
+}
+
+#[test]
+fn step_refuses_a_place_that_no_acknowledgements_lead_to() {
+    let reading = plan_file();
+    let session = greeted(&reading, Run::Reset);
     let at = |phase: fn(ByteAddress) -> Phase, start, acknowledged| {
         let session = Session {
             phase: phase(ByteAddress(start)),
             acknowledged,
             ..session
         };
-        reading.step(session, ack).map(|_| ())
+        reading.step(session, ACK).map(|_| ())
     };
     assert_eq!(at(Phase::Write, 0x200, 1), Ok(()));
     assert_eq!(at(Phase::Write, 0x200, 2), Err(46));
@@ -545,14 +572,6 @@ fn step_refusals() {
     assert_eq!(at(Phase::Verify, 0x200, 1), Err(46));
     assert_eq!(at(|_| Phase::Run, 0, 3), Ok(()));
     assert_eq!(at(|_| Phase::Run, 0, 2), Err(46));
-    let wrong_greeting = |s: &mut Session| (s.phase, s.acknowledged) = (Phase::Greeting, 1);
-    assert_eq!(made_up(wrong_greeting), Err(46));
-    let empty = Session {
-        total: 1,
-        named: 0,
-        ..session
-    };
-    assert_eq!(Reading::new().step(empty, ack), Err(46));
 }
 
 #[test]
@@ -564,7 +583,7 @@ fn verdict_comes_within_the_packets_and_one_event() {
     assert_eq!(session.named, 256);
     let mut events = 1;
     while !matches!(session.phase, Phase::Ended(_)) {
-        (session, _) = reading.step(session, Event::Answer(&[0x06])).unwrap();
+        (session, _) = reading.step(session, ACK).unwrap();
         events += 1;
     }
     assert_eq!(session.phase, Phase::Ended(Outcome::Valid));
@@ -655,6 +674,24 @@ fn whole_rehearsal_is_valid_and_a_loss_ends_silent() {
             assert_eq!(ended.acknowledged as usize, place.saturating_sub(1));
         }
     }
+}
+
+#[test]
+fn rehearsal_refuses_20_then_32_and_sends_nothing() {
+    let refused = |reading: &Reading, flash: usize| {
+        let mut loader = Served::new(0x00).loader;
+        let mut flash = vec![0x00; flash];
+        let (image, map) = (&reading.image, &reading.map);
+        let refusal = rehearse(Run::Reset, image, map, &mut loader, &mut flash, &[]).unwrap_err();
+        assert_eq!(loader.condition, Condition::Serving);
+        assert!(flash.iter().all(|byte| *byte == 0x00));
+        refusal
+    };
+    for wrong in [0, FLASH_BYTES - 1, FLASH_BYTES + 1] {
+        assert_eq!(refused(&plan_file(), wrong), Refusal::Size);
+        assert_eq!(refused(&Reading::new(), wrong), Refusal::Size);
+    }
+    assert_eq!(refused(&Reading::new(), FLASH_BYTES), Refusal::NoData);
 }
 
 #[test]

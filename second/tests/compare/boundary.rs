@@ -5,6 +5,10 @@ use second::loader::{Condition, Loader, Protection};
 use second::session::{Outcome, Phase, Run, Session};
 use second::units::{ByteAddress, Page};
 
+/// What a phase, a place or an outcome that no session has counts as: a page
+/// that no board has.
+const NOWHERE: Phase = Phase::Erase(Page(u32::MAX));
+
 #[derive(Clone, Copy, Debug, PartialEq, Eq)]
 pub struct LoaderState {
     pub groups: u64,
@@ -112,24 +116,23 @@ pub struct SessionState {
 }
 
 impl SessionState {
-    /// None for a phase, a place or an outcome that no session has.
-    pub fn meaning(&self) -> Option<Session> {
+    pub fn meaning(&self) -> Session {
         let phase = match (self.phase, self.place) {
             (0, 0) => Phase::Greeting,
             (1, page) => Phase::Erase(Page(page)),
             (2, address) => Phase::Write(ByteAddress(address)),
             (3, address) => Phase::Verify(ByteAddress(address)),
             (4, 0) => Phase::Run,
-            (5, number) => Phase::Ended(outcome(number)?),
-            _ => return None,
+            (5, number) => outcome(number).map_or(NOWHERE, Phase::Ended),
+            _ => NOWHERE,
         };
-        Some(Session {
+        Session {
             run: run(self.run),
             phase,
             acknowledged: self.acknowledged,
             total: self.total,
             named: self.named,
-        })
+        }
     }
 }
 

@@ -115,6 +115,7 @@ fn file(random: &mut Random, lines: &mut Vec<String>) {
     }
     let buffer = random.pick(&[("image", FLASH_END), ("map", 7936), ("record", 44)]);
     wrongly_lent(random, lines, buffer, "write 00000000");
+    lines.push(format!("proved {:08X}", random.below(0xF900)));
     wrongly_lent(random, lines, ("map", 7936), "record :00000001FF");
     lines.push("record :00000001FF".to_string());
     lines.push("close".to_string());
@@ -213,4 +214,5 @@ fn rehearsals(random: &mut Random, lines: &mut Vec<String>) {
         lines.push(format!("rehearse {run} {}{lost}", hex_digits(&whole)));
         lines.push(format!("flash {:08X} 16", random.below(0xF700)));
     }
+    wrongly_lent(random, lines, ("flash", FLASH_END), "rehearse reset ");
 }

@@ -130,8 +130,30 @@ fn made_up(random: &mut Random) -> ReaderState {
 
 /// A record's text, right or wrong in one of the table's ways.
 pub fn text(random: &mut Random) -> Vec<u8> {
-    let mut text = sound(random);
+    let text = sound(random);
     match random.below(24) {
+        way @ 0..=8 => spoiled(random, text, way),
+        9 => {
+            let (length, type_byte) = (random.below(4), random.byte());
+            encoded(0, type_byte, &random.bytes(length))
+        }
+        10 => {
+            let length = random.below(5);
+            let address = random.pick(&[0, 0, 1, 0x100]);
+            let kind = random.within(1, 5) as u8;
+            encoded(address, kind, &random.bytes(length))
+        }
+        11 => {
+            let length = random.below(12);
+            random.bytes(length)
+        }
+        _ => text,
+    }
+}
+
+/// A record's text with its characters changed, cut or extended.
+fn spoiled(random: &mut Random, mut text: Vec<u8>, way: u32) -> Vec<u8> {
+    match way {
         0 => text[0] = random.byte(),
         1 => text.clear(),
         2 => drop(text.pop()),
@@ -148,30 +170,11 @@ pub fn text(random: &mut Random) -> Vec<u8> {
             text[place] = random.pick(b"/:@G`gZ \r\n");
         }
         6 => text.extend(b"00"),
-        7 => {
-            text.truncate(text.len() - 2);
-        }
-        8 => {
+        7 => text.truncate(text.len() - 2),
+        _ => {
             let place = random.within(1, text.len() as u32 - 1) as usize;
             text[place] = random.pick(b"0123456789ABCDEF");
         }
-        9 => {
-            let (length, type_byte) = (random.below(4), random.byte());
-            let data = random.bytes(length);
-            text = encoded(0, type_byte, &data);
-        }
-        10 => {
-            let length = random.below(5);
-            let address = random.pick(&[0, 0, 1, 0x100]);
-            let kind = random.within(1, 5) as u8;
-            let data = random.bytes(length);
-            text = encoded(address, kind, &data);
-        }
-        11 => {
-            let length = random.below(12);
-            text = random.bytes(length);
-        }
-        _ => {}
     }
     text
 }

@@ -16,24 +16,25 @@ pub fn compare(pair: &mut Pair) {
         pair.restored(byte);
     }
     pair.fill_buffer(0, 0xAA);
+    build_each(pair, &mut random);
+    build_any(pair, &mut random);
+    read(pair, &mut random);
+}
+
+/// Every command, and those of the table with every length.
+fn build_each(pair: &mut Pair, random: &mut Random) {
     for command in 0..=255 {
         for length in [0, 1, 2, 250, 251] {
-            build(pair, &mut random, OUTPUT, command, length);
+            build(pair, random, OUTPUT, command, length);
         }
     }
     for command in COMMANDS {
         for length in 0..=300 {
-            build(pair, &mut random, OUTPUT, command, length);
+            build(pair, random, OUTPUT, command, length);
         }
         for length in 0..=300 {
             let plain = random.within(0, 2);
-            build(
-                pair,
-                &mut random,
-                OUTPUT.with_length(length),
-                command,
-                plain,
-            );
+            build(pair, random, OUTPUT.with_length(length), command, plain);
         }
     }
     for kind in 0..=255 {
@@ -42,13 +43,15 @@ pub fn compare(pair: &mut Pair) {
     }
     pair.packet_build(Part::NULL, b'R', 1, Part::NULL);
     pair.packet_build(OUTPUT, b'R', 1, Part::NULL);
+}
+
+fn build_any(pair: &mut Pair, random: &mut Random) {
     for _ in 0..3000 {
         let output = OUTPUT.with_length(random.within(250, 300));
         let command = random.pick(&COMMANDS);
         let length = random.within(0, 252);
-        build(pair, &mut random, output, command, length);
+        build(pair, random, output, command, length);
     }
-    read(pair, &mut random);
 }
 
 fn build(pair: &mut Pair, random: &mut Random, output: Part, command: u8, length: u32) {

@@ -6,7 +6,6 @@ use second::loader::Loader;
 use second::log;
 use second::packet;
 use second::session::{Event, Phase, Session};
-use second::units::{FLASH_BYTES, MAP_BYTES};
 use second::Refusal;
 
 use crate::boundary::{run, LoaderState, ReaderState, SessionState};
@@ -400,12 +399,8 @@ impl Pair {
             0 => Event::Answer(self.look(heard)),
             _ => Event::Silence,
         };
-        let (image_bytes, map_bytes) = (self.look(image), self.look(map));
-        let stepped = match state.meaning() {
-            Some(session) => session.step(event, image_bytes, map_bytes, &mut bytes),
-            None if sized(image_bytes, map_bytes, &bytes) => Err(Refusal::OtherFile),
-            None => Err(Refusal::Size),
-        };
+        let session = state.meaning();
+        let stepped = session.step(event, self.look(image), self.look(map), &mut bytes);
         let (number, length, next) = match stepped {
             Ok((session, length)) => (0, length, session.into()),
             Err(refusal) => (refusal.number(), 0, state),
@@ -419,10 +414,8 @@ impl Pair {
         (number, length, next)
     }
 
-    /// Only for a session over its own file.
     pub fn session_proved(&mut self, state: SessionState, map: Part, address: u32) {
-        let session = state.meaning().expect("a session of this file");
-        let proved = session.proved(self.look(map), address);
+        let proved = state.meaning().proved(self.look(map), address);
         let number = proved.map_or_else(Refusal::number, |_| 0);
         let answer = Message::default().word(number.into());
         let answer = answer.byte(proved.unwrap_or(false).into());
@@ -431,8 +424,8 @@ impl Pair {
     }
 
     pub fn session_outcome(&mut self, state: SessionState) -> u8 {
-        let number = match state.meaning().map(|session| session.phase) {
-            Some(Phase::Ended(outcome)) => outcome.number(),
+        let number = match state.meaning().phase {
+            Phase::Ended(outcome) => outcome.number(),
             _ => Refusal::NoLog.number(),
         };
         let answer = Message::default().word(number.into());
@@ -452,17 +445,14 @@ impl Pair {
         let (image, map) = file;
         let mut flash_bytes = self.lent(flash);
         let mut loader = state.meaning();
-        let rehearsed = match flash_bytes.len() {
-            FLASH_BYTES => line::rehearse(
-                run(told),
-                self.look(image),
-                self.look(map),
-                &mut loader,
-                &mut flash_bytes,
-                &exchanges(self.look(losses)),
-            ),
-            _ => Err(Refusal::Size),
-        };
+        let rehearsed = line::rehearse(
+            run(told),
+            self.look(image),
+            self.look(map),
+            &mut loader,
+            &mut flash_bytes,
+            &exchanges(self.look(losses)),
+        );
         let (number, next, session) = match rehearsed {
             Ok(session) => (0, loader.into(), session.into()),
             Err(refusal) => (refusal.number(), state, SessionState::default()),
@@ -480,11 +470,7 @@ impl Pair {
 
     pub fn log_write(&mut self, state: SessionState, buffer: Part) -> usize {
         let mut bytes = self.lent(buffer);
-        let written = match state.meaning() {
-            Some(session) => log::write(&session, &mut bytes),
-            None => Err(Refusal::NoLog),
-        };
-        let (number, length) = numbered(written);
+        let (number, length) = numbered(log::write(&state.meaning(), &mut bytes));
         let answer = length_answer(number, length).bytes(&self.changes(buffer, &bytes));
         let request = Message::new(0x50).session(state).part(buffer);
         self.call(request, answer, number);
@@ -531,8 +517,4 @@ fn length_answer(number: u8, length: usize) -> Message {
 
 fn read_answer(number: u8, state: ReaderState) -> Message {
     Message::default().word(number.into()).reader(state)
-}
-
-fn sized(image: &[u8], map: &[u8], buffer: &[u8]) -> bool {
-    image.len() == FLASH_BYTES && map.len() == MAP_BYTES && buffer.len() >= packet::LONGEST
 }

@@ -81,12 +81,11 @@ fn refused(pair: &mut Pair, random: &mut Random) {
         FLASH.with_length(FLASH_END + 1),
         Part::NULL,
     ];
-    for _ in 0..6 {
-        let (image, map) = lent(random);
-        let flash = random.pick(&wrong);
-        let flash = random.pick(&[FLASH, flash]);
+    for flash in wrong.into_iter().chain([FLASH; 3]) {
         let loader = loader(random);
-        pair.rehearse(random.word(), loader, Part::NULL, (image, map), flash);
+        pair.rehearse(random.word(), loader, Part::NULL, (IMAGE, MAP), flash);
+        let file = lent(random);
+        pair.rehearse(random.word(), loader, Part::NULL, file, flash);
     }
     pair.fill(MAP, 0);
     for flash in wrong.into_iter().chain([FLASH; 6]) {

@@ -12,8 +12,10 @@ use crate::random::Random;
 
 const HEARD: Part = Part::new(2, 21, 64);
 pub const PACKET: Part = Part::new(3, 500, 259);
-/// The map of another file over the same image.
+/// The map of another file over the same image, much like the session's.
 const OTHER_MAP: Part = Part::new(4, 77, MAP_BYTES as u32);
+/// A map that is nothing like the session's.
+const STRANGE_MAP: Part = Part::new(4, 20_000, MAP_BYTES as u32);
 
 /// So many states of a file are looked at.
 const STATES: u32 = 60;
@@ -30,6 +32,7 @@ pub fn compare(pair: &mut Pair) {
         pair.set(MAP, &map);
         let other = other_map(&mut random, &map);
         pair.set(OTHER_MAP, &other);
+        pair.set(STRANGE_MAP, &maps::any(&mut random));
         file(pair, &mut random);
     }
     pair.fill(MAP, 0);
@@ -120,7 +123,7 @@ fn refused_over_an_empty_map(pair: &mut Pair, random: &mut Random) {
 fn states(pair: &Pair, start: SessionState) -> Vec<SessionState> {
     let (image, map) = (pair.look(IMAGE), pair.look(MAP));
     let mut buffer = [0; 259];
-    let mut session = start.meaning().expect("a start");
+    let mut session = start.meaning();
     let mut states = vec![start];
     while !matches!(session.phase, Phase::Ended(_)) {
         let event = Event::Answer(expected(session.phase));
@@ -168,6 +171,7 @@ fn look_at(pair: &mut Pair, random: &mut Random, state: SessionState) {
     }
     let made_up = made_up(random, state);
     step_any(pair, random, made_up);
+    marks(pair, random, made_up);
     let file = (IMAGE, OTHER_MAP);
     let part = heard(pair, answer(state));
     pair.session_step(state, 0, part, file, PACKET);
@@ -175,7 +179,7 @@ fn look_at(pair: &mut Pair, random: &mut Random, state: SessionState) {
 }
 
 fn answer(state: SessionState) -> &'static [u8] {
-    expected(state.meaning().map_or(Phase::Run, |session| session.phase))
+    expected(state.meaning().phase)
 }
 
 fn step_right(pair: &mut Pair, state: SessionState) -> (u8, usize, SessionState) {
@@ -256,21 +260,22 @@ fn made_up(random: &mut Random, state: SessionState) -> SessionState {
     made_up
 }
 
-/// Marks of bytes of every kind, for a session over its own file.
+/// Marks of bytes of every kind, over the session's own map and over others.
 fn marks(pair: &mut Pair, random: &mut Random, state: SessionState) {
-    for _ in 0..4 {
+    for _ in 0..6 {
+        let map = random.pick(&[MAP, MAP, OTHER_MAP, STRANGE_MAP]);
         let any = random.word();
         let inside = random.below(FLASH_END);
         let near = random.within(FLASH_END - 2, FLASH_END + 2);
         let sent = state.place.wrapping_add(random.below(256));
         let before = state.place.wrapping_sub(random.below(256));
-        let named = maps::named_from(pair.look(MAP), inside);
+        let named = maps::named_from(pair.look(map), inside);
         let address = random.pick(&[any, inside, near, sent, before, named, named]);
-        let map = match random.below(24) {
-            0 => MAP.with_length(MAP.length() - 1),
+        let lent = match random.below(24) {
+            0 => map.with_length(map.length() - 1),
             1 => Part::NULL,
-            _ => MAP,
+            _ => map,
         };
-        pair.session_proved(state, map, address);
+        pair.session_proved(state, lent, address);
     }
 }
