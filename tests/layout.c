@@ -42,7 +42,7 @@ static int same_session(gremolunde_session a, gremolunde_session b) {
            a.total == b.total && a.named == b.named;
 }
 
-/* What the library was compiled for: the states that a caller keeps, and the answers. */
+/* What the library was compiled for: the states that a caller keeps. */
 static void states(void) {
     HOLD(sizeof(size_t) == 8);
     HOLD(sizeof(gremolunde_loader) == 24);
@@ -67,6 +67,7 @@ static void states(void) {
     AT(gremolunde_session, named, 20);
 }
 
+/* What the library was compiled for: the answers. */
 static void answers(void) {
     HOLD(sizeof(gremolunde_length) == 16);
     AT(gremolunde_length, number, 0);

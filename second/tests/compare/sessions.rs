@@ -14,8 +14,8 @@ const HEARD: Part = Part::new(2, 21, 64);
 pub const PACKET: Part = Part::new(3, 500, 259);
 /// The map of another file over the same image, much like the session's.
 const OTHER_MAP: Part = Part::new(4, 77, MAP_BYTES as u32);
-/// A map that is nothing like the session's.
-const STRANGE_MAP: Part = Part::new(4, 20_000, MAP_BYTES as u32);
+/// A map of any kind.
+const ANY_MAP: Part = Part::new(4, 20_000, MAP_BYTES as u32);
 
 /// So many states of a file are looked at.
 const STATES: u32 = 60;
@@ -32,7 +32,7 @@ pub fn compare(pair: &mut Pair) {
         pair.set(MAP, &map);
         let other = other_map(&mut random, &map);
         pair.set(OTHER_MAP, &other);
-        pair.set(STRANGE_MAP, &maps::any(&mut random));
+        pair.set(ANY_MAP, &maps::any(&mut random));
         file(pair, &mut random);
     }
     pair.fill(MAP, 0);
@@ -263,7 +263,7 @@ fn made_up(random: &mut Random, state: SessionState) -> SessionState {
 /// Marks of bytes of every kind, over the session's own map and over others.
 fn marks(pair: &mut Pair, random: &mut Random, state: SessionState) {
     for _ in 0..6 {
-        let map = random.pick(&[MAP, MAP, OTHER_MAP, STRANGE_MAP]);
+        let map = random.pick(&[MAP, MAP, OTHER_MAP, ANY_MAP]);
         let any = random.word();
         let inside = random.below(FLASH_END);
         let near = random.within(FLASH_END - 2, FLASH_END + 2);
