@@ -32,6 +32,14 @@ payload b = take (count b) (drop 4 b)
 abbrev pub value : List ℕ → ℕ
 value b = pairAt b 4
 
+-- the characters of a record of no bytes, the shortest; two more for each byte
+abbrev pub recordLeast : ℕ
+recordLeast = 11
+
+-- the characters of the longest record, of 255 bytes
+abbrev pub recordMost : ℕ
+recordMost = 521
+
 -- ---- the tests
 
 -- no colon or empty
@@ -40,7 +48,9 @@ noColon line = either (eqb (length line) 0) (not (eqb (getD line 0 0) 0x3A))
 
 -- length under 11, over 521 or even
 abbrev pub lengthWrong : List ℕ → Bool
-lengthWrong line = either (ltb (length line) 11) (either (ltb 521 (length line)) (eqb (length line % 2) 0))
+lengthWrong line =
+    either (ltb (length line) recordLeast)
+    (either (ltb recordMost (length line)) (eqb (length line % 2) 0))
 
 -- a character that is no digit
 abbrev pub notDigits : List ℕ → Bool
@@ -48,7 +58,7 @@ notDigits line = not (allDigits (drop 1 line))
 
 -- length not 11 + 2 BB
 abbrev pub countWrong : ℕ → List ℕ → Bool
-countWrong n b = not (eqb n (11 + 2 * count b))
+countWrong n b = not (eqb n (recordLeast + 2 * count b))
 
 abbrev pub sumWrong : List ℕ → Bool
 sumWrong b = not (eqb (sumOf b) 0)

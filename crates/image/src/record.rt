@@ -10,6 +10,12 @@ use crate::digits::decode;
 use basis::buffers::pair_at;
 use basis::sums::sum;
 
+// The characters of a record of no bytes; two more for each byte.
+pub const SHORTEST: usize = 11;
+
+// The characters of a record of 255 bytes.
+pub const LONGEST: usize = 521;
+
 pub enum Refusal {
     Size,
     Ended,
@@ -71,10 +77,10 @@ pub fn characters(line: &[u8], bytes: &mut [u8]) -> Check
     if line[0] != b':' {
         return Check::Refused(Refusal::Colon);
     }
-    if n < 11 {
+    if n < SHORTEST {
         return Check::Refused(Refusal::Length);
     }
-    if 521 < n {
+    if LONGEST < n {
         return Check::Refused(Refusal::Length);
     }
     if n % 2 == 0 {
@@ -92,7 +98,7 @@ pub fn framing(n: usize, bytes: &[u8]) -> Check
     ensures { λ r. ⌜ paperCheck r ≡ framingOf n (now (bytes .entry)) ⌝ }
 {
     let count = wide(bytes[0]);
-    if n != 11 + 2 * count {
+    if n != SHORTEST + 2 * count {
         return Check::Refused(Refusal::Count);
     }
     if sum(bytes) != 0 {

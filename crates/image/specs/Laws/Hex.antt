@@ -16,7 +16,7 @@ use Rattle.image.specs.Digits.{digitOf, allDigits, decoded}
 use Rattle.image.specs.Writer.{letterOf, spelt, line}
 use Rattle.image.specs.Laws.Writer.{length-spelt, spelt-digits, spelt-bytes}
 use Rattle.basis.specs.Laws.Choice.{pick-second, both-true, both-none, either-none}
-use Rattle.image.specs.Record.{count, kind, address, noColon, lengthWrong, countWrong, isData, kindWrong, shapeWrong, characterRows, byteRows, shapeRows, charactersOf, framingOf, shapeOf}
+use Rattle.image.specs.Record.{count, kind, address, recordLeast, recordMost, noColon, lengthWrong, countWrong, isData, kindWrong, shapeWrong, characterRows, byteRows, shapeRows, charactersOf, framingOf, shapeOf}
 use Rattle.image.specs.Hex.{hex, file, place, placeRows, namedBefore, placed, otherOf, rightSizesIn, recordIn, applyIn, dataIn}
 use Rattle.image.specs.declared.hex.Hex.{Hex}
 
@@ -30,15 +30,15 @@ shape-count b e n0 n1 =
     eqb-true _ _ (not-false (eqb (count b) 2) (q .1))
 
 -- BB as the length says
-pub framing-count : (n : ℕ) (b : List ℕ) → framingOf n b ≡ given tt → n ≡ 11 + 2 * count b
+pub framing-count : (n : ℕ) (b : List ℕ) → framingOf n b ≡ given tt → n ≡ recordLeast + 2 * count b
 unfolding framingOf
 framing-count n b e =
-    eqb-true _ _ (not-false (eqb n (11 + 2 * count b)) (passed 25 (countWrong n b) _ _ e .0))
+    eqb-true _ _ (not-false (eqb n (recordLeast + 2 * count b)) (passed 25 (countWrong n b) _ _ e .0))
 
--- a length of 11 to 521, and odd
+-- a length that a record may have: neither too short nor too long, and odd
 pub record Long (n : ℕ) : Type 0 where
-  pub least : 11 ≤ n
-  pub most : n ≤ 521
+  pub least : recordLeast ≤ n
+  pub most : n ≤ recordMost
   pub odd : n % 2 ≡ 1
 
 pub characters-length : (line : List ℕ) → charactersOf line ≡ given tt → Long (length line)
@@ -46,8 +46,8 @@ unfolding charactersOf
 characters-length line e =
     let n = length line in
     let w = passed 23 (lengthWrong line) _ _ (passed 22 (noColon line) _ _ e .1) .0 in
-    let p = either-none (ltb n 11) (either (ltb 521 n) (eqb (n % 2) 0)) w in
-    let q = either-none (ltb 521 n) (eqb (n % 2) 0) (p .1) in
+    let p = either-none (ltb n recordLeast) (either (ltb recordMost n) (eqb (n % 2) 0)) w in
+    let q = either-none (ltb recordMost n) (eqb (n % 2) 0) (p .1) in
     let z = eqb-false (n % 2) 0 (q .1) in
     record { least = ltb-false _ _ (p .0); most = ltb-false _ _ (q .0); odd = one (n % 2) z (omega arith) }
   where
@@ -110,13 +110,13 @@ module _ (b : List ℕ) (bytes : Bytes b) (long : length b ≡ 5 + count b) wher
   abbrev spelling : List ℕ
   spelling = 0x3A ∷ spelt b
 
-  spelling-length : length spelling ≡ 11 + 2 * count b
+  spelling-length : length spelling ≡ recordLeast + 2 * count b
   spelling-length = omega (arith, length-spelt b)
 
   spelling-characters : charactersOf spelling ≡ given tt
   spelling-characters =
       let few : count b < 256 = bytes 0 in
-      let n : length spelling ≡ 11 + 2 * count b = spelling-length in
+      let n : length spelling ≡ recordLeast + 2 * count b = spelling-length in
       characters-right spelling refl (record { least = omega arith; most = omega arith; odd = omega arith })
       (spelt-digits b bytes)
 

@@ -4,7 +4,7 @@ use mathlib.Core.Path.{sym, _∙_}
 use native.Mathlib.Omega.{arith}
 use borrow.Author.Tests.{eq-eqb, ne-eqb}
 use Rattle.basis.specs.Refusals.{first}
-use Rattle.image.specs.Record.{count, framingOf}
+use Rattle.image.specs.Record.{count, recordLeast, framingOf}
 use borrow.Author.Needs.{needs}
 use Rattle.image.proofs.record.framing.Statement.{statement}
 use Rattle.image.proofs.record.framing.Tie as tie
@@ -24,7 +24,7 @@ add-if1 c = search needs
 returns : tie.Need-returns
 unfolding first framingOf
 returns c = let b = c .before .before .before .before .args .bytes .now in
-    simp (ne-eqb (c .before .before .before .before .args .n) (11 + 2 * count b)
+    simp (ne-eqb (c .before .before .before .before .args .n) (recordLeast + 2 * count b)
     (λ e. c .if1 .taken (omega (arith, c .before .wide .ensures .0))))
 
 sum-requires : tie.Need-sum-requires
@@ -34,7 +34,7 @@ returns-2 : tie.Need-returns-2
 unfolding first framingOf
 returns-2 c = let b = c .before .before .before .before .before .before .args .bytes .now in
     simp (
-      eq-eqb (c .before .before .before .before .before .before .args .n) (11 + 2 * count b)
+      eq-eqb (c .before .before .before .before .before .before .args .n) (recordLeast + 2 * count b)
           (omega (arith, c .before .before .before .wide .ensures .0)),
       ne-eqb _ _ (λ e. c .if2 .taken (c .before .sum .ensures ∙ e)),
     )
@@ -43,7 +43,7 @@ returns-3 : tie.Need-returns-3
 unfolding first framingOf
 returns-3 c = let b = c .before .before .before .before .before .before .args .bytes .now in
     simp (
-      eq-eqb (c .before .before .before .before .before .before .args .n) (11 + 2 * count b)
+      eq-eqb (c .before .before .before .before .before .before .args .n) (recordLeast + 2 * count b)
           (omega (arith, c .before .before .before .wide .ensures .0)),
       eq-eqb _ _ (sym (c .before .sum .ensures) ∙ c .if2 .left),
     )
