@@ -60,12 +60,16 @@ stepFrom size image map a =
     (pick (leb size (lowest size map a)) (step (text 0 1 []) (size + 1))
     (recordFrom image map (lowest size map a)))
 
+-- the room that a record asks for: the characters of 16 bytes, and 0A
+abbrev pub recordRoom : ℕ
+recordRoom = 44
+
 -- writing into a buffer of n bytes: 20, 33, else the next record
 unfoldable pub writeIn : ℕ → List ℕ → List ℕ → ℕ → ℕ → Answer Step
 writeIn size image map a n =
     first
     (20 when not (rightSizesIn size (length image) (length map))
-    ∷ 33 when ltb n 44 ∷ [])
+    ∷ 33 when ltb n recordRoom ∷ [])
     (given (stepFrom size image map a))
 
 -- the length of what is written, and the address to go on from

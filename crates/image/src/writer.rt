@@ -5,7 +5,7 @@ ghost use lib.ListN.{length};
 ghost use Rattle.basis.specs.Lists.{overlay, copyOf};
 ghost use Rattle.basis.specs.Board.{flashSize};
 ghost use Rattle.image.specs.Paper.{paperWritten};
-ghost use Rattle.image.specs.Writer.{letterOf, spelt, text, measured, textBytes, writeIn};
+ghost use Rattle.image.specs.Writer.{letterOf, spelt, text, recordRoom, measured, textBytes, writeIn};
 use crate::hex::right_sizes;
 use crate::record::Refusal;
 use basis::board::END;
@@ -14,6 +14,9 @@ use basis::sums::sum;
 use basis::units::Address;
 use runs::places::next_named;
 use runs::places::row_len;
+
+// The room that a record asks for: the characters of 16 bytes, and 0A.
+pub const ROOM: usize = 44;
 
 pub enum Written {
     Refused(Refusal),
@@ -32,7 +35,7 @@ pub fn write(image: &[u8], map: &[u8], from: Address, buffer: &mut [u8]) -> Writ
     if !right_sizes(image.len(), map.len()) {
         return Written::Refused(Refusal::Size);
     }
-    if buffer.len() < 44 {
+    if buffer.len() < ROOM {
         return Written::Refused(Refusal::Short);
     }
     if END < from.0 {
@@ -62,7 +65,7 @@ pub fn write(image: &[u8], map: &[u8], from: Address, buffer: &mut [u8]) -> Writ
 
 // A record of at most 16 bytes at the front of the buffer, and its length.
 fn print(address: u16, kind: u8, bytes: &[u8], buffer: &mut [u8]) -> usize
-    requires { ⌜ (length (now bytes) ≤ 16) × (44 ≤ length (now buffer)) ⌝ }
+    requires { ⌜ (length (now bytes) ≤ 16) × (recordRoom ≤ length (now buffer)) ⌝ }
     ensures length { λ r. ⌜ r ≡ length (text address kind (now (bytes .entry))) ⌝ }
     ensures buffer { λ _. ⌜
         now (buffer .exit) ≡ overlay (text address kind (now (bytes .entry))) (now (buffer .entry))

@@ -8,7 +8,7 @@ use Rattle.basis.specs.Lists.{overlay, copyOf}
 use Rattle.basis.specs.Sums.{sumOf, checksumOf}
 use Rattle.basis.specs.Laws.Lists.{overlay-next, copy-overlay}
 use Rattle.basis.specs.Laws.Sums.{sum-append}
-use Rattle.image.specs.Writer.{spelt, content, text}
+use Rattle.image.specs.Writer.{spelt, content, text, recordRoom}
 use Rattle.image.specs.Laws.Writer.{length-spelt, spelt-append}
 use borrow.Author.Needs.{needs}
 use Rattle.image.proofs.writer.print.Statement.{statement}
@@ -19,7 +19,7 @@ checksum-parts : (s t : List ℕ) (x : ℕ) → x ≡ (sumOf s + sumOf t) % 256
     → (256 - x) % 256 ≡ checksumOf (s ++ t)
 checksum-parts s t x e = rw (e, sum-append s t)
 
-module _ (address kind : ℕ) (s old : List ℕ) (few : length s ≤ 16) (room : 44 ≤ length old) where
+module _ (address kind : ℕ) (s old : List ℕ) (few : length s ≤ 16) (room : recordRoom ≤ length old) where
   abbrev head : List ℕ
   head = length s ∷ address / 256 ∷ address % 256 ∷ kind ∷ []
 

@@ -9,7 +9,7 @@ use borrow.Author.Tests.{not-true, not-false, lt-ltb, le-ltb, le-leb, lt-leb}
 use Rattle.basis.specs.Refusals.{refused, given, first}
 use Rattle.image.specs.Hex.{rightSizesIn}
 use Rattle.image.specs.Laws.Hex.{sizes-right}
-use Rattle.image.specs.Writer.{text, step, recordLength, recordFrom, lowest, stepFrom, writeIn}
+use Rattle.image.specs.Writer.{text, step, recordLength, recordFrom, lowest, stepFrom, recordRoom, writeIn}
 use Rattle.runs.specs.Map.{named}
 use Rattle.runs.specs.Laws.Runs.{len-le}
 use borrow.Author.Needs.{needs}
@@ -23,14 +23,14 @@ module _ (size : ℕ) (image map : List ℕ) (a n : ℕ) where
   unfolding first writeIn
   write-size e = simp e
 
-  write-short : rightSizesIn size (length image) (length map) ≡ true → n < 44
+  write-short : rightSizesIn size (length image) (length map) ≡ true → n < recordRoom
       → writeIn size image map a n ≡ refused 33
   unfolding first writeIn
   write-short e h = simp (e, lt-ltb _ _ h)
 
 -- what is given once sizes and buffer are right
 module _ (size : ℕ) (image map : List ℕ) (a n : ℕ) (e : rightSizesIn size (length image) (length map) ≡ true)
-    (room : 44 ≤ n) where
+    (room : recordRoom ≤ n) where
   write-step : writeIn size image map a n ≡ given (stepFrom size image map a)
   unfolding first writeIn
   write-step = simp (e, le-ltb _ _ room)
