@@ -12,7 +12,6 @@ use crate::answers::Length;
 use crate::answers::refused;
 use crate::states::SessionState;
 use crate::states::session_meant;
-use service_log::read::RECORD;
 use service_log::read::Reading;
 use service_log::read::read;
 use service_log::write::Written;
@@ -43,10 +42,7 @@ fn length_answer(answer: Written) -> Length
     ensures { λ r. ⌜ r ≡ lengthAnswer (paperWritten answer) ⌝ }
 {
     match answer {
-        Written::Record => Length {
-            number: 0,
-            length: RECORD,
-        },
+        Written::Record(length) => Length { number: 0, length },
         Written::Refused(why) => refused(why.number()),
     }
 }

@@ -19,6 +19,13 @@ use Rattle.service_log.specs.declared.read.Record.{Record}
 abbrev pub recordSize : ℕ
 recordSize = 10
 
+-- what its length field says: how many bytes follow the field
+abbrev pub recordLength : ℕ
+recordLength = 8
+
+abbrev pub recordVersion : ℕ
+recordVersion = 1
+
 -- 0 valid, else 40 to 43
 abbrev pub known : ℕ → Bool
 known o = either (eqb o 0) (both (leb 40 o) (leb o 43))
@@ -55,7 +62,8 @@ fitTwo k t n = both (twoBytes k) (both (twoBytes t) (twoBytes n))
 -- the ten bytes of outcome o, with k of t packets acknowledged and n bytes
 abbrev pub recordBytes : ℕ → ℕ → ℕ → ℕ → List ℕ
 recordBytes o k t n =
-    0x00 ∷ 0x08 ∷ 0x01 ∷ o ∷ k / 256 % 256 ∷ k % 256 ∷ t / 256 % 256 ∷ t % 256 ∷ n / 256 % 256 ∷ n % 256 ∷ []
+    recordLength / 256 ∷ recordLength % 256 ∷ recordVersion ∷ o
+    ∷ k / 256 % 256 ∷ k % 256 ∷ t / 256 % 256 ∷ t % 256 ∷ n / 256 % 256 ∷ n % 256 ∷ []
 
 -- writing a session into a buffer of so many bytes: 45 for one that is
 -- unfinished, or whose counts do not fit, or would read as 53; then 20
@@ -85,8 +93,8 @@ unfoldable pub readOf : ℕ → List ℕ → Answer Record
 readOf board s =
     first
     (50 when ltb (length s) recordSize
-    ∷ 51 when not (eqb (pairAt s 0) 8)
+    ∷ 51 when not (eqb (pairAt s 0) recordLength)
     ∷ 51 when ltb recordSize (length s)
-    ∷ 52 when not (eqb (getD s 2 0) 1)
+    ∷ 52 when not (eqb (getD s 2 0) recordVersion)
     ∷ 53 when isFalseOf board (getD s 3 0) (pairAt s 4) (pairAt s 6) (pairAt s 8) ∷ [])
     (given (recordAt s))

@@ -1,7 +1,6 @@
 -- The paper's numbers and values for each case of the code's answers.
 use Prim.Native.Nat.{ℕ}
 use Rattle.basis.specs.Refusals.{Answer, refused, given}
-use Rattle.service_log.specs.Log.{recordSize}
 use Rattle.service_log.specs.declared.read.Reading.{Reading}
 use Rattle.service_log.specs.declared.read.Record.{Record}
 use Rattle.service_log.specs.declared.read.Unread.{Unread}
@@ -19,9 +18,9 @@ paperUnread Unread.Length = 51
 paperUnread Unread.Version = 52
 paperUnread Unread.False = 53
 
--- a record is written, or the refusal
+-- the record's length, or the refusal
 abbrev pub paperWritten : Written → Answer ℕ
-paperWritten Written.Record = given recordSize
+paperWritten (Written.Record n) = given n
 paperWritten (Written.Refused x) = refused (paperUnwritten x)
 
 -- what the record says, or the refusal

@@ -9,6 +9,11 @@ use basis::buffers::pair_at;
 // How many bytes a record has.
 pub const RECORD: usize = 10;
 
+// What its length field says: how many bytes follow the field.
+pub const LENGTH: u16 = 8;
+
+pub const VERSION: u8 = 1;
+
 // What a session came to: `acknowledged` of `total` packets, over a file of so many bytes.
 pub struct Record {
     pub version: u8,
@@ -51,14 +56,14 @@ pub fn read(input: &[u8]) -> Reading
     if input.len() < RECORD {
         return Reading::Refused(Unread::Short);
     }
-    if pair_at(input, 0) != 8 {
+    if pair_at(input, 0) != LENGTH {
         return Reading::Refused(Unread::Length);
     }
     if RECORD < input.len() {
         return Reading::Refused(Unread::Length);
     }
     let version = input[2];
-    if version != 1 {
+    if version != VERSION {
         return Reading::Refused(Unread::Version);
     }
     let outcome = input[3];

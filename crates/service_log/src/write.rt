@@ -6,14 +6,17 @@ ghost use Rattle.basis.specs.Lists.{overlay};
 ghost use Rattle.basis.specs.Refusals.{counted, written};
 ghost use Rattle.service_log.specs.Log.{outcomeIn, fitTwo, writeOf};
 ghost use Rattle.service_log.specs.Paper.{paperUnwritten, paperWritten};
+use crate::read::LENGTH;
 use crate::read::RECORD;
+use crate::read::VERSION;
 use crate::truth::is_false;
 use basis::buffers::write as put;
 use session::phase::Phase;
 use session::session::Session;
 
 pub enum Written {
-    Record,
+    // The record's length.
+    Record(usize),
     Refused(Unwritten),
 }
 
@@ -60,9 +63,9 @@ pub fn write(session: Session, buffer: &mut [u8]) -> Written
         return Written::Refused(Unwritten::NoRoom);
     }
     let record = [
-        0x00,
-        0x08,
-        0x01,
+        (LENGTH / 256) as u8,
+        (LENGTH % 256) as u8,
+        VERSION,
         outcome,
         (acknowledged / 256 % 256) as u8,
         (acknowledged % 256) as u8,
@@ -72,7 +75,7 @@ pub fn write(session: Session, buffer: &mut [u8]) -> Written
         (bytes % 256) as u8,
     ];
     put(buffer, &record);
-    Written::Record
+    Written::Record(RECORD)
 }
 
 // The outcome's number; 45, which no record holds, where there is none yet.

@@ -36,12 +36,12 @@ unread-back Unread.False = refl
 
 -- what the paper's answer stands for
 writtenBy : Answer ℕ → Written
-writtenBy (given n) = Written.Record
+writtenBy (given n) = Written.Record n
 writtenBy (refused n) = Written.Refused (unwrittenBy n)
 
 written-back : (r : Written) → writtenBy (paperWritten r) ≡ r
 unfolding writtenBy
-written-back Written.Record = refl
+written-back (Written.Record n) = refl
 written-back (Written.Refused x) = ap Written.Refused (unwritten-back x)
 
 readingBy : Answer Record → Reading

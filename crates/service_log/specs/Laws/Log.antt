@@ -10,7 +10,7 @@ use Rattle.basis.specs.Lists.{pairAt}
 use Rattle.basis.specs.Refusals.{refused, given}
 use Rattle.session.specs.Phases.{ended}
 use Rattle.session.specs.declared.session.Session.{Session}
-use Rattle.service_log.specs.Log.{recordSize, isFalseOf, outcomeIn, fitTwo, recordBytes, writeOf, readOf}
+use Rattle.service_log.specs.Log.{recordSize, recordLength, recordVersion, isFalseOf, outcomeIn, fitTwo, recordBytes, writeOf, readOf}
 
 -- ---- writing
 
@@ -55,11 +55,11 @@ module _ (board : ℕ) (s : List ℕ) where
   read-short l = stop 50 _ _ _ (lt-ltb _ _ l)
 
   module _ (l₁ : recordSize ≤ length s) where
-    pub read-length : (pairAt s 0 ≡ 8 → ⊥) → readOf board s ≡ refused 51
+    pub read-length : (pairAt s 0 ≡ recordLength → ⊥) → readOf board s ≡ refused 51
     unfolding readOf
     read-length n = skip 50 _ _ _ (le-ltb _ _ l₁) ∙ stop 51 _ _ _ (ap not (ne-eqb _ _ n))
 
-    module _ (e₂ : pairAt s 0 ≡ 8) where
+    module _ (e₂ : pairAt s 0 ≡ recordLength) where
       pub read-long : recordSize < length s → readOf board s ≡ refused 51
       unfolding readOf
       read-long l =
@@ -67,14 +67,14 @@ module _ (board : ℕ) (s : List ℕ) where
           ∙ stop 51 _ _ _ (lt-ltb _ _ l)
 
       module _ (l₃ : length s ≤ recordSize) where
-        pub read-version : (getD s 2 0 ≡ 1 → ⊥) → readOf board s ≡ refused 52
+        pub read-version : (getD s 2 0 ≡ recordVersion → ⊥) → readOf board s ≡ refused 52
         unfolding readOf
         read-version n =
             skip 50 _ _ _ (le-ltb _ _ l₁) ∙ skip 51 _ _ _ (ap not (eq-eqb _ _ e₂))
             ∙ skip 51 _ _ _ (le-ltb _ _ l₃) ∙ stop 52 _ _ _ (ap not (ne-eqb _ _ n))
 
         -- the counts as they were joined
-        module _ (e₄ : getD s 2 0 ≡ 1) {k t n : ℕ} (ek : k ≡ pairAt s 4) (et : t ≡ pairAt s 6)
+        module _ (e₄ : getD s 2 0 ≡ recordVersion) {k t n : ℕ} (ek : k ≡ pairAt s 4) (et : t ≡ pairAt s 6)
             (en : n ≡ pairAt s 8) where
           pub read-false : isFalseOf board (getD s 3 0) k t n ≡ true → readOf board s ≡ refused 53
           unfolding readOf

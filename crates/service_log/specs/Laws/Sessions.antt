@@ -28,14 +28,14 @@ use Rattle.session.specs.declared.phase.RunKind.{RunKind}
 use Rattle.session.specs.declared.session.Session.{Session}
 use Rattle.service_log.specs.Laws.FalseRecords.{false-valid, true-greeted, false-ungreeted}
 use Rattle.service_log.specs.Laws.Log.{write-given, read-given}
-use Rattle.service_log.specs.Log.{recordSize, known, isFalseOf, outcomeIn, twoBytes, fitTwo, recordBytes, writeOf, recordAt, readOf}
+use Rattle.service_log.specs.Log.{recordSize, recordVersion, known, isFalseOf, outcomeIn, twoBytes, fitTwo, recordBytes, writeOf, recordAt, readOf}
 use Rattle.service_log.specs.declared.read.Record.{Record}
 use Rattle.session.specs.declared.event.Event.{Event}
 
 -- ---- what is written reads back
 
 abbrev pub said : ℕ → ℕ → ℕ → ℕ → Record
-said o k t n = record { version = 1; outcome = o; acknowledged = k; total = t; bytes = n }
+said o k t n = record { version = recordVersion; outcome = o; acknowledged = k; total = t; bytes = n }
 
 pub read-back : (board : ℕ) (o k t n : ℕ) → fitTwo k t n ≡ true → isFalseOf board o k t n ≡ false
     → readOf board (recordBytes o k t n) ≡ given (said o k t n)

@@ -9,11 +9,11 @@ use Rattle.gremolunde.specs.Answers.{lengthAnswer}
 use Rattle.gremolunde.proofs.records.length_answer.Statement.{statement}
 use Rattle.gremolunde.proofs.records.length_answer.Tie as tie
 
-enum-told : tie.Need-enum-told
-enum-told c = search needs
-
 enum-known-answer : tie.Need-enum-known-answer
 enum-known-answer c = search needs
+
+enum-known-answer-2 : tie.Need-enum-known-answer-2
+enum-known-answer-2 c = search needs
 
 number-requires : tie.Need-number-requires
 number-requires c κs = search needs
@@ -22,13 +22,20 @@ refused-requires : tie.Need-refused-requires
 refused-requires c κs = search needs
 
 returns : tie.Need-returns
-returns c = ap (λ (x : Written). lengthAnswer (paperWritten x)) (sym (c .enum-told .given .1))
+returns c = ap (λ (x : Written). lengthAnswer (paperWritten x)) (sym (c .before .answer .given .1))
 
 returns-2 : tie.Need-returns-2
 returns-2 c =
     c .refused .ensures ∙ ap (λ (n : ℕ). lengthAnswer (refused n)) (c .before .number .ensures)
-    ∙ ap (λ (x : Written). lengthAnswer (paperWritten x)) (sym (c .before .before .before .answer .given .1))
+    ∙ ap (λ (x : Written). lengthAnswer (paperWritten x)) (sym (c .before .before .before .answer2 .given .1))
 
 pub length-answer-spec : {M : Type 1} → statement M
 length-answer-spec =
-    tie.close (tie.spec enum-told enum-known-answer number-requires refused-requires returns returns-2)
+    tie.close
+    (tie.spec
+    enum-known-answer
+    enum-known-answer-2
+    number-requires
+    refused-requires
+    returns
+    returns-2)

@@ -50,23 +50,29 @@ returns-4 c =
     (c .before .before .before .before .before .outcome-in .ensures)
     (sym (c .before .before .is-false .ensures) ∙ c .before .if3 .left) (c .if4 .taken))
 
-cast-t19 : tie.Need-cast-t19
-cast-t19 c = search needs
+cast-t18 : tie.Need-cast-t18
+cast-t18 c = search needs
 
-cast-t21 : tie.Need-cast-t21
-cast-t21 c = search needs
+cast-t20 : tie.Need-cast-t20
+cast-t20 c = search needs
 
-cast-t24 : tie.Need-cast-t24
-cast-t24 c = search needs
+cast-t23 : tie.Need-cast-t23
+cast-t23 c = search needs
 
-cast-t26 : tie.Need-cast-t26
-cast-t26 c = search needs
+cast-t25 : tie.Need-cast-t25
+cast-t25 c = search needs
 
-cast-t29 : tie.Need-cast-t29
-cast-t29 c = search needs
+cast-t28 : tie.Need-cast-t28
+cast-t28 c = search needs
 
-cast-t31 : tie.Need-cast-t31
-cast-t31 c = search needs
+cast-t30 : tie.Need-cast-t30
+cast-t30 c = search needs
+
+cast-t33 : tie.Need-cast-t33
+cast-t33 c = search needs
+
+cast-t35 : tie.Need-cast-t35
+cast-t35 c = search needs
 
 slice-aggregate-write : tie.Need-slice-aggregate-write
 slice-aggregate-write c = search needs
@@ -102,12 +108,14 @@ write-spec =
     is-false-requires
     returns-3
     returns-4
-    cast-t19
-    cast-t21
-    cast-t24
-    cast-t26
-    cast-t29
-    cast-t31
+    cast-t18
+    cast-t20
+    cast-t23
+    cast-t25
+    cast-t28
+    cast-t30
+    cast-t33
+    cast-t35
     slice-aggregate-write
     write-requires
     same-length
