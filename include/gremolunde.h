@@ -66,7 +66,7 @@ enum {
     GREMOLUNDE_ENDED = 5     /* nothing; place is the outcome, 0 valid or 40 to 43 */
 };
 
-/* How the board goes on after the last packet: the address of R. */
+/* The run kind: how the board goes on after the last packet. */
 enum { GREMOLUNDE_JUMP = 0, GREMOLUNDE_RESET = 1 };
 
 /* A session, without its file. One with a phase or an outcome that is not listed, or with a place where its phase has

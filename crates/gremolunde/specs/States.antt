@@ -67,7 +67,7 @@ abbrev pub hexShown : Hex → HexState
 hexShown h =
     record { linear = h .linear; segment = h .segment; ended = flagOf (h .ended); taken = flagOf (h .taken) }
 
--- the address of R: 0 jumps, 1 and all else resets
+-- a run kind: 0 jumps, 1 and all else resets
 abbrev pub runMeant : ℕ → RunKind
 runMeant n = pick (eqb n 0) RunKind.Jump RunKind.Reset
 

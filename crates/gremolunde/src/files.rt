@@ -3,7 +3,6 @@ ghost use mathlib.Core.Path.{_≡_};
 ghost use lib.ListN.{length};
 ghost use Rattle.basis.specs.Board.{flashSize};
 ghost use Rattle.basis.specs.Lists.{overlay};
-ghost use Rattle.basis.specs.Refusals.{refused};
 ghost use Rattle.gremolunde.specs.Answers.{noReader, hexAnswer, writtenAnswer};
 ghost use Rattle.gremolunde.specs.States.{hexMeant};
 ghost use Rattle.image.specs.Paper.{paperRead, paperWritten};
@@ -41,13 +40,19 @@ pub extern "C" fn gremolunde_hex_start(image: &mut [u8], map: &mut [u8]) -> HexR
         (r ≡ hexAnswer noReader (o .answer)) × (now (image .exit) ≡ o .image) × (now (map .exit) ≡ o .map))
         ⌝ }
 {
-    let none = HexState {
+    hex_answer(no_reader(), Hex::start(image, map))
+}
+
+// What a start that is refused hands back.
+pub fn no_reader() -> HexState
+    ensures { λ r. ⌜ r ≡ noReader ⌝ }
+{
+    HexState {
         linear: 0,
         segment: 0,
         ended: 0,
         taken: 0,
-    };
-    hex_answer(none, Hex::start(image, map))
+    }
 }
 
 #[no_mangle]
@@ -117,16 +122,10 @@ fn written_answer(from: u32, answer: Written) -> HexWritten
             next: next.0,
             length,
         },
-        Written::Refused(why) => unwritten(why.number(), from),
-    }
-}
-
-fn unwritten(number: u32, from: u32) -> HexWritten
-    ensures { λ r. ⌜ r ≡ writtenAnswer from (refused number) ⌝ }
-{
-    HexWritten {
-        number,
-        next: from,
-        length: 0,
+        Written::Refused(why) => HexWritten {
+            number: why.number(),
+            next: from,
+            length: 0,
+        },
     }
 }

@@ -34,7 +34,7 @@ pub struct HexState {
     pub taken: u8,
 }
 
-// `run` is the address of R: 0 jumps, all else resets. `phase` is 0 for the greeting, 1 to 4 for E, W, V
+// `run` is the run kind: 0 jumps, all else resets. `phase` is 0 for the greeting, 1 to 4 for E, W, V
 // and R, 5 for an end; `place` is the page of E, the address of W and V, and the outcome of an end.
 #[repr(C)]
 pub struct SessionState {

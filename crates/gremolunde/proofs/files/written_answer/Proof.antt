@@ -18,9 +18,6 @@ enum-known-answer-2 c = search needs
 number-requires : tie.Need-number-requires
 number-requires c κs = search needs
 
-unwritten-requires : tie.Need-unwritten-requires
-unwritten-requires c κs = search needs
-
 returns : tie.Need-returns
 returns c =
     let from = c .before .before .before .args .from in
@@ -28,11 +25,9 @@ returns c =
 
 returns-2 : tie.Need-returns-2
 returns-2 c =
-    let from = c .before .before .before .before .before .args .from in
-    c .unwritten .ensures
-    ∙ ap (λ (n : ℕ). writtenAnswer from (refused n)) (c .before .number .ensures)
-    ∙ ap (λ (x : Written). writtenAnswer from (paperWritten x))
-    (sym (c .before .before .before .answer2 .given .1))
+    let from = c .before .before .before .before .args .from in
+    ap (λ (n : ℕ). writtenAnswer from (refused n)) (c .number .ensures)
+    ∙ ap (λ (x : Written). writtenAnswer from (paperWritten x)) (sym (c .before .before .answer2 .given .1))
 
 pub written-answer-spec : {M : Type 1} → statement M
 written-answer-spec =
@@ -41,6 +36,5 @@ written-answer-spec =
     enum-known-answer
     enum-known-answer-2
     number-requires
-    unwritten-requires
     returns
     returns-2)
