@@ -8,28 +8,13 @@ use Rattle.basis.specs.Choice.{pick}
 use Rattle.basis.specs.Refusals.{Answer}
 use Rattle.image.specs.Hex.{Settled, settled, recordIn}
 use Rattle.image.specs.Hex.{closeOf as closing}
-use Rattle.image.specs.Paper.{paperRefusal}
 use Rattle.image.specs.declared.hex.Hex.{Hex}
-use Rattle.listing.specs.Text.{Blame, Lined, stopped, going, atLine, Verdict, Result, result, trimmedOf}
-use Rattle.listing.specs.declared.text.Blame as Code
-use Rattle.listing.specs.declared.text.Ended.{Ended}
-use Rattle.listing.specs.declared.text.Reading.{Reading}
+use Rattle.listing.specs.Text.{Lined, stopped, going, atLine, Verdict, Result, result, trimmedOf}
 use Rattle.listing.specs.declared.text.Text.{Text}
 
 -- of a text so far: refused, or open
 abbrev pub Progress : Type 0
 Progress = Lined Text
-
-abbrev pub paperBlame : Code.Blame → Blame
-paperBlame b = record { line = b .line; number = paperRefusal (b .refusal) }
-
-abbrev pub paperReading : Reading → Progress
-paperReading (Reading.Open t) = going t
-paperReading (Reading.Refused b) = stopped (paperBlame b)
-
-abbrev pub paperEnded : Ended → Verdict
-paperEnded Ended.File = going tt
-paperEnded (Ended.Refused b) = stopped (paperBlame b)
 
 pub record Fed : Type 0 where
   pub progress : Progress

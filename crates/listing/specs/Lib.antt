@@ -4,4 +4,5 @@ pub mod Text
 pub mod Lines
 pub mod Feed
 pub mod Plan
+pub mod Paper
 pub mod Laws

@@ -6,7 +6,6 @@ use lib.Dec.{ltb}
 use lib.ListN.{length, drop}
 use Rattle.basis.specs.Choice.{pick}
 use Rattle.basis.specs.Refusals.{Answer, refused, given}
-use Rattle.session.specs.Paper.{paperRefusal}
 use Rattle.session.specs.Phases.{packetAt as sessionPacketAt, phaseAt}
 use Rattle.session.specs.Plan.{plan, total}
 use Rattle.session.specs.Session.{Sent, Loadable}
@@ -14,7 +13,6 @@ use Rattle.session.specs.declared.phase.Outcome.{Outcome}
 use Rattle.session.specs.declared.phase.Phase.{Phase}
 use Rattle.session.specs.declared.phase.RunKind.{RunKind}
 use Rattle.listing.specs.Lines.{headLine, stepLine, totalLine}
-use Rattle.listing.specs.declared.plan.Begun.{Begun}
 use Rattle.listing.specs.declared.plan.Listing.{Listing}
 
 -- the lines of packets, n listed before them
@@ -45,10 +43,6 @@ pub record Listed (board : ℕ) (image m : List ℕ) (l : Listing) : Type 0 wher
   pub file : Loadable board image m
   pub stands : l ≡ listingAt board m (l .listed)
   pub within : l .listed ≤ total board m
-
-abbrev pub paperBegun : Begun → Answer Listing
-paperBegun (Begun.Listing l) = given l
-paperBegun (Begun.Refused x) = refused (paperRefusal x)
 
 -- refused as the session's start is, else nothing is listed
 abbrev pub listingBy : ℕ → List ℕ → Answer Sent → Answer Listing

@@ -3,7 +3,7 @@ ghost use mathlib.Core.Path.{_≡_};
 ghost use Prim.Native.Nat.{_≤_};
 ghost use lib.ListN.{length};
 ghost use Rattle.basis.specs.Lists.{overlay};
-ghost use Rattle.listing.specs.Feed.{paperBlame};
+ghost use Rattle.listing.specs.Paper.{paperBlame};
 ghost use Rattle.listing.specs.Lines.{refusalRoom, refusalAt, refusalLine};
 use crate::numbers::field;
 use crate::numbers::last_field;

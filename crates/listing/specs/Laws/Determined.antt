@@ -7,8 +7,8 @@ use Rattle.basis.specs.Laws.Refusals.{apart, given-one, refused-one, determined
 use Rattle.basis.specs.Refusals.{Answer}
 use Rattle.image.specs.Laws.Determined.{refusal-one}
 use Rattle.session.specs.Laws.Determined.{refusal-one as session-one}
-use Rattle.listing.specs.Feed.{paperBlame, paperReading, paperEnded, Fed, state}
-use Rattle.listing.specs.Plan.{paperBegun}
+use Rattle.listing.specs.Feed.{Fed, state}
+use Rattle.listing.specs.Paper.{paperBlame, paperReading, paperEnded, paperBegun}
 use Rattle.listing.specs.Text.{Blame, stopped, going, Result, result}
 use Rattle.listing.specs.declared.plan.Begun.{Begun}
 use Rattle.listing.specs.declared.plan.Listing.{Listing}

@@ -6,7 +6,8 @@ use borrow.Author.Needs.{needs}
 use lib.ListN.{length}
 use Rattle.basis.specs.Board.{pages}
 use Rattle.listing.specs.Laws.Plan.{begun-listed, sheet-listed, sheet-falls}
-use Rattle.listing.specs.Plan.{paperBegun, Listed}
+use Rattle.listing.specs.Paper.{paperBegun}
+use Rattle.listing.specs.Plan.{Listed}
 use Rattle.plan.proofs.print.Statement.{statement}
 use Rattle.plan.proofs.print.Tie as tie
 

@@ -4,7 +4,8 @@ use Prim.Native.Nat.{ℕ}
 use mathlib.Core.List.{List}
 use mathlib.Core.Path.{_≡_}
 use Rattle.listing.specs.Text.{stopped}
-use Rattle.listing.specs.Feed.{Fed, state, paperBlame, paperReading, fedByte, progressByte}
+use Rattle.listing.specs.Feed.{Fed, state, fedByte, progressByte}
+use Rattle.listing.specs.Paper.{paperBlame, paperReading}
 use Rattle.listing.specs.declared.text.Blame.{Blame}
 use Rattle.listing.specs.declared.text.Reading.{Reading}
 use Rattle.listing.specs.declared.text.Text.{Text}

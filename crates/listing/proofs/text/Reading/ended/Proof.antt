@@ -2,7 +2,8 @@
 use borrow.Author.Needs.{needs}
 use mathlib.Core.Path.{_≡_}
 use Rattle.listing.specs.Text.{stopped}
-use Rattle.listing.specs.Feed.{paperBlame, paperReading, endedOf}
+use Rattle.listing.specs.Feed.{endedOf}
+use Rattle.listing.specs.Paper.{paperBlame, paperReading}
 use Rattle.listing.specs.declared.text.Blame.{Blame}
 use Rattle.listing.specs.declared.text.Reading.{Reading}
 use Rattle.listing.proofs.text.Reading.ended.Statement.{statement}

@@ -8,7 +8,8 @@ use borrow.Author.Needs.{needs}
 use lib.ListN.{length, getD, take, drop, take-append-drop, length-drop, drop-of-length-le}
 use lib.Seq.{drop-cons, drop-drop, take-all}
 use Rattle.basis.specs.Board.{flashSize}
-use Rattle.listing.specs.Feed.{paperReading, Fed, state, byteOf, feedOf}
+use Rattle.listing.specs.Feed.{Fed, state, byteOf, feedOf}
+use Rattle.listing.specs.Paper.{paperReading}
 use Rattle.listing.specs.Laws.Feed.{feed-append}
 use Rattle.listing.proofs.text.Reading.feed.Statement.{statement}
 use Rattle.listing.proofs.text.Reading.feed.Tie as tie

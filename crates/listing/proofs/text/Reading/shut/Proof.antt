@@ -2,7 +2,8 @@
 use mathlib.Core.Path.{sym, ap, _∙_, _≡_}
 use borrow.Author.Needs.{needs}
 use Rattle.listing.specs.Text.{Blame, stopped}
-use Rattle.listing.specs.Feed.{paperReading, shutOf, Progress}
+use Rattle.listing.specs.Feed.{shutOf, Progress}
+use Rattle.listing.specs.Paper.{paperReading}
 use Rattle.listing.specs.declared.text.Reading.{Reading}
 use Rattle.listing.proofs.text.Reading.shut.Statement.{statement}
 use Rattle.listing.proofs.text.Reading.shut.Tie as tie
