@@ -6,8 +6,7 @@ use lib.Dec.{eqb, ltb}
 use lib.ListN.{length, set, take}
 use Rattle.basis.specs.Choice.{pick}
 use Rattle.basis.specs.Refusals.{Answer}
-use Rattle.image.specs.Hex.{Settled, settled, recordIn}
-use Rattle.image.specs.Hex.{closeOf as closing}
+use Rattle.image.specs.Hex.{Settled, settled, recordIn, closeOf}
 use Rattle.image.specs.declared.hex.Hex.{Hex}
 use Rattle.listing.specs.Text.{Lined, stopped, going, atLine, Verdict, Result, result, trimmedOf}
 use Rattle.listing.specs.declared.text.Text.{Text}
@@ -62,23 +61,23 @@ abbrev pub progressByte : ℕ → Progress → ℕ → List ℕ → List ℕ →
 progressByte size (stopped x) b line image map = state (stopped x) line image map
 progressByte size (going t) b line image map = fedByte size t b line image map
 
-abbrev pub byteOf : ℕ → Fed → ℕ → Fed
-byteOf size s b = progressByte size (s .progress) b (s .line) (s .image) (s .map)
+abbrev pub byteIn : ℕ → Fed → ℕ → Fed
+byteIn size s b = progressByte size (s .progress) b (s .line) (s .image) (s .map)
 
 -- the bytes one by one
-unfoldable pub feedOf : ℕ → Fed → List ℕ → Fed
-feedOf size s [] = s
-feedOf size s (b ∷ t) = feedOf size (byteOf size s b) t
+unfoldable pub feedIn : ℕ → Fed → List ℕ → Fed
+feedIn size s [] = s
+feedIn size s (b ∷ t) = feedIn size (byteIn size s b) t
 
 -- a stretch of the open line, never the last byte that came: as its bytes one by one, whatever image and map
 abbrev pub Keeps : ℕ → Progress → List ℕ → List ℕ → Progress → List ℕ → ℕ → Type 0
 Keeps size p line bytes q kept n =
     (n ≤ length bytes - 1)
-    × ((image map : List ℕ) → state q kept image map ≡ feedOf size (state p line image map) (take n bytes))
+    × ((image map : List ℕ) → state q kept image map ≡ feedIn size (state p line image map) (take n bytes))
 
 -- the line after the last 0A, as it stands
-unfoldable pub lastOf : ℕ → Text → List ℕ → List ℕ → List ℕ → Fed
-lastOf size t line image map =
+unfoldable pub lastIn : ℕ → Text → List ℕ → List ℕ → List ℕ → Fed
+lastIn size t line image map =
     pick (eqb (t .len) 0) (state (going t) line image map)
     (fedLine size t (take (t .len) line) line image map)
 
@@ -88,17 +87,17 @@ afterClosing t = atLine 0 (λ h. t)
 
 unfoldable pub shutOf : Progress → Progress
 shutOf (stopped b) = stopped b
-shutOf (going t) = afterClosing t (closing (t .hex))
+shutOf (going t) = afterClosing t (closeOf (t .hex))
 
 abbrev pub fedClosing : Fed → Fed
 fedClosing s = state (shutOf (s .progress)) (s .line) (s .image) (s .map)
 
 abbrev pub progressClosed : ℕ → Progress → List ℕ → List ℕ → List ℕ → Fed
 progressClosed size (stopped b) line image map = state (stopped b) line image map
-progressClosed size (going t) line image map = fedClosing (lastOf size t line image map)
+progressClosed size (going t) line image map = fedClosing (lastIn size t line image map)
 
-abbrev pub closeOf : ℕ → Fed → Fed
-closeOf size s = progressClosed size (s .progress) (s .line) (s .image) (s .map)
+abbrev pub closeIn : ℕ → Fed → Fed
+closeIn size s = progressClosed size (s .progress) (s .line) (s .image) (s .map)
 
 -- what a reading came to
 abbrev pub endedOf : Progress → Verdict
@@ -110,4 +109,4 @@ fedResult s = result (endedOf (s .progress)) (s .image) (s .map)
 
 -- what a text comes to from a state on
 abbrev pub cameTo : ℕ → Fed → List ℕ → Result
-cameTo size s text = fedResult (closeOf size (feedOf size s text))
+cameTo size s text = fedResult (closeIn size (feedIn size s text))

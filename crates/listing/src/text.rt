@@ -4,7 +4,7 @@ ghost use lib.ListN.{set, take};
 ghost use Rattle.basis.specs.Board.{flashSize};
 ghost use Rattle.image.specs.Hex.{settled, startIn, recordIn};
 ghost use Rattle.listing.specs.Text.{going, result, trimmedOf, readIn};
-ghost use Rattle.listing.specs.Feed.{endedOf, state, nextLine, afterLine, keepOneOf, withKept, fedByte, byteOf, feedOf, Keeps, lastOf, shutOf, closeOf};
+ghost use Rattle.listing.specs.Feed.{endedOf, state, nextLine, afterLine, keepOneOf, withKept, fedByte, byteIn, feedIn, Keeps, lastIn, shutOf, closeIn};
 ghost use Rattle.listing.specs.Paper.{paperReading, paperEnded};
 use image::hex::Hex;
 use image::hex::Read;
@@ -67,7 +67,7 @@ impl Reading {
     pub fn feed(self, bytes: &[u8], line: &mut [u8], image: &mut [u8], map: &mut [u8]) -> Reading
         ensures { λ r. ⌜
             state (paperReading r) (now (line .exit)) (now (image .exit)) (now (map .exit))
-            ≡ feedOf flashSize
+            ≡ feedIn flashSize
             (state (paperReading self) (now (line .entry)) (now (image .entry)) (now (map .entry)))
             (now (bytes .entry))
             ⌝ }
@@ -102,7 +102,7 @@ impl Reading {
     fn byte(self, b: u8, line: &mut [u8], image: &mut [u8], map: &mut [u8]) -> Reading
         ensures { λ r. ⌜
             state (paperReading r) (now (line .exit)) (now (image .exit)) (now (map .exit))
-            ≡ byteOf flashSize
+            ≡ byteIn flashSize
             (state (paperReading self) (now (line .entry)) (now (image .entry)) (now (map .entry))) b
             ⌝ }
     {
@@ -116,7 +116,7 @@ impl Reading {
     pub fn close(self, line: &[u8], image: &mut [u8], map: &mut [u8]) -> Reading
         ensures { λ r. ⌜
             state (paperReading r) (now (line .entry)) (now (image .exit)) (now (map .exit))
-            ≡ closeOf flashSize
+            ≡ closeIn flashSize
             (state (paperReading self) (now (line .entry)) (now (image .entry)) (now (map .entry)))
             ⌝ }
     {
@@ -202,7 +202,7 @@ impl Text {
     fn last(self, line: &[u8], image: &mut [u8], map: &mut [u8]) -> Reading
         ensures { λ r. ⌜
             state (paperReading r) (now (line .entry)) (now (image .exit)) (now (map .exit))
-            ≡ lastOf flashSize self (now (line .entry)) (now (image .entry)) (now (map .entry))
+            ≡ lastIn flashSize self (now (line .entry)) (now (image .entry)) (now (map .entry))
             ⌝ }
     {
         let n = self.len;

@@ -5,15 +5,15 @@ use mathlib.Core.Path.{_≡_, refl}
 use lib.ListN.{length, set, take}
 use borrow.Author.Tests.{eq-eqb, ne-eqb, lt-ltb, le-ltb}
 use Rattle.listing.specs.Text.{going, trimmedOf}
-use Rattle.listing.specs.Feed.{Fed, state, withKept, keepOneOf, fedLine, fedByte, byteOf, feedOf}
+use Rattle.listing.specs.Feed.{Fed, state, withKept, keepOneOf, fedLine, fedByte, byteIn, feedIn}
 use Rattle.listing.specs.declared.text.Text.{Text}
 
 module _ (size : ℕ) where
   -- a text may be cut anywhere
-  pub feed-append : (s : Fed) (a b : List ℕ) → feedOf size s (a ++ b) ≡ feedOf size (feedOf size s a) b
-  unfolding feedOf
+  pub feed-append : (s : Fed) (a b : List ℕ) → feedIn size s (a ++ b) ≡ feedIn size (feedIn size s a) b
+  unfolding feedIn
   feed-append s [] b = refl
-  feed-append s (x ∷ a) b = feed-append (byteOf size s x) a b
+  feed-append s (x ∷ a) b = feed-append (byteIn size s x) a b
 
   -- one byte ends the line or is kept
   module _ (t : Text) (b : ℕ) (line image map : List ℕ) where

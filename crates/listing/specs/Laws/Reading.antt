@@ -12,11 +12,10 @@ use lib.ListN.{length, getD, set, take, length-append, length-take, length-set}
 use lib.Seq.{length-take-le, take-all, take-nil, take-append-le, take-suc-set, set-out, getD-take}
 use Rattle.basis.specs.Laws.Choice.{decide}
 use Rattle.basis.specs.Refusals.{Answer, refused, given, _when_, first}
-use Rattle.image.specs.Hex.{File, file, settled, rightSizesIn, startIn, recordIn}
-use Rattle.image.specs.Hex.{closeOf as closing}
+use Rattle.image.specs.Hex.{File, file, settled, rightSizesIn, startIn, recordIn, closeOf}
 use Rattle.image.specs.declared.hex.Hex.{Hex}
 use Rattle.listing.specs.Text.{Blame, stopped, going, atLine, Result, result, lineRoom, trimmedOf, linesFrom, unlessRefused, readFrom, readIn}
-use Rattle.listing.specs.Feed.{Fed, state, textAt, fedAfter, nextLine, withKept, keepOneOf, fedByte, byteOf, feedOf, lastOf, afterClosing, shutOf, fedClosing, endedOf, fedResult, cameTo}
+use Rattle.listing.specs.Feed.{Fed, state, textAt, fedAfter, nextLine, withKept, keepOneOf, fedByte, byteIn, feedIn, lastIn, afterClosing, shutOf, fedClosing, endedOf, fedResult, cameTo}
 use Rattle.listing.specs.Laws.Feed.{byte-ends, byte-kept, keep-more, keep-none}
 use Rattle.listing.specs.declared.text.Text.{Text}
 
@@ -126,8 +125,8 @@ verdict-shut t (given h) = refl
 module _ (size : ℕ) where
   -- a refusal stays
   feed-stopped : (x : Blame) (line image map text : List ℕ)
-      → feedOf size (state (stopped x) line image map) text ≡ state (stopped x) line image map
-  unfolding feedOf
+      → feedIn size (state (stopped x) line image map) text ≡ state (stopped x) line image map
+  unfolding feedIn
   feed-stopped x line image map [] = refl
   feed-stopped x line image map (b ∷ text) = feed-stopped x line image map text
 
@@ -144,13 +143,13 @@ module _ (size : ℕ) where
     ends : (l : List ℕ) (t : Text) (image map : List ℕ) → Held l t line → nextLine t ≡ t .lines + 1
         → cameTo size (state (going t) line image map) []
         ≡ readFrom size (t .lines) (linesFrom l []) (file (t .hex) image map)
-    unfolding Held feedOf linesFrom readFrom lastOf shutOf
+    unfolding Held feedIn linesFrom readFrom lastIn shutOf
     ends l t image map h e =
         let held = held-length l t line h in
         let kept = length-take (length line) l in
         decide (eqb (length l) 0)
         (λ z. let n : t .len ≡ 0 = omega (arith, held, kept, eqb-true (length l) 0 z) in
-        rw (z, eq-eqb (t .len) 0 n) (ap (λ v. result v image map) (verdict-shut t (closing (t .hex)))))
+        rw (z, eq-eqb (t .len) 0 n) (ap (λ v. result v image map) (verdict-shut t (closeOf (t .hex)))))
         (λ z. let n : t .len ≡ 0 → ⊥ = λ q. eqb-false (length l) 0 z (omega (arith, held, kept)) in
         rw (z, ne-eqb (t .len) 0 n, h .1, record-kept size (t .hex) image map (length line) l room, e)
         (last (t .lines + 1) (recordIn size (t .hex) l image map)))
@@ -160,7 +159,7 @@ module _ (size : ℕ) where
             ≡ unlessRefused n image map a (readFrom size n [])
         last n (refused k) = refl
         last n (given f) =
-            ap (λ v. result v (f .image) (f .map)) (verdict-shut (textAt n (f .reader)) (closing (f .reader)))
+            ap (λ v. result v (f .image) (f .map)) (verdict-shut (textAt n (f .reader)) (closeOf (f .reader)))
 
   numbered : (n k : ℕ) → n + k + 1 < 2 ^ 64 → (n + 1) % 2 ^ 64 ≡ n + 1
   numbered n k l = mod-eq-of-lt (omega arith)
@@ -175,8 +174,8 @@ module _ (size : ℕ) where
     unfolding linesFrom
     lines-on z = rw z
 
-  fed-on : (s : Fed) (b : ℕ) (text : List ℕ) → cameTo size s (b ∷ text) ≡ cameTo size (byteOf size s b) text
-  unfolding feedOf
+  fed-on : (s : Fed) (b : ℕ) (text : List ℕ) → cameTo size s (b ∷ text) ≡ cameTo size (byteIn size s b) text
+  unfolding feedIn
   fed-on s b text = refl
 
   read-on : (n : ℕ) (l : List ℕ) (ls : List (List ℕ)) (f : File)

@@ -8,7 +8,7 @@ use lib.ListN.{length}
 use Rattle.image.specs.Hex.{settled, startIn}
 use Rattle.listing.specs.Text.{Verdict, result, lineRoom, readIn}
 use Rattle.listing.specs.Laws.Reading.{text-reads}
-use Rattle.listing.specs.Feed.{Progress, Fed, state, feedOf, closeOf, endedOf, fedResult}
+use Rattle.listing.specs.Feed.{Progress, Fed, state, feedIn, closeIn, endedOf, fedResult}
 use Rattle.listing.proofs.Texts.{Shown, fed-shown}
 use Rattle.listing.proofs.text.read.Statement.{statement}
 use Rattle.listing.proofs.text.read.Tie as tie
@@ -17,13 +17,13 @@ module _ (size : ℕ) (text line image map : List ℕ) (room : lineRoom ≤ leng
     (few : length text + 1 < 2 ^ 64) where
   read-by : (p q r : Progress) (i1 m1 l2 i2 m2 i3 m3 : List ℕ)
       → Shown 0 p i1 m1 (settled (startIn size image map) image map)
-      → state q l2 i2 m2 ≡ feedOf size (state p line i1 m1) text
-      → state r l2 i3 m3 ≡ closeOf size (state q l2 i2 m2) → (v : Verdict) → v ≡ endedOf r
+      → state q l2 i2 m2 ≡ feedIn size (state p line i1 m1) text
+      → state r l2 i3 m3 ≡ closeIn size (state q l2 i2 m2) → (v : Verdict) → v ≡ endedOf r
       → result v i3 m3 ≡ readIn size text image map
   read-by p q r i1 m1 l2 i2 m2 i3 m3 s f g v ev =
       let e = fed-shown 0 p line i1 m1 (settled (startIn size image map) image map) s in
       ap (λ (x : Verdict). result x i3 m3) ev
-      ∙ ap fedResult (g ∙ ap (closeOf size) (f ∙ ap (λ (x : Fed). feedOf size x text) e))
+      ∙ ap fedResult (g ∙ ap (closeIn size) (f ∙ ap (λ (x : Fed). feedIn size x text) e))
       ∙ text-reads size text line image map room few
 
 start-requires : tie.Need-start-requires

@@ -4,7 +4,7 @@ use Prim.Native.Nat.{ℕ}
 use mathlib.Core.List.{List}
 use mathlib.Core.Path.{_≡_, ap}
 use Rattle.listing.specs.Text.{stopped}
-use Rattle.listing.specs.Feed.{Progress, state, lastOf, shutOf, fedClosing, progressClosed}
+use Rattle.listing.specs.Feed.{Progress, state, lastIn, shutOf, fedClosing, progressClosed}
 use Rattle.listing.specs.Paper.{paperBlame, paperReading}
 use Rattle.listing.specs.declared.text.Blame.{Blame}
 use Rattle.listing.specs.declared.text.Reading.{Reading}
@@ -15,7 +15,7 @@ use Rattle.listing.proofs.text.Reading.close.Tie as tie
 module _ (size : ℕ) (r : Reading) (line image map : List ℕ) where
   -- the last line, and then closing
   close-open : (t : Text) (i m : List ℕ) (p q : Progress) → r ≡ Reading.Open t → q ≡ shutOf p
-      → state p line i m ≡ lastOf size t line image map
+      → state p line i m ≡ lastIn size t line image map
       → state q line i m ≡ progressClosed size (paperReading r) line image map
   close-open t i m p q e f g = rw (e, f) (ap fedClosing g)
 

@@ -8,7 +8,7 @@ use borrow.Author.Needs.{needs}
 use lib.ListN.{length, getD, take, drop, take-append-drop, length-drop, drop-of-length-le}
 use lib.Seq.{drop-cons, drop-drop, take-all}
 use Rattle.basis.specs.Board.{flashSize}
-use Rattle.listing.specs.Feed.{Fed, state, byteOf, feedOf}
+use Rattle.listing.specs.Feed.{Fed, state, byteIn, feedIn}
 use Rattle.listing.specs.Paper.{paperReading}
 use Rattle.listing.specs.Laws.Feed.{feed-append}
 use Rattle.listing.proofs.text.Reading.feed.Statement.{statement}
@@ -21,35 +21,35 @@ rest-lent t i = take-all (length t - i) (drop i t) (omega (arith, length-drop i 
 module _ (size : ℕ) where
   -- a stretch of a text and the byte after it
   feed-next : (s q r : Fed) (t u : List ℕ) (i n : ℕ) → i < length t → u ≡ drop i t → n ≤ length u - 1
-      → q ≡ feedOf size s (take n u) → r ≡ byteOf size q (getD t (i + n) 0)
-      → feedOf size r (drop (i + n + 1) t) ≡ feedOf size s (drop i t)
-  unfolding feedOf
+      → q ≡ feedIn size s (take n u) → r ≡ byteIn size q (getD t (i + n) 0)
+      → feedIn size r (drop (i + n + 1) t) ≡ feedIn size s (drop i t)
+  unfolding feedIn
   feed-next s q r t u i n h d k e f =
-      ap (λ (x : Fed). feedOf size x (drop (i + n + 1) t)) f
+      ap (λ (x : Fed). feedIn size x (drop (i + n + 1) t)) f
       ∙ one
-      ∙ ap (λ (x : List ℕ). feedOf size q x) (sym (drop-drop n i t))
-      ∙ ap (λ (x : Fed). feedOf size x (drop n (drop i t)))
-      (e ∙ ap (λ (x : List ℕ). feedOf size s (take n x)) d)
+      ∙ ap (λ (x : List ℕ). feedIn size q x) (sym (drop-drop n i t))
+      ∙ ap (λ (x : Fed). feedIn size x (drop n (drop i t)))
+      (e ∙ ap (λ (x : List ℕ). feedIn size s (take n x)) d)
       ∙ sym (feed-append size s (take n (drop i t)) (drop n (drop i t)))
-      ∙ ap (λ (x : List ℕ). feedOf size s x) (take-append-drop n (drop i t))
+      ∙ ap (λ (x : List ℕ). feedIn size s x) (take-append-drop n (drop i t))
     where
       inside : i + n < length t
       inside = omega (arith, length-drop i t, ap length d)
 
-      one : feedOf size (byteOf size q (getD t (i + n) 0)) (drop (i + n + 1) t)
-          ≡ feedOf size q (drop (i + n) t)
+      one : feedIn size (byteIn size q (getD t (i + n) 0)) (drop (i + n + 1) t)
+          ≡ feedIn size q (drop (i + n) t)
       one = rw (add-one, drop-cons t (i + n) 0 inside)
 
   -- the text's end
-  feed-end : (s : Fed) (t : List ℕ) (i : ℕ) → length t ≤ i → feedOf size s (drop i t) ≡ s
-  unfolding feedOf
+  feed-end : (s : Fed) (t : List ℕ) (i : ℕ) → length t ≤ i → feedIn size s (drop i t) ≡ s
+  unfolding feedIn
   feed-end s t i h = rw (drop-of-length-le t h)
 
 abbrev Inv-loop : tie.InvT-loop
 Inv-loop bytes line₀ image₀ map₀ reading₀ i₀ line image map reading i =
     (i ≤ length bytes) × (length line ≡ length line₀) × (length image ≡ length image₀) ×
     (length map ≡ length map₀) ×
-    (feedOf flashSize (state (paperReading reading) line image map) (drop i bytes) ≡ feedOf flashSize
+    (feedIn flashSize (state (paperReading reading) line image map) (drop i bytes) ≡ feedIn flashSize
     (state (paperReading reading₀) line₀ image₀ map₀) bytes)
 
 abbrev μ-loop : tie.MeasureT-loop

@@ -4,7 +4,7 @@ use Prim.Native.Nat.{ℕ}
 use mathlib.Core.List.{List, []}
 use mathlib.Core.Path.{_≡_}
 use Rattle.listing.specs.Text.{stopped, going}
-use Rattle.listing.specs.Feed.{Progress, state, feedOf, Keeps}
+use Rattle.listing.specs.Feed.{Progress, state, feedIn, Keeps}
 use Rattle.listing.specs.Paper.{paperBlame, paperReading}
 use Rattle.listing.specs.declared.text.Blame.{Blame}
 use Rattle.listing.specs.declared.text.Reading.{Reading}
@@ -18,8 +18,8 @@ module _ (size : ℕ) (r : Reading) (line : List ℕ) where
   keep-open t bytes k q n e h = rw e h
 
   keep-refused : (b : Blame) (image map : List ℕ) → r ≡ Reading.Refused b
-      → state (stopped (paperBlame b)) line image map ≡ feedOf size (state (paperReading r) line image map) []
-  unfolding feedOf
+      → state (stopped (paperBlame b)) line image map ≡ feedIn size (state (paperReading r) line image map) []
+  unfolding feedIn
   keep-refused b image map e = rw e
 
 enum-known-self : tie.Need-enum-known-self

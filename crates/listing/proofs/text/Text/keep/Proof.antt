@@ -7,7 +7,7 @@ use lib.Seq.{take-suc}
 use native.Mathlib.Numerals.{add-one}
 use Rattle.basis.specs.Board.{flashSize}
 use Rattle.listing.specs.Text.{going}
-use Rattle.listing.specs.Feed.{Fed, byteOf, feedOf, Progress, state, withKept, keepOneOf, Keeps}
+use Rattle.listing.specs.Feed.{Fed, byteIn, feedIn, Progress, state, withKept, keepOneOf, Keeps}
 use mathlib.Core.List.{List, [], _∷_, _++_}
 use native.Mathlib.Omega.{arith}
 use Rattle.listing.specs.Laws.Feed.{feed-append}
@@ -18,13 +18,13 @@ use Rattle.listing.proofs.text.Text.keep.Tie as tie
 
 module _ (size : ℕ) where
   -- one byte of a stretch more
-  feed-more : (s q r : Fed) (t : List ℕ) (i : ℕ) → i < length t → q ≡ feedOf size s (take i t)
-      → r ≡ byteOf size q (getD t i 0) → r ≡ feedOf size s (take (i + 1) t)
-  unfolding feedOf
+  feed-more : (s q r : Fed) (t : List ℕ) (i : ℕ) → i < length t → q ≡ feedIn size s (take i t)
+      → r ≡ byteIn size q (getD t i 0) → r ≡ feedIn size s (take (i + 1) t)
+  unfolding feedIn
   feed-more s q r t i h e f =
-      f ∙ ap (λ (x : Fed). byteOf size x (getD t i 0)) e
+      f ∙ ap (λ (x : Fed). byteIn size x (getD t i 0)) e
       ∙ sym (feed-append size s (take i t) (getD t i 0 ∷ []))
-      ∙ ap (λ (x : List ℕ). feedOf size s x) grown
+      ∙ ap (λ (x : List ℕ). feedIn size s x) grown
     where
       grown : take i t ++ (getD t i 0 ∷ []) ≡ take (i + 1) t
       grown = rw (add-one, take-suc t i 0 h)
@@ -33,7 +33,7 @@ module _ (size : ℕ) (t : Text) (line bytes : List ℕ) where
   -- so many bytes are gone through, and n are kept
   abbrev Gone : ℕ → List ℕ → ℕ → Type 0
   Gone n k i =
-      (image map : List ℕ) → state (going (withKept t n)) k image map ≡ feedOf size
+      (image map : List ℕ) → state (going (withKept t n)) k image map ≡ feedIn size
       (state (going t) line image map) (take i bytes)
 
   gone-more : (n m i : ℕ) (k l : List ℕ) → i + 1 < length bytes → (getD bytes i 0 ≡ 0x0A → ⊥)
@@ -55,7 +55,7 @@ abbrev μ-loop : tie.MeasureT-loop
 μ-loop self bytes line₀ len₀ i₀ line len i = length bytes - i
 
 loop-holds : tie.Need-loop-holds Inv-loop μ-loop
-unfolding feedOf
+unfolding feedIn
 loop-holds c = (search needs, refl, λ image map. refl)
 
 add-loop : tie.Need-add-loop Inv-loop μ-loop

@@ -7,21 +7,21 @@ use borrow.Author.Tests.{eq-eqb, ne-eqb}
 use lib.ListN.{take}
 use Rattle.image.specs.Hex.{settled, recordIn}
 use Rattle.listing.specs.Text.{going}
-use Rattle.listing.specs.Feed.{Progress, state, nextLine, lastOf}
+use Rattle.listing.specs.Feed.{Progress, state, nextLine, lastIn}
 use Rattle.listing.specs.declared.text.Text.{Text}
 use Rattle.listing.proofs.Texts.{Shown, fed-shown}
 use Rattle.listing.proofs.text.Text.last.Statement.{statement}
 use Rattle.listing.proofs.text.Text.last.Tie as tie
 
 module _ (size : ℕ) (t : Text) (line image map : List ℕ) where
-  last-none : t .len ≡ 0 → state (going t) line image map ≡ lastOf size t line image map
-  unfolding lastOf
+  last-none : t .len ≡ 0 → state (going t) line image map ≡ lastIn size t line image map
+  unfolding lastIn
   last-none e = rw (eq-eqb _ _ e)
 
   last-line : (l i m : List ℕ) (p : Progress) → (t .len ≡ 0 → ⊥) → l ≡ take (t .len) line
       → Shown (nextLine t) p i m (settled (recordIn size (t .hex) l image map) image map)
-      → state p line i m ≡ lastOf size t line image map
-  unfolding lastOf
+      → state p line i m ≡ lastIn size t line image map
+  unfolding lastIn
   last-line l i m p n el s =
       rw (ne-eqb _ _ n)
       (fed-shown (nextLine t) p line i m
