@@ -1,9 +1,9 @@
 -- The lines that the programs print.
 use Prim.Native.Nat.{ℕ}
 use mathlib.Core.List.{List, [], _∷_, _++_}
-use lib.ListN.{getD}
 use Rattle.basis.specs.Refusals.{Answer, refused, given}
 use Rattle.image.specs.Writer.{spelt}
+use Rattle.packet.specs.Packet.{command}
 use Rattle.listing.specs.Numbers.{decimalOf}
 use Rattle.listing.specs.Text.{Blame}
 use Rattle.service_log.specs.declared.read.Record.{Record}
@@ -46,7 +46,7 @@ headLine =
 
 -- step number, command letter and whole packet in hex; the command is the packet's fourth byte
 unfoldable pub stepLine : ℕ → List ℕ → List ℕ
-stepLine n p = decimalOf n ++ (0x20 ∷ getD p 3 0 ∷ 0x20 ∷ (spelt p ++ lineEnd))
+stepLine n p = decimalOf n ++ (0x20 ∷ command p ∷ 0x20 ∷ (spelt p ++ lineEnd))
 
 -- no line above or below the steps is longer: 6 characters, 20 digits and 0A
 abbrev pub totalRoom : ℕ

@@ -5,13 +5,13 @@ use lib.Dec.{ltb}
 use Rattle.basis.specs.Choice.{pick}
 
 -- the character of a digit
-abbrev pub digit : ℕ → ℕ
-digit d = 0x30 + d
+abbrev pub numeral : ℕ → ℕ
+numeral d = 0x30 + d
 
 -- n in decimal, by at most k divisions
 unfoldable pub decimalIn : ℕ → ℕ → List ℕ
-decimalIn zero n = digit n ∷ []
-decimalIn (suc k) n = pick (ltb n 10) (digit n ∷ []) (decimalIn k (n / 10) ++ (digit (n % 10) ∷ []))
+decimalIn zero n = numeral n ∷ []
+decimalIn (suc k) n = pick (ltb n 10) (numeral n ∷ []) (decimalIn k (n / 10) ++ (numeral (n % 10) ∷ []))
 
 -- n divisions are always enough
 unfoldable pub decimalOf : ℕ → List ℕ

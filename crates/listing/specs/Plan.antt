@@ -6,7 +6,7 @@ use lib.Dec.{ltb}
 use lib.ListN.{length, drop}
 use Rattle.basis.specs.Choice.{pick}
 use Rattle.basis.specs.Refusals.{Answer, refused, given}
-use Rattle.session.specs.Phases.{packetAt as sessionPacketAt, phaseAt}
+use Rattle.session.specs.Phases.{packetAt, phaseAt}
 use Rattle.session.specs.Plan.{plan, total}
 use Rattle.session.specs.Session.{Sent, Loadable}
 use Rattle.session.specs.declared.phase.Outcome.{Outcome}
@@ -28,8 +28,8 @@ planText board image m =
 -- ---- a listing
 
 -- the packet after n listed ones
-abbrev pub packetAt : ℕ → List ℕ → List ℕ → ℕ → List ℕ
-packetAt board image m n = sessionPacketAt board image m RunKind.Reset n
+abbrev pub resetPacketAt : ℕ → List ℕ → List ℕ → ℕ → List ℕ
+resetPacketAt board image m n = packetAt board image m RunKind.Reset n
 
 -- its phase; after the last packet the session ends
 abbrev pub phaseAfter : ℕ → List ℕ → ℕ → Phase

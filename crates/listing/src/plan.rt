@@ -1,17 +1,17 @@
 // A plan's lines: what a load that ends with a reset sends, packet by packet.
 ghost use mathlib.Core.Path.{_≡_};
 ghost use Prim.Native.Nat.{_+_, _*_, _≤_, _<_};
-ghost use lib.ListN.{length, getD, drop};
+ghost use lib.ListN.{length, drop};
 ghost use Rattle.basis.specs.Board.{mapSize, pages};
 ghost use Rattle.basis.specs.Lists.{overlay, copyOf};
-ghost use Rattle.packet.specs.Packet.{packetMost};
+ghost use Rattle.packet.specs.Packet.{packetMost, command};
 ghost use Rattle.runs.specs.Pieces.{namedCount};
 ghost use Rattle.session.specs.Plan.{plan, total};
 ghost use Rattle.session.specs.Session.{started};
 ghost use Rattle.session.specs.declared.phase.RunKind.{RunKind};
 ghost use Rattle.listing.specs.Lines.{headLine, stepLine, totalRoom, totalLine};
 ghost use Rattle.listing.specs.Paper.{paperBegun};
-ghost use Rattle.listing.specs.Plan.{Listed, listingAt, listingBy, packetAt, longestLine, sheetOf};
+ghost use Rattle.listing.specs.Plan.{Listed, listingAt, listingBy, resetPacketAt, longestLine, sheetOf};
 use crate::numbers::decimal;
 use crate::numbers::last_field;
 use basis::buffers::write;
@@ -40,10 +40,10 @@ pub enum Begun {
     Refused(Refusal),
 }
 
-// The listing after what was written, and how much that is.
+// The listing after what was written, and the place behind that.
 pub struct Sheet {
     pub listing: Listing,
-    pub len: usize,
+    pub end: usize,
 }
 
 impl Listing {
@@ -95,7 +95,7 @@ impl Listing {
         ensures { λ r. ⌜
             (let g = sheetOf (length (now (buffer .entry))) (self .listed)
             (drop (self .listed) (plan pages (now (image .entry)) (now (map .entry)) RunKind.Reset)) in
-            (r .listing ≡ listingAt pages (now (map .entry)) (g .listed)) × (r .len ≡ length (g .text))
+            (r .listing ≡ listingAt pages (now (map .entry)) (g .listed)) × (r .end ≡ length (g .text))
             × (now (buffer .exit) ≡ overlay (g .text) (now (buffer .entry))))
             ⌝ }
     {
@@ -103,13 +103,13 @@ impl Listing {
         let mut at = 0;
         while listing.listed < listing.total {
             if buffer.len() - at < LONGEST {
-                return Sheet { listing, len: at };
+                return Sheet { listing, end: at };
             }
             let next = listing.line(image, map, buffer, at);
             listing = next.listing;
-            at = next.len;
+            at = next.end;
         }
-        Sheet { listing, len: at }
+        Sheet { listing, end: at }
     }
 
     // The next packet's line, from `at` on.
@@ -120,8 +120,8 @@ impl Listing {
             ⌝ }
         ensures { λ r. ⌜
             (let s = stepLine (self .listed + 1)
-            (packetAt pages (now (image .entry)) (now (map .entry)) (self .listed)) in
-            (r .listing ≡ listingAt pages (now (map .entry)) (self .listed + 1)) × (r .len ≡ at + length s)
+            (resetPacketAt pages (now (image .entry)) (now (map .entry)) (self .listed)) in
+            (r .listing ≡ listingAt pages (now (map .entry)) (self .listed + 1)) × (r .end ≡ at + length s)
             × (now (buffer .exit) ≡ copyOf (now (buffer .entry)) at s) × (length s ≤ longestLine))
             ⌝ }
     {
@@ -144,21 +144,21 @@ impl Listing {
             ⌝ }
         ensures { λ r. ⌜
             (let s = stepLine (self .listed + 1)
-            (packetAt pages (now (image .entry)) (now (map .entry)) (self .listed)) in
-            (r .listing ≡ listingAt pages (now (map .entry)) (self .listed + 1)) × (r .len ≡ at + length s)
+            (resetPacketAt pages (now (image .entry)) (now (map .entry)) (self .listed)) in
+            (r .listing ≡ listingAt pages (now (map .entry)) (self .listed + 1)) × (r .end ≡ at + length s)
             × (now (buffer .exit) ≡ copyOf (now (buffer .entry)) at s) × (length s ≤ longestLine))
             ⌝ }
     {
         let phase = self.phase;
         let listed = self.listed + 1;
         let n = send(image, map, RunKind::Reset, phase, packet);
-        let len = step_line(buffer, at, listed as u64, &packet[..n]);
+        let end = step_line(buffer, at, listed as u64, &packet[..n]);
         let listing = Listing {
             phase: after(map, phase),
             listed,
             total: self.total,
         };
-        Sheet { listing, len }
+        Sheet { listing, end }
     }
 }
 
@@ -203,7 +203,7 @@ fn step_line(buffer: &mut [u8], at: usize, step: u64, packet: &[u8]) -> usize
 
 // The command is the packet's fourth byte.
 fn command_letter(packet: &[u8]) -> u8
-    ensures { λ r. ⌜ r ≡ getD (now (packet .entry)) 3 0 ⌝ }
+    ensures { λ r. ⌜ r ≡ command (now (packet .entry)) ⌝ }
 {
     if packet.len() <= 3 {
         return 0;

@@ -117,7 +117,7 @@ fn print(image: &[u8], map: &[u8], buffer: &mut [u8]) -> bool
     while listing.listed < listing.total {
         let sheet = listing.sheet(image, map, buffer);
         listing = sheet.listing;
-        if !put(buffer, sheet.len) {
+        if !put(buffer, sheet.end) {
             return false;
         }
     }

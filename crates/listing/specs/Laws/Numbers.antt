@@ -8,7 +8,7 @@ use borrow.Author.Tests.{lt-ltb, le-ltb, ltb-true, ltb-false}
 use lib.Dec.{ltb}
 use lib.ListN.{length, length-append}
 use Rattle.basis.specs.Laws.Choice.{decide}
-use Rattle.listing.specs.Numbers.{digit, decimalIn, decimalOf}
+use Rattle.listing.specs.Numbers.{numeral, decimalIn, decimalOf}
 
 enough : (j k n : ℕ) → n ≤ j → n ≤ k → decimalIn j n ≡ decimalIn k n
 unfolding decimalIn
@@ -20,12 +20,12 @@ enough (suc j) (suc k) n h l =
     (λ t. rw t)
     (λ t. let g = ltb-false n 10 t in rw (t, enough j k (n / 10) (omega arith) (omega arith)))
 
-pub decimal-one : (n : ℕ) → n < 10 → decimalOf n ≡ digit n ∷ []
+pub decimal-one : (n : ℕ) → n < 10 → decimalOf n ≡ numeral n ∷ []
 unfolding decimalOf decimalIn
 decimal-one zero h = refl
 decimal-one (suc n) h = rw (lt-ltb (suc n) 10 h)
 
-pub decimal-more : (n : ℕ) → 10 ≤ n → decimalOf n ≡ decimalOf (n / 10) ++ (digit (n % 10) ∷ [])
+pub decimal-more : (n : ℕ) → 10 ≤ n → decimalOf n ≡ decimalOf (n / 10) ++ (numeral (n % 10) ∷ [])
 unfolding decimalOf decimalIn
 decimal-more zero h = absurd (omega arith)
 decimal-more (suc n) h =
@@ -38,7 +38,7 @@ decimal-length (suc k) n h =
     decide (ltb n 10)
     (λ t. rw (decimal-one n (ltb-true n 10 t)) (omega arith))
     (λ t. let e = pow-succ' 10 (suc k) in
-    rw (decimal-more n (ltb-false n 10 t), length-append (decimalOf (n / 10)) (digit (n % 10) ∷ []))
+    rw (decimal-more n (ltb-false n 10 t), length-append (decimalOf (n / 10)) (numeral (n % 10) ∷ []))
     (omega (arith, decimal-length k (n / 10) (omega arith))))
 
 -- 64 bits make at most 20 digits

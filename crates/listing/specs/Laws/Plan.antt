@@ -27,7 +27,7 @@ use Rattle.session.specs.declared.phase.RunKind.{RunKind}
 use Rattle.session.specs.declared.session.Next.{Next}
 use Rattle.session.specs.declared.session.Session.{Session}
 use Rattle.listing.specs.Lines.{headLine, stepLine, totalLine}
-use Rattle.listing.specs.Plan.{stepLines, planText, packetAt, phaseAfter, listingAt, Listed, listingBy, longestLine, Sheet, sheet, followedBy, sheetOf, sheets}
+use Rattle.listing.specs.Plan.{stepLines, planText, resetPacketAt, phaseAfter, listingAt, Listed, listingBy, longestLine, Sheet, sheet, followedBy, sheetOf, sheets}
 use Rattle.listing.specs.declared.plan.Listing.{Listing}
 
 -- ---- along the plan
@@ -97,7 +97,7 @@ module _ (board : ℕ) (image m : List ℕ) (l : Listing) (h : Listed board imag
 
     -- and what is left of the plan begins with its packet
     pub listed-left : drop (l .listed) (plan board image m RunKind.Reset)
-        ≡ packetAt board image m (l .listed) ∷ drop (l .listed + 1) (plan board image m RunKind.Reset)
+        ≡ resetPacketAt board image m (l .listed) ∷ drop (l .listed + 1) (plan board image m RunKind.Reset)
     listed-left =
         let k : l .listed < length (plan board image m RunKind.Reset) = omega
         (arith, plan-length board image m RunKind.Reset, listed-below) in

@@ -9,7 +9,7 @@ use borrow.Fn.Kinds.{In}
 use borrow.Fn.PlainCycle.{Measures, is, falls, and}
 use lib.ListN.{length, set, length-append}
 use Rattle.basis.specs.Lists.{copyOf}
-use Rattle.listing.specs.Numbers.{digit, decimalOf}
+use Rattle.listing.specs.Numbers.{numeral, decimalOf}
 use Rattle.listing.specs.Laws.Numbers.{decimal-one, decimal-more, decimal-most}
 use Rattle.listing.proofs.Buffers.{copy-one, copy-last, Field}
 use Rattle.listing.proofs.numbers.+decimal.Tie.{close}
@@ -20,7 +20,7 @@ use Rattle.listing.proofs.numbers.+decimal.Lts-decimal as decimal-lts
 
 -- the room for one digit less
 decimal-room : (n : ℕ) → 10 ≤ n → length (decimalOf n) ≡ length (decimalOf (n / 10)) + 1
-decimal-room n h = ap length (decimal-more n h) ∙ length-append (decimalOf (n / 10)) (digit (n % 10) ∷ [])
+decimal-room n h = ap length (decimal-more n h) ∙ length-append (decimalOf (n / 10)) (numeral (n % 10) ∷ [])
 
 decimal-some : (n at r : ℕ) → n < 10 → at + length (decimalOf n) ≤ r → at < r
 decimal-some n at r h l = let e = ap length (decimal-one n h) in omega arith
@@ -28,7 +28,7 @@ decimal-some n at r h l = let e = ap length (decimal-one n h) in omega arith
 -- a number of one digit, and one more digit of a longer one
 module _ (b : List ℕ) (at n : ℕ) where
   decimal-last : n < 10 → Field b at (decimalOf n) (set b at (48 + n)) (at + 1) (at + 20)
-  decimal-last h = rw (decimal-one n h) (refl, (sym (copy-one b at (digit n)), omega arith))
+  decimal-last h = rw (decimal-one n h) (refl, (sym (copy-one b at (numeral n)), omega arith))
 
   decimal-next : (c : List ℕ) (e r : ℕ) → 10 ≤ n → length (decimalOf n) ≤ 20
       → Field b at (decimalOf (n / 10)) c e r
@@ -38,7 +38,7 @@ module _ (b : List ℕ) (at n : ℕ) where
     where
       copied : set c e (48 + n % 10) ≡ copyOf b at (decimalOf n)
       copied =
-          rw (decimal-more n h) (copy-last b at (decimalOf (n / 10)) c e (digit (n % 10)) (f .0) (f .1 .0))
+          rw (decimal-more n h) (copy-last b at (decimalOf (n / 10)) c e (numeral (n % 10)) (f .0) (f .1 .0))
 
 abbrev μ-decimal : Measures 1 decimal-kinds.ps ℕ
 μ-decimal κs a = a .1 .1 .0

@@ -4,10 +4,11 @@ use mathlib.Core.List.{List, _∷_, _++_}
 use mathlib.Core.Path.{_≡_, sym, ap, _∙_}
 use native.Mathlib.Omega.{arith}
 use borrow.Author.Needs.{needs}
-use lib.ListN.{length, getD, set, length-append, length-set}
+use lib.ListN.{length, set, length-append, length-set}
 use Rattle.basis.specs.Lists.{stored, copyOf}
 use Rattle.image.specs.Laws.Writer.{length-spelt}
 use Rattle.image.specs.Writer.{spelt}
+use Rattle.packet.specs.Packet.{command}
 use Rattle.listing.specs.Lines.{lineEnd, stepLine}
 use Rattle.listing.specs.Laws.Numbers.{decimal-most}
 use Rattle.listing.specs.Numbers.{decimalOf}
@@ -28,7 +29,7 @@ module _ (b p : List ℕ) (at n : ℕ) where
   step-length = simp (length-append, length-spelt) (omega arith)
 
   -- the number, a space, the letter, a space, the packet and 0A, one behind the other
-  step-put : (c d : List ℕ) (e k : ℕ) → Field b at (decimalOf n) c e (at + 20) → k ≡ getD p 3 0
+  step-put : (c d : List ℕ) (e k : ℕ) → Field b at (decimalOf n) c e (at + 20) → k ≡ command p
       → d ≡ copyOf (set (set (set c e 0x20) (e + 1) k) (e + 2) 0x20) (e + 3) (spelt p)
       → (e + 3 + 2 * length p + 1 ≡ at + length (stepLine n p))
       × (set d (e + 3 + 2 * length p) 0x0A ≡ copyOf b at (stepLine n p))
@@ -42,7 +43,7 @@ module _ (b p : List ℕ) (at n : ℕ) where
         omega (arith, f .0),
         copy-last x (e + 3) (spelt p) d (e + 3 + 2 * length p) 0x0A q ed
             ∙ sym (copy-three c e 0x20 k 0x20 t) ∙ ap (λ (y : ℕ). copyOf c e (0x20 ∷ y ∷ 0x20 ∷ t)) ek
-            ∙ copy-then b at (decimalOf n) (0x20 ∷ getD p 3 0 ∷ 0x20 ∷ t) c e (f .0) (f .1 .0),
+            ∙ copy-then b at (decimalOf n) (0x20 ∷ command p ∷ 0x20 ∷ t) c e (f .0) (f .1 .0),
         omega (arith, f .0, f .1 .1),
       )
 

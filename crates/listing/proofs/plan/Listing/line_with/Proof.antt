@@ -13,7 +13,7 @@ use Rattle.session.specs.Phases.{packetOut, afterOf}
 use Rattle.session.specs.declared.phase.Phase.{Phase}
 use Rattle.session.specs.declared.phase.RunKind.{RunKind}
 use Rattle.listing.specs.Lines.{stepLine}
-use Rattle.listing.specs.Plan.{packetAt, listingAt, Listed, longestLine}
+use Rattle.listing.specs.Plan.{resetPacketAt, listingAt, Listed, longestLine}
 use Rattle.listing.specs.declared.plan.Listing.{Listing}
 use Rattle.packet.specs.Packet.{packetMost}
 use Rattle.listing.proofs.plan.Listing.line_with.Statement.{statement}
@@ -35,7 +35,7 @@ module _ (image m : List ℕ) (l : Listing) (h : Listed pages image m l) (more :
   p = packetOut pages image m RunKind.Reset (l .phase)
 
   -- the packet is what the buffer holds
-  packet-is : take k x ≡ packetAt pages image m (l .listed)
+  packet-is : take k x ≡ resetPacketAt pages image m (l .listed)
   packet-is =
       overlay-taken p old x k (sends .1) (sends .0)
       ∙ ap (packetOut pages image m RunKind.Reset) (listed-phase pages image m l h more)
@@ -52,9 +52,9 @@ module _ (image m : List ℕ) (l : Listing) (h : Listed pages image m l) (more :
       × (length (stepLine (l .listed + 1) (take k x)) ≤ 2 * length (take k x) + 24)
       → ph ≡ afterOf pages m (l .phase)
       → (record { phase = ph; listed = l .listed + 1; total = l .total } ≡ listingAt pages m (l .listed + 1))
-      × (e ≡ at + length (stepLine (l .listed + 1) (packetAt pages image m (l .listed))))
-      × (b ≡ copyOf buffer at (stepLine (l .listed + 1) (packetAt pages image m (l .listed))))
-      × (length (stepLine (l .listed + 1) (packetAt pages image m (l .listed))) ≤ longestLine)
+      × (e ≡ at + length (stepLine (l .listed + 1) (resetPacketAt pages image m (l .listed))))
+      × (b ≡ copyOf buffer at (stepLine (l .listed + 1) (resetPacketAt pages image m (l .listed))))
+      × (length (stepLine (l .listed + 1) (resetPacketAt pages image m (l .listed))) ≤ longestLine)
   line-put buffer b at e ph f g =
       let s = ap (stepLine (l .listed + 1)) packet-is in (
         listed-next pages image m l h more ph g,

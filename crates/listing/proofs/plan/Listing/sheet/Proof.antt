@@ -2,7 +2,7 @@
 use Prim.Native.Nat.{_-_, ℕ, _+_, _≤_, _<_}
 use native.Mathlib.Omega.{arith}
 use lib.ListN.{length, drop, length-append}
-use Rattle.listing.specs.Plan.{Listed, packetAt, listingAt, longestLine, Sheet, sheet, sheetOf}
+use Rattle.listing.specs.Plan.{Listed, resetPacketAt, listingAt, longestLine, Sheet, sheet, sheetOf}
 use mathlib.Core.List.{List, [], _++_}
 use mathlib.Core.Path.{_≡_, refl, sym, ap, _∙_}
 use Rattle.basis.specs.Board.{pages}
@@ -67,7 +67,7 @@ module _ (image m old : List ℕ) (g : Sheet) (l : Listing) (h : Listed pages im
 
   module _ (more : l .listed < l .total) (room : longestLine ≤ length buffer - at) where
     abbrev line : List ℕ
-    line = stepLine (l .listed + 1) (packetAt pages image m (l .listed))
+    line = stepLine (l .listed + 1) (resetPacketAt pages image m (l .listed))
 
     -- and one less is left
     writing-falls : (x : Listing) → x ≡ listingAt pages m (l .listed + 1)
@@ -91,7 +91,7 @@ module _ (image m old : List ℕ) (g : Sheet) (l : Listing) (h : Listed pages im
         (drop (l .listed + 1) (plan pages image m RunKind.Reset)) in
         let q : left image m (length buffer - at) l ≡ sheet (line ++ rest .text) (rest .listed) =
         ap (sheetOf (length buffer - at) (l .listed)) (listed-left pages image m l h more)
-        ∙ sheet-line (length buffer - at) (l .listed) (packetAt pages image m (l .listed))
+        ∙ sheet-line (length buffer - at) (l .listed) (resetPacketAt pages image m (l .listed))
         (drop (l .listed + 1) (plan pages image m RunKind.Reset)) room in
         let r : length b - e ≡ length buffer - at - length line = omega (arith, f .0) in
         let y : left image m (length b - e) x ≡ rest = rw (n, r) in (
