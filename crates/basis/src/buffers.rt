@@ -1,7 +1,7 @@
 // Lent buffers: bytes written at a place or at the start, the rest as it was; and bytes read from a place.
 ghost use mathlib.Core.Path.{_≡_};
 ghost use Prim.Native.Nat.{_+_, _*_, _<_, _≤_};
-ghost use lib.ListN.{length, getD};
+ghost use lib.ListN.{length, getD, take};
 ghost use Rattle.basis.specs.Lists.{overlay, copyOf, pairAt};
 
 // The bytes from place `at` on, whatever stood there.
@@ -31,6 +31,16 @@ pub fn first_byte(bytes: &[u8]) -> u8
         return 0;
     }
     bytes[0]
+}
+
+// The first `n` bytes, or all where there are fewer.
+pub fn first(bytes: &[u8], n: usize) -> &[u8]
+    ensures { λ r. ⌜ now r ≡ take n (now (bytes .entry)) ⌝ }
+{
+    if bytes.len() <= n {
+        return bytes;
+    }
+    &bytes[..n]
 }
 
 // Two bytes as one number, the higher first.

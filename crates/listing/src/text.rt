@@ -6,6 +6,7 @@ ghost use Rattle.image.specs.Hex.{settled, startIn, recordIn};
 ghost use Rattle.listing.specs.Text.{going, result, trimmedOf, readIn};
 ghost use Rattle.listing.specs.Feed.{endedOf, state, nextLine, afterLine, keepOneOf, withKept, fedByte, byteIn, feedIn, Keeps, lastIn, shutOf, closeIn};
 ghost use Rattle.listing.specs.Paper.{paperReading, paperEnded};
+use basis::buffers::first;
 use image::hex::Hex;
 use image::hex::Read;
 use image::record::Refusal;
@@ -188,7 +189,7 @@ impl Text {
     {
         let n = self.len;
         if b == 0x0A {
-            return self.take(trimmed(kept(line, n)), image, map);
+            return self.take(trimmed(first(line, n)), image, map);
         }
         let hex = self.hex;
         Reading::Open(Text {
@@ -209,7 +210,7 @@ impl Text {
         if n == 0 {
             return Reading::Open(self);
         }
-        self.take(kept(line, n), image, map)
+        self.take(first(line, n), image, map)
     }
 
     // One line: the next record.
@@ -270,16 +271,6 @@ fn keep_one(line: &mut [u8], n: usize, b: u8) -> usize
     }
     line[n] = b;
     n + 1
-}
-
-// The first `n` bytes, or all where there are fewer.
-fn kept(line: &[u8], n: usize) -> &[u8]
-    ensures { λ r. ⌜ now r ≡ take n (now (line .entry)) ⌝ }
-{
-    if line.len() <= n {
-        return line;
-    }
-    &line[..n]
 }
 
 // A line without the one 0D that may stand at its end.

@@ -5,6 +5,7 @@ ghost use lib.ListN.{length};
 ghost use Rattle.listing.specs.Plan.{longestLine};
 use basis::board::MAP;
 use basis::board::SIZE;
+use basis::buffers::first;
 use libc::STDERR_FILENO;
 use libc::STDIN_FILENO;
 use libc::STDOUT_FILENO;
@@ -127,9 +128,5 @@ fn print(image: &[u8], map: &[u8], buffer: &mut [u8]) -> bool
 
 // Writes the first `n` bytes.
 fn put(buffer: &[u8], n: usize) -> bool {
-    // never: what is written lies in the buffer
-    if buffer.len() < n {
-        return false;
-    }
-    io::write_all(STDOUT_FILENO, &buffer[..n])
+    io::write_all(STDOUT_FILENO, first(buffer, n))
 }

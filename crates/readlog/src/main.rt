@@ -2,6 +2,7 @@
 ghost use Prim.Native.Nat.{_≤_};
 ghost use lib.ListN.{length};
 ghost use Rattle.listing.specs.Lines.{logRoom};
+use basis::buffers::first;
 use libc::STDERR_FILENO;
 use libc::STDIN_FILENO;
 use libc::STDOUT_FILENO;
@@ -28,16 +29,8 @@ fn run(input: &mut [u8], line: &mut [u8])
         io::write_all(STDERR_FILENO, b"readlog: standard input cannot be read\n");
         return;
     };
-    // never: what is read lies in the buffer
-    if input.len() < n {
-        return;
-    }
-    let len = log_line(&input[..n], line);
-    // never: the line lies in its buffer
-    if line.len() < len {
-        return;
-    }
-    if !io::write_all(STDOUT_FILENO, &line[..len]) {
+    let len = log_line(first(input, n), line);
+    if !io::write_all(STDOUT_FILENO, first(line, len)) {
         io::write_all(
             STDERR_FILENO,
             b"readlog: standard output cannot be written\n",

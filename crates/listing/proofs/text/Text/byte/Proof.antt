@@ -22,8 +22,8 @@ module _ (size : ℕ) (t : Text) (b : ℕ) (line image map : List ℕ) where
       (settled (recordIn size (t .hex) (trimmedOf (take (t .len) line)) image map) image map) (rw el at s)
       ∙ sym (byte-ends size t b line image map e)
 
-kept-requires : tie.Need-kept-requires
-kept-requires c κs = search needs
+first-requires : tie.Need-first-requires
+first-requires c κs = search needs
 
 trimmed-requires : tie.Need-trimmed-requires
 trimmed-requires c κs = search needs
@@ -45,7 +45,7 @@ returns c =
     ended-by _ _ _ _ _ _ _ _ _ _
     (c .before .before .before .before .before .before .before .before .before .before .if1 .taken)
     (c .before .before .before .before .before .before .before .trimmed .ensures
-    ∙ ap trimmedOf (c .before .before .before .before .before .before .before .before .kept .ensures))
+    ∙ ap trimmedOf (c .before .before .before .before .before .before .before .before .first .ensures))
     (c .before .before .before .before .take .ensures)
 
 keep-one-requires : tie.Need-keep-one-requires
@@ -63,7 +63,7 @@ pub byte-spec : {M : Type 1} → statement M
 byte-spec =
     tie.close
     (tie.spec
-    kept-requires
+    first-requires
     trimmed-requires
     take-requires
     same-length

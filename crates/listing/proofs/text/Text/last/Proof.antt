@@ -30,8 +30,8 @@ module _ (size : ℕ) (t : Text) (line image map : List ℕ) where
 returns : tie.Need-returns
 returns c = last-none _ _ _ _ _ (c .if1 .taken)
 
-kept-requires : tie.Need-kept-requires
-kept-requires c κs = search needs
+first-requires : tie.Need-first-requires
+first-requires c κs = search needs
 
 take-requires : tie.Need-take-requires
 take-requires c κs = search needs
@@ -45,9 +45,9 @@ same-length-2 c = search needs
 returns-2 : tie.Need-returns-2
 returns-2 c =
     last-line _ _ _ _ _ _ _ _ _ (c .before .before .before .before .before .before .before .before .if1 .left)
-    (c .before .before .before .before .before .before .before .kept .ensures)
+    (c .before .before .before .before .before .before .before .first .ensures)
     (c .before .before .before .before .take .ensures)
 
 pub last-spec : {M : Type 1} → statement M
 last-spec =
-    tie.close (tie.spec returns kept-requires take-requires same-length same-length-2 returns-2)
+    tie.close (tie.spec returns first-requires take-requires same-length same-length-2 returns-2)

@@ -1,11 +1,11 @@
--- `kept` meets its contract: a line that is no longer than asked is taken whole.
+-- `first` meets its contract: bytes that are no more than asked for are taken whole.
 use mathlib.Core.Path.{sym}
 use native.Mathlib.Omega.{arith}
 use borrow.Author.Needs.{needs}
 use lib.ListN.{length-take}
 use lib.Seq.{take-all}
-use Rattle.listing.proofs.text.kept.Statement.{statement}
-use Rattle.listing.proofs.text.kept.Tie as tie
+use Rattle.basis.proofs.buffers.first.Statement.{statement}
+use Rattle.basis.proofs.buffers.first.Tie as tie
 
 returns : tie.Need-returns
 returns c = sym (take-all _ _ (c .if1 .taken))
@@ -16,5 +16,5 @@ slice-aggregate-result c = simp length-take (omega arith)
 returns-2 : tie.Need-returns-2
 returns-2 c = search needs
 
-pub kept-spec : {M : Type 1} → statement M
-kept-spec = tie.close (tie.spec returns slice-aggregate-result returns-2)
+pub first-spec : {M : Type 1} → statement M
+first-spec = tie.close (tie.spec returns slice-aggregate-result returns-2)
