@@ -1,6 +1,5 @@
 // The words that change neither flash nor file, by what follows them.
-use crate::bench::Bench;
-use crate::bench::first;
+use crate::desk::Desk;
 use crate::files;
 use crate::loading;
 use crate::packets;
@@ -17,124 +16,125 @@ use crate::words::run;
 use crate::words::single;
 use basis::board::MAP;
 use basis::board::SIZE;
+use basis::buffers::first;
 
-pub fn words(bench: Bench, line: &[u8], flash: &[u8], image: &[u8], map: &[u8]) -> Bench {
-    let lent = bench.lent;
-    let set = lend(bench, line);
+pub fn words(desk: Desk, line: &[u8], flash: &[u8], image: &[u8], map: &[u8]) -> Desk {
+    let lent = desk.lent;
+    let set = lend(desk, line);
     let built = build(set, line);
     let turned = of_byte(built, line);
     let looked = looks(turned, line, flash, image, map);
     over_lent(looked, line, first(image, lent.image), first(map, lent.map))
 }
 
-fn lend(bench: Bench, line: &[u8]) -> Bench {
+fn lend(desk: Desk, line: &[u8]) -> Desk {
     if !begins(line, b"lend") {
-        return bench;
+        return desk;
     }
     let text = rest(line);
     let Value::Is(n) = decimal(rest(text)) else {
-        return bench;
+        return desk;
     };
-    bench.lends(place(text, b"flash answer image map packet record log"), n)
+    desk.lends(place(text, b"flash answer image map packet record log"), n)
 }
 
-fn build(bench: Bench, line: &[u8]) -> Bench {
+fn build(desk: Desk, line: &[u8]) -> Desk {
     if !begins(line, b"build") {
-        return bench;
+        return desk;
     }
     let text = rest(line);
     let Value::Is(command) = hex(head(text), 2) else {
-        return bench;
+        return desk;
     };
-    packets::build(bench, (command % 256) as u8, rest(text))
+    packets::build(desk, (command % 256) as u8, rest(text))
 }
 
-fn of_byte(bench: Bench, line: &[u8]) -> Bench {
+fn of_byte(desk: Desk, line: &[u8]) -> Desk {
     let Value::Is(b) = hex(rest(line), 2) else {
-        return bench;
+        return desk;
     };
     let byte = (b % 256) as u8;
     match place(line, b"turned restored") {
-        0 => packets::turned(bench, byte),
-        1 => packets::restored(bench, byte),
-        _ => bench,
+        0 => packets::turned(desk, byte),
+        1 => packets::restored(desk, byte),
+        _ => desk,
     }
 }
 
-fn looks(bench: Bench, line: &[u8], flash: &[u8], image: &[u8], map: &[u8]) -> Bench {
+fn looks(desk: Desk, line: &[u8], flash: &[u8], image: &[u8], map: &[u8]) -> Desk {
     let text = rest(line);
     match place(line, b"flash image map") {
-        0 => look(bench, hex(head(text), 8), rest(text), first(flash, SIZE)),
-        1 => look(bench, hex(head(text), 8), rest(text), first(image, SIZE)),
-        2 => look(bench, decimal(head(text)), rest(text), first(map, MAP)),
-        _ => bench,
+        0 => look(desk, hex(head(text), 8), rest(text), first(flash, SIZE)),
+        1 => look(desk, hex(head(text), 8), rest(text), first(image, SIZE)),
+        2 => look(desk, decimal(head(text)), rest(text), first(map, MAP)),
+        _ => desk,
     }
 }
 
-fn look(bench: Bench, from: Value, text: &[u8], whole: &[u8]) -> Bench {
+fn look(desk: Desk, from: Value, text: &[u8], whole: &[u8]) -> Desk {
     let Value::Is(at) = from else {
-        return bench;
+        return desk;
     };
     let Value::Is(count) = decimal(text) else {
-        return bench;
+        return desk;
     };
     if whole.len() < at {
-        return bench;
+        return desk;
     }
     if whole.len() - at < count {
-        return bench;
+        return desk;
     }
     let end = at + count;
-    bench.gave(0, &whole[at..end])
+    desk.gave(0, &whole[at..end])
 }
 
 // The words that work on image and map as they are lent.
-fn over_lent(bench: Bench, line: &[u8], image: &[u8], map: &[u8]) -> Bench {
-    let alone = of_nothing(bench, line, image, map);
+fn over_lent(desk: Desk, line: &[u8], image: &[u8], map: &[u8]) -> Desk {
+    let alone = of_nothing(desk, line, image, map);
     let begun = start(alone, line, image, map);
     let read = of_bytes(begun, line, image, map);
     of_address(read, line, image, map)
 }
 
-fn of_nothing(bench: Bench, line: &[u8], image: &[u8], map: &[u8]) -> Bench {
+fn of_nothing(desk: Desk, line: &[u8], image: &[u8], map: &[u8]) -> Desk {
     match place(single(line), b"reset close silence log") {
-        0 => loading::reset(bench),
-        1 => files::close(bench),
-        2 => sessions::step(bench, 1, b"", image, map),
-        3 => sessions::log(bench),
-        _ => bench,
+        0 => loading::reset(desk),
+        1 => files::close(desk),
+        2 => sessions::step(desk, 1, b"", image, map),
+        3 => sessions::log(desk),
+        _ => desk,
     }
 }
 
-fn start(bench: Bench, line: &[u8], image: &[u8], map: &[u8]) -> Bench {
+fn start(desk: Desk, line: &[u8], image: &[u8], map: &[u8]) -> Desk {
     if !begins(line, b"start") {
-        return bench;
+        return desk;
     }
-    sessions::start(bench, run(single(rest(line))), image, map)
+    sessions::start(desk, run(single(rest(line))), image, map)
 }
 
-fn of_bytes(bench: Bench, line: &[u8], image: &[u8], map: &[u8]) -> Bench {
+fn of_bytes(desk: Desk, line: &[u8], image: &[u8], map: &[u8]) -> Desk {
     let mut buffer = io::large_buffer();
     let Value::Is(n) = bytes(rest(line), &mut buffer) else {
-        return bench;
+        return desk;
     };
     let given = first(&buffer, n);
     match place(line, b"read answer logread") {
-        0 => packets::read(bench, given),
-        1 => sessions::step(bench, 0, given, image, map),
-        2 => packets::read_log(bench, given),
-        _ => bench,
+        0 => packets::read(desk, given),
+        1 => sessions::step(desk, 0, given, image, map),
+        2 => packets::read_log(desk, given),
+        _ => desk,
     }
 }
 
-fn of_address(bench: Bench, line: &[u8], image: &[u8], map: &[u8]) -> Bench {
+fn of_address(desk: Desk, line: &[u8], image: &[u8], map: &[u8]) -> Desk {
     let Value::Is(a) = hex(rest(line), 8) else {
-        return bench;
+        return desk;
     };
     let address = (a % 0x1_0000_0000) as u32;
     match place(line, b"write proved") {
-        0 => files::write(bench, address, image, map),
-        1 => sessions::proved(bench, address, map),
-        _ => bench,
+        0 => files::write(desk, address, image, map),
+        1 => sessions::proved(desk, address, map),
+        _ => desk,
     }
 }

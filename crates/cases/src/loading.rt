@@ -1,14 +1,14 @@
 // The loader, and rehearsals of a whole load.
-use crate::bench::Bench;
-use crate::bench::fill;
-use crate::bench::first;
-use crate::bench::first_mut;
+use crate::desk::Desk;
+use crate::desk::fill;
+use crate::desk::first_mut;
 use crate::words::Value;
 use crate::words::bytes;
 use crate::words::hex;
 use crate::words::place;
 use crate::words::rest;
 use crate::words::run;
+use basis::buffers::first;
 use gremolunde::loading::gremolunde_loader_new;
 use gremolunde::loading::gremolunde_loader_reset;
 use gremolunde::loading::gremolunde_loader_take;
@@ -17,73 +17,73 @@ use gremolunde::rehearsals::gremolunde_rehearse;
 use gremolunde::sessions::gremolunde_session_outcome;
 
 // The words that change the flash.
-pub fn words(bench: Bench, line: &[u8], flash: &mut [u8], image: &[u8], map: &[u8]) -> Bench {
+pub fn words(desk: Desk, line: &[u8], flash: &mut [u8], image: &[u8], map: &[u8]) -> Desk {
     let text = rest(line);
     match place(line, b"factory take rehearse") {
-        0 => factory(bench, text, flash),
-        1 => take(bench, text, flash),
-        2 => rehearse(bench, text, flash, image, map),
-        _ => bench,
+        0 => factory(desk, text, flash),
+        1 => take(desk, text, flash),
+        2 => rehearse(desk, text, flash, image, map),
+        _ => desk,
     }
 }
 
-fn factory(bench: Bench, text: &[u8], flash: &mut [u8]) -> Bench {
+fn factory(desk: Desk, text: &[u8], flash: &mut [u8]) -> Desk {
     let Value::Is(b) = hex(text, 2) else {
-        return bench;
+        return desk;
     };
     fill(flash, (b % 256) as u8);
-    bench.holds(gremolunde_loader_new()).number(0)
+    desk.holds(gremolunde_loader_new()).number(0)
 }
 
-pub fn reset(bench: Bench) -> Bench {
-    let loader = bench.loader;
-    bench.holds(gremolunde_loader_reset(loader)).number(0)
+pub fn reset(desk: Desk) -> Desk {
+    let loader = desk.loader;
+    desk.holds(gremolunde_loader_reset(loader)).number(0)
 }
 
-fn take(bench: Bench, text: &[u8], flash: &mut [u8]) -> Bench {
+fn take(desk: Desk, text: &[u8], flash: &mut [u8]) -> Desk {
     let mut buffer = io::large_buffer();
     let Value::Is(n) = bytes(text, &mut buffer) else {
-        return bench;
+        return desk;
     };
-    taken(bench, first(&buffer, n), flash)
+    taken(desk, first(&buffer, n), flash)
 }
 
-fn taken(bench: Bench, input: &[u8], flash: &mut [u8]) -> Bench {
-    let loader = bench.loader;
-    let lent = bench.lent;
+fn taken(desk: Desk, input: &[u8], flash: &mut [u8]) -> Desk {
+    let loader = desk.loader;
+    let lent = desk.lent;
     let mut room = io::buffer();
     let answer = first_mut(&mut room, lent.answer);
     let taken = gremolunde_loader_take(loader, input, first_mut(flash, lent.flash), answer);
     let reached = taken.loader;
-    let next = bench.holds(reached);
+    let next = desk.holds(reached);
     next.gave(taken.number, first(&room, taken.answered))
 }
 
-fn rehearse(bench: Bench, text: &[u8], flash: &mut [u8], image: &[u8], map: &[u8]) -> Bench {
+fn rehearse(desk: Desk, text: &[u8], flash: &mut [u8], image: &[u8], map: &[u8]) -> Desk {
     let kind = run(text);
     if 1 < kind {
-        return bench;
+        return desk;
     }
     let mut buffer = io::large_buffer();
     let Value::Is(n) = bytes(rest(text), &mut buffer) else {
-        return bench;
+        return desk;
     };
-    rehearsed(bench, kind as u32, first(&buffer, n), flash, image, map)
+    rehearsed(desk, kind as u32, first(&buffer, n), flash, image, map)
 }
 
 fn rehearsed(
-    bench: Bench,
+    desk: Desk,
     run: u32,
     losses: &[u8],
     flash: &mut [u8],
     image: &[u8],
     map: &[u8],
-) -> Bench {
+) -> Desk {
     if !all_losses(losses) {
-        return bench;
+        return desk;
     }
-    let loader = bench.loader;
-    let lent = bench.lent;
+    let loader = desk.loader;
+    let lent = desk.lent;
     let load = gremolunde_rehearse(
         run,
         loader,
@@ -92,12 +92,12 @@ fn rehearsed(
         first(map, lent.map),
         first_mut(flash, lent.flash),
     );
-    told(bench, load)
+    told(desk, load)
 }
 
-fn told(bench: Bench, load: Rehearsal) -> Bench {
+fn told(desk: Desk, load: Rehearsal) -> Desk {
     let reached = load.loader;
-    let said = bench.holds(reached).number(load.number);
+    let said = desk.holds(reached).number(load.number);
     if load.number != 0 {
         return said;
     }

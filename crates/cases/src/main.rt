@@ -1,5 +1,5 @@
 // Reads case lines on standard input and prints each again with what came out of it.
-mod bench;
+mod desk;
 mod files;
 mod input;
 mod lines;
@@ -8,11 +8,11 @@ mod packets;
 mod sessions;
 mod words;
 
-use crate::bench::Bench;
-use crate::bench::first;
+use crate::desk::Desk;
 use crate::input::long_buffer;
 use basis::board::MAP;
 use basis::board::SIZE;
+use basis::buffers::first;
 
 // Flash, image and map have one byte more than their first lengths.
 fn main() {
@@ -24,34 +24,28 @@ fn main() {
 }
 
 fn answer_all(buffer: &mut [u8], flash: &mut [u8], image: &mut [u8], map: &mut [u8]) {
-    let mut bench = Bench::new();
+    let mut desk = Desk::new();
     let mut turns = u64::MAX;
     while 0 < turns {
-        bench = turn(bench, buffer, flash, image, map);
-        if bench.over {
+        desk = turn(desk, buffer, flash, image, map);
+        if desk.over {
             return;
         }
         turns -= 1;
     }
 }
 
-fn turn(
-    bench: Bench,
-    buffer: &mut [u8],
-    flash: &mut [u8],
-    image: &mut [u8],
-    map: &mut [u8],
-) -> Bench {
+fn turn(desk: Desk, buffer: &mut [u8], flash: &mut [u8], image: &mut [u8], map: &mut [u8]) -> Desk {
     let mut kept = long_buffer();
-    let input = bench.input;
+    let input = desk.input;
     let line = input.next_line(buffer, &mut kept);
-    let open = bench.opened(line, first(&kept, line.len));
+    let open = desk.opened(line, first(&kept, line.len));
     case(open, first(&kept, line.case), flash, image, map).closed()
 }
 
 // Each of these answers its own words and hands back what is none of them, so one at most answers.
-fn case(bench: Bench, line: &[u8], flash: &mut [u8], image: &mut [u8], map: &mut [u8]) -> Bench {
-    let read = files::words(bench, line, image, map);
+fn case(desk: Desk, line: &[u8], flash: &mut [u8], image: &mut [u8], map: &mut [u8]) -> Desk {
+    let read = files::words(desk, line, image, map);
     let loaded = loading::words(read, line, flash, image, map);
     lines::words(loaded, line, flash, image, map)
 }

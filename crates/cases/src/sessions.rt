@@ -1,7 +1,7 @@
 // The host session.
-use crate::bench::Bench;
-use crate::bench::first;
-use crate::bench::first_mut;
+use crate::desk::Desk;
+use crate::desk::first_mut;
+use basis::buffers::first;
 use gremolunde::records::gremolunde_log_write;
 use gremolunde::sessions::SessionStepped;
 use gremolunde::sessions::gremolunde_session_outcome;
@@ -9,44 +9,44 @@ use gremolunde::sessions::gremolunde_session_proved;
 use gremolunde::sessions::gremolunde_session_start;
 use gremolunde::sessions::gremolunde_session_step;
 
-pub fn start(bench: Bench, run: usize, image: &[u8], map: &[u8]) -> Bench {
+pub fn start(desk: Desk, run: usize, image: &[u8], map: &[u8]) -> Desk {
     if 1 < run {
-        return bench;
+        return desk;
     }
-    let lent = bench.lent;
+    let lent = desk.lent;
     let mut room = io::buffer();
     let packet = first_mut(&mut room, lent.packet);
     let begun = gremolunde_session_start(run as u32, image, map, packet);
-    begin(bench, begun, &room)
+    begin(desk, begun, &room)
 }
 
 // A refused start leaves the session that there was.
-fn begin(bench: Bench, begun: SessionStepped, room: &[u8]) -> Bench {
+fn begin(desk: Desk, begun: SessionStepped, room: &[u8]) -> Desk {
     if begun.number != 0 {
-        return bench.number(begun.number);
+        return desk.number(begun.number);
     }
     let session = begun.session;
-    let mut next = bench;
+    let mut next = desk;
     next.session = session;
     next.started = true;
     next.gave(0, first(room, begun.length))
 }
 
-pub fn step(bench: Bench, silent: u8, answer: &[u8], image: &[u8], map: &[u8]) -> Bench {
-    if !bench.started {
-        return bench;
+pub fn step(desk: Desk, silent: u8, answer: &[u8], image: &[u8], map: &[u8]) -> Desk {
+    if !desk.started {
+        return desk;
     }
-    let session = bench.session;
-    let lent = bench.lent;
+    let session = desk.session;
+    let lent = desk.lent;
     let mut room = io::buffer();
     let packet = first_mut(&mut room, lent.packet);
     let stepped = gremolunde_session_step(session, silent, answer, image, map, packet);
-    told(bench, stepped, &room)
+    told(desk, stepped, &room)
 }
 
-fn told(bench: Bench, stepped: SessionStepped, room: &[u8]) -> Bench {
+fn told(desk: Desk, stepped: SessionStepped, room: &[u8]) -> Desk {
     let reached = stepped.session;
-    let mut next = bench;
+    let mut next = desk;
     next.session = reached;
     let said = next.number(stepped.number);
     if stepped.number != 0 {
@@ -60,26 +60,26 @@ fn told(bench: Bench, stepped: SessionStepped, room: &[u8]) -> Bench {
     said.ended(outcome)
 }
 
-pub fn proved(bench: Bench, address: u32, map: &[u8]) -> Bench {
-    if !bench.started {
-        return bench;
+pub fn proved(desk: Desk, address: u32, map: &[u8]) -> Desk {
+    if !desk.started {
+        return desk;
     }
-    let session = bench.session;
+    let session = desk.session;
     let mark = gremolunde_session_proved(session, map, address);
-    let said = bench.number(mark.number);
+    let said = desk.number(mark.number);
     if mark.number != 0 {
         return said;
     }
     said.decimal(mark.proved as u64)
 }
 
-pub fn log(bench: Bench) -> Bench {
-    if !bench.started {
-        return bench;
+pub fn log(desk: Desk) -> Desk {
+    if !desk.started {
+        return desk;
     }
-    let session = bench.session;
-    let lent = bench.lent;
+    let session = desk.session;
+    let lent = desk.lent;
     let mut room = io::buffer();
     let written = gremolunde_log_write(session, first_mut(&mut room, lent.log));
-    bench.gave(written.number, first(&room, written.length))
+    desk.gave(written.number, first(&room, written.length))
 }

@@ -6,12 +6,12 @@ use Rattle.cases.proofs.answer_all.Statement.{statement}
 use Rattle.cases.proofs.answer_all.Tie as tie
 
 abbrev Inv-loop : tie.InvT-loop
-Inv-loop buffer₀ flash₀ image₀ map₀ bench₀ turns₀ buffer flash image map bench turns =
+Inv-loop buffer₀ flash₀ image₀ map₀ desk₀ turns₀ buffer flash image map desk turns =
     (length buffer ≡ length buffer₀) × (length flash ≡ length flash₀) × (length image ≡ length image₀) ×
     (length map ≡ length map₀)
 
 abbrev μ-loop : tie.MeasureT-loop
-μ-loop buffer₀ flash₀ image₀ map₀ bench₀ turns₀ buffer flash image map bench turns = turns
+μ-loop buffer₀ flash₀ image₀ map₀ desk₀ turns₀ buffer flash image map desk turns = turns
 
 new-requires : tie.Need-new-requires Inv-loop μ-loop
 new-requires c κs = search needs

@@ -5,6 +5,7 @@ use crate::input::long_buffer;
 use basis::board::ANSWER;
 use basis::board::MAP;
 use basis::board::SIZE;
+use basis::buffers::first;
 use gremolunde::loading::gremolunde_loader_new;
 use gremolunde::sessions::no_session;
 use gremolunde::states::HexState;
@@ -28,7 +29,7 @@ pub struct Lent {
 
 // The session counts for nothing until one is started. `whole`: the line's outcome is due, and `said`:
 // it has begun. `over`: no line follows. `lost`: what is printed from now on is lost.
-pub struct Bench {
+pub struct Desk {
     pub loader: LoaderState,
     pub hex: HexState,
     pub session: SessionState,
@@ -59,9 +60,9 @@ impl Lent {
     }
 }
 
-impl Bench {
-    pub fn new() -> Bench {
-        Bench {
+impl Desk {
+    pub fn new() -> Desk {
+        Desk {
             loader: gremolunde_loader_new(),
             hex: HexState {
                 linear: 0,
@@ -93,7 +94,7 @@ impl Bench {
     }
 
     // A line is printed again as it comes.
-    pub fn opened(mut self, line: Line, text: &[u8]) -> Bench {
+    pub fn opened(mut self, line: Line, text: &[u8]) -> Desk {
         let input = line.input;
         self.input = input;
         self.over = line.over;
@@ -107,7 +108,7 @@ impl Bench {
     }
 
     // From now on `n` bytes of this buffer are lent.
-    pub fn lends(self, which: usize, n: usize) -> Bench {
+    pub fn lends(self, which: usize, n: usize) -> Desk {
         if 6 < which {
             return self;
         }
@@ -120,13 +121,13 @@ impl Bench {
         next.number(0)
     }
 
-    // The bench with this loader.
-    pub fn holds(mut self, loader: LoaderState) -> Bench {
+    // The desk with this loader.
+    pub fn holds(mut self, loader: LoaderState) -> Desk {
         self.loader = loader;
         self
     }
 
-    pub fn put(mut self, text: &[u8]) -> Bench {
+    pub fn put(mut self, text: &[u8]) -> Desk {
         if self.lost {
             return self;
         }
@@ -140,7 +141,7 @@ impl Bench {
     }
 
     // The line's end; one that no word has answered is no case.
-    pub fn closed(self) -> Bench {
+    pub fn closed(self) -> Desk {
         if !self.whole {
             return self;
         }
@@ -151,24 +152,24 @@ impl Bench {
     }
 
     // The number that every outcome begins with.
-    pub fn number(mut self, number: u32) -> Bench {
+    pub fn number(mut self, number: u32) -> Desk {
         self.said = true;
         self.digits(number as u64)
     }
 
-    fn digits(self, n: u64) -> Bench {
+    fn digits(self, n: u64) -> Desk {
         let mut digits = [0u8; 20];
         let k = io::decimal(n, &mut digits);
         self.put(&digits[..k])
     }
 
     // The number and one value.
-    pub fn gave(self, number: u32, bytes: &[u8]) -> Bench {
+    pub fn gave(self, number: u32, bytes: &[u8]) -> Desk {
         self.number(number).bytes(bytes)
     }
 
     // A value after a space; one with no bytes leaves nothing. None has more bytes than the flash.
-    pub fn bytes(self, bytes: &[u8]) -> Bench {
+    pub fn bytes(self, bytes: &[u8]) -> Desk {
         let n = bytes.len();
         if SIZE < n {
             return self;
@@ -178,18 +179,18 @@ impl Bench {
         self.text(first(&digits, 2 * n))
     }
 
-    pub fn text(self, text: &[u8]) -> Bench {
+    pub fn text(self, text: &[u8]) -> Desk {
         if text.len() == 0 {
             return self;
         }
         self.put(b" ").put(text)
     }
 
-    pub fn decimal(self, n: u64) -> Bench {
+    pub fn decimal(self, n: u64) -> Desk {
         self.put(b" ").digits(n)
     }
 
-    pub fn address(self, address: u32) -> Bench {
+    pub fn address(self, address: u32) -> Desk {
         let bytes = [
             (address / 0x100_0000) as u8,
             (address / 0x1_0000 % 256) as u8,
@@ -200,24 +201,26 @@ impl Bench {
     }
 
     // How a session ended.
-    pub fn ended(self, outcome: u32) -> Bench {
+    pub fn ended(self, outcome: u32) -> Desk {
         self.text(b"ended").decimal(outcome as u64)
     }
 }
 
-// The first `n` bytes, or all where there are fewer.
-pub fn first(bytes: &[u8], n: usize) -> &[u8] {
-    if bytes.len() <= n {
-        return bytes;
-    }
-    &bytes[..n]
-}
-
+// As `first`, to be written to.
 pub fn first_mut(bytes: &mut [u8], n: usize) -> &mut [u8] {
     if bytes.len() <= n {
         return bytes;
     }
     &mut bytes[..n]
+}
+
+// A line without its closing 0A.
+pub fn without_end(text: &[u8]) -> &[u8] {
+    let n = text.len();
+    if n == 0 {
+        return text;
+    }
+    &text[..n - 1]
 }
 
 pub fn fill(bytes: &mut [u8], b: u8) {

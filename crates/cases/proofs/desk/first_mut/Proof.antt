@@ -2,8 +2,8 @@
 use native.Mathlib.Omega.{arith}
 use lib.ListN.{length-take}
 use borrow.Author.Needs.{needs}
-use Rattle.cases.proofs.bench.first_mut.Statement.{statement}
-use Rattle.cases.proofs.bench.first_mut.Tie as tie
+use Rattle.cases.proofs.desk.first_mut.Statement.{statement}
+use Rattle.cases.proofs.desk.first_mut.Tie as tie
 
 returns : tie.Need-returns
 returns c = search needs

@@ -4,8 +4,8 @@ use mathlib.Core.Path.{_≡_}
 use lib.ListN.{length, length-set}
 use native.Mathlib.Omega.{arith}
 use borrow.Author.Needs.{needs}
-use Rattle.cases.proofs.bench.fill.Statement.{statement}
-use Rattle.cases.proofs.bench.fill.Tie as tie
+use Rattle.cases.proofs.desk.fill.Statement.{statement}
+use Rattle.cases.proofs.desk.fill.Tie as tie
 
 abbrev Inv-loop : tie.InvT-loop
 Inv-loop bytes₀ b i₀ bytes i = (length bytes ≡ length bytes₀) × (i ≤ length bytes)

@@ -1,9 +1,9 @@
--- `line_of` meets its contract: the part lies inside the whole.
+-- `without_end` meets its contract: the part lies inside the whole.
 use native.Mathlib.Omega.{arith}
 use lib.ListN.{length-take}
 use borrow.Author.Needs.{needs}
-use Rattle.cases.proofs.packets.line_of.Statement.{statement}
-use Rattle.cases.proofs.packets.line_of.Tie as tie
+use Rattle.cases.proofs.desk.without_end.Statement.{statement}
+use Rattle.cases.proofs.desk.without_end.Tie as tie
 
 returns : tie.Need-returns
 returns c = search needs
@@ -17,5 +17,5 @@ slice-aggregate-result c = simp length-take (omega arith)
 returns-2 : tie.Need-returns-2
 returns-2 c = search needs
 
-pub line-of-spec : {M : Type 1} → statement M
-line-of-spec = tie.close (tie.spec returns sub-result slice-aggregate-result returns-2)
+pub without-end-spec : {M : Type 1} → statement M
+without-end-spec = tie.close (tie.spec returns sub-result slice-aggregate-result returns-2)
