@@ -1,4 +1,5 @@
 -- `last` meets its contract: nothing behind the last 0A is no line.
+use native.Mathlib.Omega.{arith}
 use borrow.Author.Needs.{needs}
 use Prim.Native.Nat.{ℕ}
 use mathlib.Core.List.{List}
@@ -28,7 +29,7 @@ module _ (size : ℕ) (t : Text) (line image map : List ℕ) where
       (settled (recordIn size (t .hex) (take (t .len) line) image map) image map) (rw el at s))
 
 returns : tie.Need-returns
-returns c = last-none _ _ _ _ _ (c .if1 .taken)
+returns c = last-none _ _ _ _ _ (omega (arith, c .if1 .taken))
 
 first-requires : tie.Need-first-requires
 first-requires c κs = search needs
