@@ -1,13 +1,16 @@
 -- The board: its sizes, and how it greets.
-use Prim.Native.Nat.{ℕ}
+use Prim.Native.Nat.{ℕ, _*_}
 use mathlib.Core.List.{List, [], _∷_}
 
--- a page has 512 bytes, and a group 4 pages
+-- a page has 512 bytes, and a group 4 pages: 0x800 bytes
 abbrev pub pageSize : ℕ
 pageSize = 512
 
+abbrev pub groupPages : ℕ
+groupPages = 4
+
 abbrev pub groupSize : ℕ
-groupSize = 0x800
+groupSize = groupPages * pageSize
 
 -- flash is 63,488 bytes: 124 pages of 512
 abbrev pub pages : ℕ
@@ -23,6 +26,13 @@ mapSize = 7936
 -- the byte that opens the board
 abbrev pub openingByte : ℕ
 openingByte = 0x08
+
+-- what the loader answers to a packet that it accepts (ACK), and to one that it refuses (BEL)
+abbrev pub ackByte : ℕ
+ackByte = 0x06
+
+abbrev pub belByte : ℕ
+belByte = 0x07
 
 -- no answer is longer than the greeting
 abbrev pub answerMost : ℕ

@@ -1,6 +1,6 @@
 -- The units: addresses, pages and groups. Every conversion rounds down.
 use Prim.Native.Nat.{ℕ, _*_, _/_}
-use Rattle.basis.specs.Board.{pageSize, groupSize}
+use Rattle.basis.specs.Board.{pageSize, groupPages, groupSize}
 
 -- the page of an address
 abbrev pub pageOf : ℕ → ℕ
@@ -12,7 +12,7 @@ groupOf a = a / groupSize
 
 -- the group of a page
 abbrev pub pageGroupOf : ℕ → ℕ
-pageGroupOf p = p / 4
+pageGroupOf p = p / groupPages
 
 -- the first address of a page
 abbrev pub startOf : ℕ → ℕ
@@ -20,5 +20,5 @@ startOf p = p * pageSize
 
 -- a board is told by how many pages it has: its flash ends where one page more would start,
 -- and its map has one bit for each byte
-abbrev pub mapOf : ℕ → ℕ
-mapOf board = startOf board / 8
+abbrev pub mapBytes : ℕ → ℕ
+mapBytes board = startOf board / 8

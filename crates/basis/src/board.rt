@@ -1,7 +1,9 @@
 // The board: its pages and groups, a map of one bit a byte, and how it greets.
 pub const PAGE: u32 = 512;
 
-pub const GROUP: u32 = 4 * PAGE;
+pub const GROUP_PAGES: u32 = 4;
+
+pub const GROUP: u32 = GROUP_PAGES * PAGE;
 
 pub const PAGES: u32 = 124;
 
@@ -15,6 +17,11 @@ pub const MAP: usize = SIZE / 8;
 
 // The byte that opens the board.
 pub const OPENING: u8 = 0x08;
+
+// What the loader answers to a packet that it accepts, and to one that it refuses.
+pub const ACK: u8 = 0x06;
+
+pub const BEL: u8 = 0x07;
 
 // No answer is longer than the greeting.
 pub const ANSWER: usize = 24;

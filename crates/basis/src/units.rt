@@ -4,6 +4,7 @@ ghost use mathlib.Core.Path.{_≡_};
 ghost use Prim.Native.Nat.{_<_, _^_};
 ghost use Rattle.basis.specs.Units.{pageOf, groupOf, pageGroupOf, startOf};
 use crate::board::GROUP;
+use crate::board::GROUP_PAGES;
 use crate::board::PAGE;
 
 pub struct Address(pub u32);
@@ -30,7 +31,7 @@ impl Page {
     pub fn group(self) -> Group
         ensures { λ r. ⌜ r .0 ≡ pageGroupOf (self .0) ⌝ }
     {
-        Group(self.0 / 4)
+        Group(self.0 / GROUP_PAGES)
     }
 
     // The page's first address; the page of any address is low enough.

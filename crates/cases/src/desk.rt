@@ -6,15 +6,18 @@ use basis::board::ANSWER;
 use basis::board::MAP;
 use basis::board::SIZE;
 use basis::buffers::first;
+use gremolunde::files::no_reader;
 use gremolunde::loading::gremolunde_loader_new;
 use gremolunde::sessions::no_session;
 use gremolunde::states::HexState;
 use gremolunde::states::LoaderState;
 use gremolunde::states::SessionState;
+use image::writer::ROOM;
 use image::writer::spell;
 use libc::STDERR_FILENO;
 use libc::STDOUT_FILENO;
 use packet::build::PACKET;
+use service_log::read::RECORD;
 
 // How much of each buffer is lent.
 pub struct Lent {
@@ -43,7 +46,15 @@ pub struct Desk {
 }
 
 // The most that may be lent, in the order of `Lent`: the buffer's first length and one byte more.
-const MOST: [usize; 7] = [SIZE + 1, ANSWER + 1, SIZE + 1, MAP + 1, PACKET + 1, 45, 11];
+const MOST: [usize; 7] = [
+    SIZE + 1,
+    ANSWER + 1,
+    SIZE + 1,
+    MAP + 1,
+    PACKET + 1,
+    ROOM + 1,
+    RECORD + 1,
+];
 
 impl Lent {
     fn changed(mut self, which: usize, n: usize) -> Lent {
@@ -64,12 +75,7 @@ impl Desk {
     pub fn new() -> Desk {
         Desk {
             loader: gremolunde_loader_new(),
-            hex: HexState {
-                linear: 0,
-                segment: 0,
-                ended: 0,
-                taken: 0,
-            },
+            hex: no_reader(),
             session: no_session(),
             started: false,
             lent: Lent {
@@ -78,8 +84,8 @@ impl Desk {
                 image: SIZE,
                 map: MAP,
                 packet: PACKET,
-                record: 44,
-                log: 10,
+                record: ROOM,
+                log: RECORD,
             },
             input: Input {
                 at: 0,

@@ -80,7 +80,7 @@ pub fn place(text: &[u8], words: &[u8]) -> usize {
     i
 }
 
-// The address of R, or 2 for no word that stands for one.
+// The run kind as the library has it, or 2 for no word that stands for one.
 pub fn run(text: &[u8]) -> usize {
     place(text, b"jump reset")
 }

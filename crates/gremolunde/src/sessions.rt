@@ -5,7 +5,7 @@ ghost use Rattle.basis.specs.Board.{pages};
 ghost use Rattle.basis.specs.Lists.{overlay};
 ghost use Rattle.gremolunde.specs.Answers.{noSession, steppedAnswer, markAnswer};
 ghost use Rattle.gremolunde.specs.States.{isSet, runMeant, sessionMeant};
-ghost use Rattle.service_log.specs.Log.{outcomeIn};
+ghost use Rattle.service_log.specs.Log.{loggedOutcomeOf};
 ghost use Rattle.session.specs.Events.{classifyOf};
 ghost use Rattle.session.specs.Paper.{paperStepped, paperMark};
 ghost use Rattle.session.specs.Session.{measured, sentBytes, started, stepOf, provedOf};
@@ -14,7 +14,7 @@ use crate::states::run_meant;
 use crate::states::session_meant;
 use crate::states::session_shown;
 use basis::units::Address;
-use service_log::write::outcome_in;
+use service_log::write::logged_outcome;
 use session::session::Mark;
 use session::session::Session;
 use session::session::Stepped;
@@ -141,9 +141,9 @@ fn mark_answer(answer: Mark) -> SessionMark
 // 0 valid, 40 to 43, or 45 where the session is unfinished.
 #[no_mangle]
 pub extern "C" fn gremolunde_session_outcome(session: SessionState) -> u32
-    ensures { λ r. ⌜ r ≡ outcomeIn (sessionMeant session .phase) ⌝ }
+    ensures { λ r. ⌜ r ≡ loggedOutcomeOf (sessionMeant session .phase) ⌝ }
 {
     let meant = session_meant(session);
     let phase = meant.phase;
-    outcome_in(phase) as u32
+    logged_outcome(phase) as u32
 }

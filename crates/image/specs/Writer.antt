@@ -41,12 +41,12 @@ abbrev pub step : List ℕ → ℕ → Step
 step s a = record { text = s; next = a }
 
 -- how much of the run at a goes into its record: up to the next multiple of 16
-abbrev pub recordLength : List ℕ → ℕ → ℕ
-recordLength map a = len (named map) a (16 - a % 16)
+abbrev pub recordPart : List ℕ → ℕ → ℕ
+recordPart map a = len (named map) a (16 - a % 16)
 
 -- the record at a
 abbrev pub recordFrom : List ℕ → List ℕ → ℕ → Step
-recordFrom image map a = step (text a 0 (take (recordLength map a) (drop a image))) (a + recordLength map a)
+recordFrom image map a = step (text a 0 (take (recordPart map a) (drop a image))) (a + recordPart map a)
 
 -- the lowest named place from a on, or the board's size
 abbrev pub lowest : ℕ → List ℕ → ℕ → ℕ

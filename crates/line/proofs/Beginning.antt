@@ -12,7 +12,7 @@ use Rattle.basis.specs.Laws.Choice.{both-false}
 use Rattle.basis.specs.Laws.Refusals.{stop, alike, through, apart, refused-one}
 use Rattle.basis.specs.Lists.{overlay}
 use Rattle.basis.specs.Refusals.{Answer, refused, given}
-use Rattle.line.specs.Line.{Moment, begun, momentAt, loadAt, momentIn, rehearseOf, loaded, leftFlash, Rehearses}
+use Rattle.line.specs.Line.{Moment, begun, momentAt, loadAt, momentOn, rehearseOf, loaded, leftFlash, Rehearses}
 use Rattle.line.specs.declared.exchange.Link.{Link}
 use Rattle.line.specs.declared.exchange.Loss.{Loss}
 use Rattle.line.specs.declared.rehearse.Load.{Load}
@@ -32,7 +32,7 @@ module _ {image m : List ℕ} {kind : RunKind} {room : ℕ} {y : Next} (s : Star
   abbrev first : Link
   first = record { loader = r; session = y .session; len = y .len }
 
-  pub begun-moment : momentIn first f packet ≡ begun pages m kind l f
+  pub begun-moment : momentOn first f packet ≡ begun pages m kind l f
   begun-moment = λ i. record { loader = reset i; flash = f; session = s .next-is i .session; wire = wire i }
     where
       wire : take (y .len) packet ≡ openingByte ∷ []
@@ -40,7 +40,7 @@ module _ {image m : List ℕ} {kind : RunKind} {room : ℕ} {y : Next} (s : Star
           ap (λ (n : Next). take (n .len) packet) (s .next-is)
           ∙ ap (take 1) (p ∙ ap (λ (a : Answer Sent). overlay (sentBytes a) old) (s .started-is))
 
-  pub begun-again : momentIn first f packet ≡ begun pages m (y .session .kind) r f
+  pub begun-again : momentOn first f packet ≡ begun pages m (y .session .kind) r f
   begun-again =
       begun-moment
       ∙ sym (ap (λ (n : Next). begun pages m (n .session .kind) l f) (s .next-is))

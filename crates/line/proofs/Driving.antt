@@ -12,7 +12,7 @@ use Rattle.basis.specs.Lists.{Bytes, overlay}
 use Rattle.basis.specs.Refusals.{Answer, refused, given}
 use Rattle.line.proofs.Delivering.{Begins, overlay-begins}
 use Rattle.line.specs.Laws.Moments.{going, stays, follows}
-use Rattle.line.specs.Line.{Moment, begun, between, stepped, stepsOn, exchangeOf, momentAt, loadAt, momentIn, Exchanges}
+use Rattle.line.specs.Line.{Moment, begun, between, stepped, stepsOn, exchangeOf, momentAt, loadAt, momentOn, Exchanges}
 use Rattle.line.specs.declared.exchange.Link.{Link}
 use Rattle.line.specs.declared.exchange.Loss.{Loss}
 use Rattle.loader.specs.declared.state.Loader.{Loader}
@@ -26,7 +26,7 @@ use Rattle.session.specs.declared.phase.RunKind.{RunKind}
 module _ (image m : List ℕ) (o : Loss) (link : Link) (before old : List ℕ)
     (fits : link .len ≤ length old) where
   abbrev here : Moment
-  here = momentIn link before old
+  here = momentOn link before old
 
   wired : (a : Answer Sent) → Begins (stepsOn (between pages o here) a .wire) (overlay (sentBytes a) old)
   wired (refused n) =
@@ -44,7 +44,7 @@ module _ (image m : List ℕ) (o : Loss) (link : Link) (before old : List ℕ)
     unfolding exchangeOf
     wire = rw (x .len-is, x .packet-is) (wired (stepped pages image m o here) .1)
 
-    pub exchanged : momentIn r flash packet ≡ exchangeOf pages image m o here
+    pub exchanged : momentOn r flash packet ≡ exchangeOf pages image m o here
     exchanged = λ i.
         record { loader = x .loader-is i; flash = x .flash-is i; session = x .session-is i; wire = wire i }
 

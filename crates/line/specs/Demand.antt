@@ -10,6 +10,7 @@ use Rattle.basis.specs.Units.{pageOf, pageGroupOf}
 use Rattle.line.specs.Line.{Moment}
 use Rattle.loader.specs.declared.state.Loader.{Loader}
 use Rattle.packet.specs.Packet.{command}
+use Rattle.packet.specs.Table.{runByte}
 use Rattle.runs.specs.Map.{named}
 use Rattle.runs.specs.Pages.{touched}
 use Rattle.session.specs.Session.{provedOf}
@@ -29,9 +30,13 @@ AllProved board m s = (a : ℕ) → named m a ≡ true → Proved board m s a
 abbrev pub Stands : List ℕ → List ℕ → ℕ → Type 0
 Stands flash image a = getD flash a 0 ≡ getD image a 0
 
+-- pages the file does not touch are as before
+abbrev pub Untouched : List ℕ → List ℕ → List ℕ → Type 0
+Untouched m before flash = (a : ℕ) → touched m (pageOf a) ≡ false → Stands flash before a
+
 -- a run packet is on the wire
 abbrev pub RunOut : Moment → Type 0
-RunOut x = command (x .wire) ≡ 0x52
+RunOut x = command (x .wire) ≡ runByte
 
 -- the session has ended valid
 abbrev pub Valid : Session → Type 0
@@ -39,10 +44,9 @@ Valid s = s .phase ≡ Phase.Ended Outcome.Valid
 
 -- the moment is safe, where flash was `before` at the start
 pub record Safe (board : ℕ) (image m before : List ℕ) (x : Moment) : Type 0 where
-  -- each byte marked proved stands in flash as in the file
+  -- each byte marked proved stands in flash as in the file, pages the file does not touch are as before
   pub proved-stands : (a : ℕ) → Proved board m (x .session) a → Stands (x .flash) image a
-  -- pages the file does not touch are as before
-  pub untouched-stays : (a : ℕ) → touched m (pageOf a) ≡ false → Stands (x .flash) before a
+  pub untouched-stays : Untouched m before (x .flash)
   -- no run packet goes out and no session ends valid until every file byte is proved
   pub run-proved : RunOut x → AllProved board m (x .session)
   pub valid-proved : Valid (x .session) → AllProved board m (x .session)

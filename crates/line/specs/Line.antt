@@ -9,7 +9,7 @@ use Rattle.basis.specs.Board.{answerMost, openingByte}
 use Rattle.basis.specs.Choice.{pick, both}
 use Rattle.basis.specs.Lists.{overlay}
 use Rattle.basis.specs.Refusals.{Answer, refused, given, _when_, first}
-use Rattle.basis.specs.Units.{startOf, mapOf}
+use Rattle.basis.specs.Units.{startOf, mapBytes}
 use Rattle.line.specs.declared.exchange.Link.{Link}
 use Rattle.line.specs.declared.exchange.Loss.{Loss}
 use Rattle.line.specs.declared.rehearse.Load.{Load}
@@ -71,12 +71,12 @@ between board o x = momentWith (delivered board o (x .loader) (x .wire) (x .flas
 abbrev pub reply : ℕ → Loss → Moment → List ℕ
 reply board o x = arrives board o (x .loader) (x .wire) (x .flash)
 
-abbrev pub eventIn : List ℕ → Event
-eventIn b = classifyOf (eqb (length b) 0) b
+abbrev pub eventFrom : List ℕ → Event
+eventFrom b = classifyOf (eqb (length b) 0) b
 
 -- the session's step
 abbrev pub stepped : ℕ → List ℕ → List ℕ → Loss → Moment → Answer Sent
-stepped board image m o x = stepOf board image m packetMost (x .session) (eventIn (reply board o x))
+stepped board image m o x = stepOf board image m packetMost (x .session) (eventFrom (reply board o x))
 
 abbrev pub stepsOn : Moment → Answer Sent → Moment
 stepsOn x (refused n) = x
@@ -119,14 +119,14 @@ rehearseOf board image m kind l losses f =
 -- file, flash and both buffers have their sizes
 pub record Lent (board : ℕ) (image m flash packet answer : List ℕ) : Type 0 where
   pub image-size : length image ≡ startOf board
-  pub map-size : length m ≡ mapOf board
+  pub map-size : length m ≡ mapBytes board
   pub flash-size : length flash ≡ startOf board
   pub packet-size : length packet ≡ packetMost
   pub answer-size : length answer ≡ answerMost
 
 -- loader, session and packet buffer as a moment
-abbrev pub momentIn : Link → List ℕ → List ℕ → Moment
-momentIn e flash packet =
+abbrev pub momentOn : Link → List ℕ → List ℕ → Moment
+momentOn e flash packet =
     record { loader = e .loader; flash = flash; session = e .session; wire = take (e .len) packet }
 
 pub record Delivers (board : ℕ) (o : Loss) (l : Loader) (s f old : List ℕ) (next : Loader) (arrived : ℕ)

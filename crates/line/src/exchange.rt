@@ -4,7 +4,7 @@ ghost use Prim.Native.Nat.{_≤_};
 ghost use lib.ListN.{length};
 ghost use Rattle.basis.specs.Board.{answerMost, pages};
 ghost use Rattle.packet.specs.Packet.{packetMost};
-ghost use Rattle.line.specs.Line.{lossOf, lossAt, momentIn, Lent, Delivers, Exchanges};
+ghost use Rattle.line.specs.Line.{lossOf, lossAt, momentOn, Lent, Delivers, Exchanges};
 use loader::state::Loader;
 use loader::take::take;
 use session::session::Session;
@@ -72,7 +72,7 @@ pub fn exchange(
         (Lent pages (now image) (now map) (now flash) (now packet) (now answer)) × (link .len ≤ packetMost)
         ⌝ }
     ensures { λ r. ⌜
-        (let x = momentIn link (now (flash .entry)) (now (packet .entry)) in
+        (let x = momentOn link (now (flash .entry)) (now (packet .entry)) in
         Exchanges pages (now (image .entry)) (now (map .entry)) loss x (now (packet .entry))
         (now (answer .entry)) r (now (flash .exit)) (now (packet .exit)) (now (answer .exit)))
         ⌝ }

@@ -5,7 +5,7 @@ ghost use Prim.Native.Nat.{_+_, _<_, _≤_};
 ghost use lib.ListN.{length};
 ghost use Rattle.basis.specs.Board.{flashSize, answerMost, pages};
 ghost use Rattle.packet.specs.Packet.{packetMost};
-ghost use Rattle.line.specs.Line.{begun, momentAt, lossAt, rehearseOf, momentIn, Lent, Rehearses};
+ghost use Rattle.line.specs.Line.{begun, momentAt, lossAt, rehearseOf, momentOn, Lent, Rehearses};
 ghost use Rattle.line.specs.Paper.{paperRehearsed};
 ghost use Rattle.runs.specs.Pieces.{namedCount};
 ghost use Rattle.session.specs.Phases.{ended};
@@ -118,11 +118,11 @@ fn drive(
         (Lent pages (now image) (now map) (now flash) (now packet) (now answer))
         × (0 < namedCount pages (now map))
         × (first .len ≤ packetMost)
-        × (momentIn first (now flash) (now packet)
+        × (momentOn first (now flash) (now packet)
         ≡ begun pages (now map) (first .session .kind) (first .loader) (now flash))
         ⌝ }
     ensures { λ r. ⌜
-        (let start = momentIn first (now (flash .entry)) (now (packet .entry)) in
+        (let start = momentOn first (now (flash .entry)) (now (packet .entry)) in
         let x = momentAt pages (now (image .entry)) (now (map .entry)) (lossAt (now (losses .entry))) start
         (total pages (now (map .entry)) + 1) in
         (r .loader ≡ x .loader) × (r .session ≡ x .session) × (now (flash .exit) ≡ x .flash))

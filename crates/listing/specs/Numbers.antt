@@ -9,10 +9,10 @@ abbrev pub numeral : ℕ → ℕ
 numeral d = 0x30 + d
 
 -- n in decimal, by at most k divisions
-unfoldable pub decimalIn : ℕ → ℕ → List ℕ
-decimalIn zero n = numeral n ∷ []
-decimalIn (suc k) n = pick (ltb n 10) (numeral n ∷ []) (decimalIn k (n / 10) ++ (numeral (n % 10) ∷ []))
+unfoldable pub decimalBy : ℕ → ℕ → List ℕ
+decimalBy zero n = numeral n ∷ []
+decimalBy (suc k) n = pick (ltb n 10) (numeral n ∷ []) (decimalBy k (n / 10) ++ (numeral (n % 10) ∷ []))
 
 -- n divisions are always enough
 unfoldable pub decimalOf : ℕ → List ℕ
-decimalOf n = decimalIn n n
+decimalOf n = decimalBy n n

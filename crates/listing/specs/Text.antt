@@ -6,14 +6,15 @@ use lib.ListN.{length, getD, take}
 use Rattle.basis.specs.Choice.{pick}
 use Rattle.basis.specs.Refusals.{Answer, refused, given}
 use Rattle.image.specs.Hex.{File, startIn, recordIn, closeOf}
+use Rattle.image.specs.Record.{recordMost}
 
 -- one 0D before the 0A is dropped
 unfoldable pub trimmedOf : List ℕ → List ℕ
 trimmedOf l = pick (eqb (getD l (length l - 1) 0) 0x0D) (take (length l - 1) l) l
 
--- how much of a line is enough: 521 characters, a 0D, and one more to tell a longer line
+-- how much of a line is enough: the longest record, a 0D, and one more to tell a longer line
 abbrev pub lineRoom : ℕ
-lineRoom = 523
+lineRoom = recordMost + 2
 
 -- the lines of a text that follows an open line: a line ends at 0A, and nothing after the last 0A is no line
 unfoldable pub linesFrom : List ℕ → List ℕ → List (List ℕ)

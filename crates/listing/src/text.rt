@@ -9,10 +9,11 @@ ghost use Rattle.listing.specs.Paper.{paperReading, paperEnded};
 use basis::buffers::first;
 use image::hex::Hex;
 use image::hex::Read;
+use image::record::LONGEST;
 use image::record::Refusal;
 
-// How much of a line is kept: a record of 521 characters, its 0D, and one more to tell a longer line.
-pub const LINE: usize = 523;
+// How much of a line is kept: the longest record, its 0D, and one more to tell a longer line.
+pub const LINE: usize = LONGEST + 2;
 
 // The reader, the lines that it has taken, and how many bytes of the open line are kept.
 pub struct Text {

@@ -17,6 +17,7 @@ use Rattle.loader.specs.Verify.{equalsOf}
 use Rattle.loader.specs.declared.protection.Protection.{Protection}
 use Rattle.loader.specs.declared.state.Condition.the-variants.{Left}
 use Rattle.loader.specs.declared.state.Loader.{Loader}
+use Rattle.packet.specs.Table.{eraseByte, writeByte, verifyByte, protectByte}
 
 -- loader and flash after an accepted command
 pub record Effect : Type 0 where
@@ -103,10 +104,10 @@ keeping f (given l) = given (record { loader = l; flash = f })
 -- the command c with its address and the bytes d after it; the command table has let no other through (5)
 unfoldable pub obeyOf : ℕ → Loader → ℕ → ℕ → List ℕ → List ℕ → Answer Effect
 obeyOf board l c a d f =
-    pick (eqb c 0x45) (erasing board l a (getD d 0 0) f)
-    (pick (eqb c 0x57) (writing board l a d f)
-    (pick (eqb c 0x56) (keeping f (first (verifyRows board l a d f) (given l)))
-    (pick (eqb c 0x50) (keeping f (protecting board l a (getD d 0 0)))
+    pick (eqb c eraseByte) (erasing board l a (getD d 0 0) f)
+    (pick (eqb c writeByte) (writing board l a d f)
+    (pick (eqb c verifyByte) (keeping f (first (verifyRows board l a d f) (given l)))
+    (pick (eqb c protectByte) (keeping f (protecting board l a (getD d 0 0)))
     (keeping f (running l a)))))
 
 -- what a function that obeys shows: verdict, next loader and flash are those of x;

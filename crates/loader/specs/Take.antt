@@ -5,7 +5,7 @@ use mathlib.Core.List.{List, [], _∷_}
 use mathlib.Core.Path.{_≡_}
 use lib.Dec.{ltb, eqb}
 use lib.ListN.{length, getD, take, drop}
-use Rattle.basis.specs.Board.{greeting, answerMost, openingByte}
+use Rattle.basis.specs.Board.{greeting, answerMost, openingByte, ackByte, belByte}
 use Rattle.basis.specs.Choice.{pick, both, either}
 use Rattle.basis.specs.Lists.{overlay}
 use Rattle.basis.specs.Refusals.{Answer, refused, given, _when_, first, bare}
@@ -69,8 +69,8 @@ quiet n = either (eqb n 20) (either (eqb n 11) (either (eqb n 1) (eqb n 2)))
 
 -- any other refusal answers BEL 07; acceptance answers the greeting where the loader was waiting, else ACK 06
 abbrev pub tellOf : Bool → Answer (Unit {0}) → List ℕ
-tellOf w (refused n) = pick (quiet n) [] (0x07 ∷ [])
-tellOf w (given u) = pick w greeting (0x06 ∷ [])
+tellOf w (refused n) = pick (quiet n) [] (belByte ∷ [])
+tellOf w (given u) = pick w greeting (ackByte ∷ [])
 
 abbrev pub answerBytes : Loader → Answer Effect → List ℕ
 answerBytes l x = tellOf (waiting (l .condition)) (bare x)

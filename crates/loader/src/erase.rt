@@ -92,6 +92,7 @@ fn judge(loader: Loader, address: Address, count: u8) -> Verdict
         return Verdict::Refused(Refusal::Address);
     }
     let protection = loader.protection;
+    // The end rounded up to its group.
     if protection.any(Page(page).group(), Page(end + 3).group()) {
         return Verdict::Refused(Refusal::Protected);
     }

@@ -14,7 +14,9 @@ use crate::state::Loader;
 use crate::verdict::Acted;
 use crate::verdict::Refusal;
 use crate::verdict::Verdict;
+use basis::board::ACK;
 use basis::board::ANSWER;
+use basis::board::BEL;
 use basis::board::GREETING;
 use basis::board::OPENING;
 use basis::board::SIZE;
@@ -147,14 +149,14 @@ fn tell(waiting: bool, verdict: Verdict, answer: &mut [u8]) -> usize
                 write(answer, &GREETING);
                 return ANSWER;
             }
-            answer[0] = 0x06;
+            answer[0] = ACK;
             1
         }
         Verdict::Refused(why) => {
             if is_quiet(why) {
                 return 0;
             }
-            answer[0] = 0x07;
+            answer[0] = BEL;
             1
         }
     }

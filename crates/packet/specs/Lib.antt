@@ -1,4 +1,4 @@
--- The packet. Definitions stand here in the paper's order, what is proved of them under Laws.
+-- The packet. Definitions stand here lowest first, what is proved of them under Laws.
 pub mod Turn
 pub mod Table
 pub mod Packet

@@ -7,20 +7,27 @@ use lib.ListN.{length, getD, take, drop}
 use Rattle.basis.specs.Choice.{pick, both}
 use Rattle.basis.specs.Refusals.{Answer, given, Rule, _when_, first}
 use Rattle.basis.specs.Sums.{sumOf, checksumOf}
-use Rattle.packet.specs.Table.{table}
+use Rattle.packet.specs.Table.{verifyByte, table}
 use Rattle.packet.specs.Turn.{turnedOf, restoredOf}
 
 -- a 32-bit address, most significant byte first
 abbrev pub addressBytes : ℕ → List ℕ
 addressBytes a = a / 16777216 % 256 ∷ a / 65536 % 256 ∷ a / 256 % 256 ∷ a % 256 ∷ []
 
+-- the two bytes that a packet starts with
+abbrev pub startByte : ℕ
+startByte = 0x07
+
+abbrev pub nextStartByte : ℕ
+nextStartByte = 0x0E
+
 -- the eight bytes before the data: 07 0E, count N, the command, the address
 abbrev pub frontOf : ℕ → ℕ → ℕ → List ℕ
-frontOf n c a = 0x07 ∷ 0x0E ∷ n ∷ c ∷ addressBytes a
+frontOf n c a = startByte ∷ nextStartByte ∷ n ∷ c ∷ addressBytes a
 
 -- a byte as the packet carries it: turned for V
 abbrev pub carriedOf : ℕ → ℕ → ℕ
-carriedOf c b = pick (eqb c 0x56) (turnedOf b) b
+carriedOf c b = pick (eqb c verifyByte) (turnedOf b) b
 
 -- what is summed: N and the N data bytes, and not the start bytes
 abbrev pub summed : ℕ → ℕ → List ℕ → List ℕ
@@ -28,14 +35,14 @@ summed c a d = (length d + 5) ∷ c ∷ addressBytes a ++ map (carriedOf c) d
 
 -- the packet of a command, an address and plain data
 unfoldable pub packet : ℕ → ℕ → List ℕ → List ℕ
-packet c a d = 0x07 ∷ 0x0E ∷ summed c a d ++ (checksumOf (summed c a d) ∷ [])
+packet c a d = startByte ∷ nextStartByte ∷ summed c a d ++ (checksumOf (summed c a d) ∷ [])
 
 -- W and V carry at most 250 bytes, so no packet is longer than 259
 abbrev pub dataMost : ℕ
 dataMost = 250
 
 abbrev pub packetMost : ℕ
-packetMost = 259
+packetMost = dataMost + 9
 
 -- building into a buffer with room for so many bytes: 20, 5, 6, else the packet;
 -- P's type is the first data byte, 0 where there is none, which no row looks at
@@ -72,7 +79,7 @@ parts s = record { command = command s; address = address s; place = 8; size = c
 
 -- the first two bytes
 abbrev pub startsRight : List ℕ → Bool
-startsRight s = both (leb 2 (length s)) (both (eqb (getD s 0 0) 0x07) (eqb (getD s 1 0) 0x0E))
+startsRight s = both (leb 2 (length s)) (both (eqb (getD s 0 0) startByte) (eqb (getD s 1 0) nextStartByte))
 
 -- a packet that is whole and sums to zero: 5, 6, or what it says
 unfoldable pub tabledOf : List ℕ → Answer Parts
@@ -98,7 +105,7 @@ said c a d = record { command = c; address = a; place = 8; size = length d }
 
 -- a byte as the file has it: that of V turned back
 abbrev pub plain : ℕ → ℕ → ℕ
-plain c b = pick (eqb c 0x56) (restoredOf b) b
+plain c b = pick (eqb c verifyByte) (restoredOf b) b
 
 -- the plain data that a reading of s names
 abbrev pub plainData : Parts → List ℕ → List ℕ

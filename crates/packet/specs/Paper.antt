@@ -4,6 +4,7 @@ use mathlib.Core.Bool.{Bool}
 use Rattle.basis.specs.Choice.{pick}
 use Rattle.basis.specs.Refusals.{Answer, refused, given}
 use Rattle.packet.specs.Packet.{Parts}
+use Rattle.packet.specs.Table.{eraseByte, writeByte, verifyByte, protectByte, runByte}
 use Rattle.packet.specs.declared.build.Built as Built
 use Rattle.packet.specs.declared.build.Built.the-variants as built
 use Rattle.packet.specs.declared.read.Reading as Reading
@@ -17,11 +18,11 @@ use Rattle.packet.specs.declared.table.Row.the-variants as row
 
 -- the command's byte
 abbrev pub paperCommand : Command → ℕ
-paperCommand Erase = 0x45
-paperCommand Write = 0x57
-paperCommand Verify = 0x56
-paperCommand Protect = 0x50
-paperCommand Run = 0x52
+paperCommand Erase = eraseByte
+paperCommand Write = writeByte
+paperCommand Verify = verifyByte
+paperCommand Protect = protectByte
+paperCommand Run = runByte
 
 -- the refusal's number
 abbrev pub paperRefusal : Refusal → ℕ
@@ -37,6 +38,7 @@ abbrev pub paperRow : Row.Row → Answer ℕ
 paperRow (row.Listed c) = given (paperCommand c)
 paperRow (row.Refused x) = refused (paperRefusal x)
 
+-- the row of a command that is listed: 6 where the rest does not fit it
 abbrev pub shapedOf : Command → Bool → Answer ℕ
 shapedOf c fits = pick fits (given (paperCommand c)) (refused 6)
 

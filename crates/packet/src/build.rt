@@ -7,8 +7,11 @@ ghost use Rattle.basis.specs.Lists.{overlay};
 ghost use Rattle.basis.specs.Refusals.{counted, written};
 ghost use Rattle.packet.specs.Packet.{frontOf, carriedOf, packet, buildOf, dataMost, packetMost};
 ghost use Rattle.packet.specs.Paper.{paperBuilt};
+use crate::table::NEXT_START;
 use crate::table::Refusal;
 use crate::table::Row;
+use crate::table::START;
+use crate::table::VERIFY;
 use crate::table::look_up;
 use crate::turn::turned;
 use basis::buffers::first_byte;
@@ -64,8 +67,8 @@ fn front(buffer: &mut [u8], command: u8, address: Address, n: usize)
     ensures { λ _. ⌜ now (buffer .exit) ≡ overlay (frontOf n command (address .0)) (now (buffer .entry)) ⌝ }
 {
     let a = address.0;
-    buffer[0] = 0x07;
-    buffer[1] = 0x0E;
+    buffer[0] = START;
+    buffer[1] = NEXT_START;
     buffer[2] = n as u8;
     buffer[3] = command;
     buffer[4] = (a / 16777216 % 256) as u8;
@@ -91,5 +94,5 @@ fn fill(part: &mut [u8], command: u8, plain: &[u8])
 fn carried(command: u8, b: u8) -> u8
     ensures { λ r. ⌜ r ≡ carriedOf command b ⌝ }
 {
-    if command == 0x56 { turned(b) } else { b }
+    if command == VERIFY { turned(b) } else { b }
 }

@@ -5,8 +5,10 @@ ghost use lib.ListN.{length};
 ghost use Rattle.packet.specs.Packet.{count, joined, address, startsRight, tabledOf, readOf};
 ghost use Rattle.packet.specs.Paper.{paperReading};
 use crate::table::Command;
+use crate::table::NEXT_START;
 use crate::table::Refusal;
 use crate::table::Row;
+use crate::table::START;
 use crate::table::look_up;
 use basis::sums::sum;
 use basis::units::Address;
@@ -52,10 +54,10 @@ fn starts_right(input: &[u8]) -> bool
     if input.len() < 2 {
         return false;
     }
-    if input[0] != 0x07 {
+    if input[0] != START {
         return false;
     }
-    input[1] == 0x0E
+    input[1] == NEXT_START
 }
 
 // A packet that is whole and sums to zero: what the command table says of it.

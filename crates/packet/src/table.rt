@@ -4,6 +4,22 @@ ghost use Rattle.basis.specs.Refusals.{given, first};
 ghost use Rattle.packet.specs.Paper.{paperCommand, paperRefusal, paperRow, shapedOf};
 ghost use Rattle.packet.specs.Table.{table, dataCount, protectType};
 
+// The two bytes that a packet starts with.
+pub const START: u8 = 0x07;
+
+pub const NEXT_START: u8 = 0x0E;
+
+// The commands.
+pub const ERASE: u8 = 0x45;
+
+pub const WRITE: u8 = 0x57;
+
+pub const VERIFY: u8 = 0x56;
+
+pub const PROTECT: u8 = 0x50;
+
+pub const RUN: u8 = 0x52;
+
 pub enum Command {
     Erase,
     Write,
@@ -27,11 +43,11 @@ impl Command {
         ensures { λ r. ⌜ r ≡ paperCommand self ⌝ }
     {
         match self {
-            Command::Erase => 0x45,
-            Command::Write => 0x57,
-            Command::Verify => 0x56,
-            Command::Protect => 0x50,
-            Command::Run => 0x52,
+            Command::Erase => ERASE,
+            Command::Write => WRITE,
+            Command::Verify => VERIFY,
+            Command::Protect => PROTECT,
+            Command::Run => RUN,
         }
     }
 }
@@ -63,16 +79,16 @@ pub fn look_up(command: u8, n: usize, kind: u8) -> Row
     ensures { λ r. ⌜ paperRow r ≡ first (table command n kind) (given command) ⌝ }
 {
     match command {
-        0x45 => shaped(Command::Erase, n == 6),
-        0x57 => shaped(Command::Write, data_count(n)),
-        0x56 => shaped(Command::Verify, data_count(n)),
-        0x50 => {
+        ERASE => shaped(Command::Erase, n == 6),
+        WRITE => shaped(Command::Write, data_count(n)),
+        VERIFY => shaped(Command::Verify, data_count(n)),
+        PROTECT => {
             if n != 6 {
                 return Row::Refused(Refusal::Shape);
             }
             shaped(Command::Protect, protect_type(kind))
         }
-        0x52 => shaped(Command::Run, n == 5),
+        RUN => shaped(Command::Run, n == 5),
         _ => Row::Refused(Refusal::Unlisted),
     }
 }

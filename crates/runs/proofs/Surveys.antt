@@ -46,7 +46,7 @@ pub surveyed : (m : List ℕ) (a q : ℕ) {below here all : Tallies} {place next
     → place ≡ tallyAt (named m) pieceMost a → next ≡ tallyAt (named m) pieceMost (a + 1)
     → record {
       all = record { runs = all .pages .pieces; pieces = all .bytes .pieces; named = all .bytes .passed };
-      below = record { runs = below .pages .pieces; pieces = place .pieces; named = place .passed };
+      below = record { runs = below .pages .pieces; pieces = place .pieces };
       run = ltb (below .pages .pieces) (here .pages .pieces);
       piece = ltb (place .pieces) (next .pieces);
     } ≡ surveyOf pages m a

@@ -15,18 +15,13 @@ unfoldable pub talliesAt : ℕ → List ℕ → ℕ → Tallies
 talliesAt board m q =
     record { bytes = tallyAt (named m) pieceMost (startOf q); pages = tallyAt (touched m) board q }
 
--- what the file has in all, what starts and is named below the address a and its page,
+-- what the file has in all, how many runs start below the page of a and pieces below a,
 -- and whether a run of pages and a piece start there
 unfoldable pub surveyOf : ℕ → List ℕ → ℕ → Surveyed
 surveyOf board m a =
     record {
       all = record { runs = runCount board m; pieces = pieceCount board m; named = namedCount board m };
-      below =
-          record {
-            runs = count (runStarts board m) (pageOf a);
-            pieces = count (pieceStarts m) a;
-            named = count (named m) a;
-          };
+      below = record { runs = count (runStarts board m) (pageOf a); pieces = count (pieceStarts m) a };
       run = runStarts board m (pageOf a);
       piece = pieceStarts m a;
     }

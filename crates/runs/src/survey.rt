@@ -24,10 +24,16 @@ pub struct Counts {
     pub named: u32,
 }
 
-// What the file has in all and below a place, and whether a run of pages and a piece start there.
+// How many runs and pieces start below a place.
+pub struct Rank {
+    pub runs: u32,
+    pub pieces: u32,
+}
+
+// What the file has in all, the rank of a place, and whether a run of pages and a piece start there.
 pub struct Surveyed {
     pub all: Counts,
-    pub below: Counts,
+    pub below: Rank,
     pub run: bool,
     pub piece: bool,
 }
@@ -60,10 +66,9 @@ pub fn survey(map: &[u8], at: Address) -> Surveyed
             pieces: all.bytes.pieces,
             named: all.bytes.passed,
         },
-        below: Counts {
+        below: Rank {
             runs: below.pages.pieces,
             pieces: place.pieces,
-            named: place.passed,
         },
         run: below.pages.pieces < here.pages.pieces,
         piece: place.pieces < next.pieces,

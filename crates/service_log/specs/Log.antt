@@ -45,13 +45,13 @@ isFalseOf board o k t n =
     (both (eqb o 42) (ltb 0 k))))))))
 
 -- how a session ended: 0 valid, 40 to 43; 45, which no record holds, for one that is unfinished
-abbrev pub outcomeIn : Phase → ℕ
-outcomeIn Phase.Greeting = 45
-outcomeIn (Phase.Erase p) = 45
-outcomeIn (Phase.Write a) = 45
-outcomeIn (Phase.Verify a) = 45
-outcomeIn Phase.Run = 45
-outcomeIn (Phase.Ended o) = paperOutcome o
+abbrev pub loggedOutcomeOf : Phase → ℕ
+loggedOutcomeOf Phase.Greeting = 45
+loggedOutcomeOf (Phase.Erase p) = 45
+loggedOutcomeOf (Phase.Write a) = 45
+loggedOutcomeOf (Phase.Verify a) = 45
+loggedOutcomeOf Phase.Run = 45
+loggedOutcomeOf (Phase.Ended o) = paperOutcome o
 
 abbrev pub twoBytes : ℕ → Bool
 twoBytes x = ltb x 65536
@@ -72,9 +72,9 @@ writeOf board room s =
     first
     (45 when not (ended (s .phase))
     ∷ 45 when not (fitTwo (s .acknowledged) (s .total) (s .named))
-    ∷ 45 when isFalseOf board (outcomeIn (s .phase)) (s .acknowledged) (s .total) (s .named)
+    ∷ 45 when isFalseOf board (loggedOutcomeOf (s .phase)) (s .acknowledged) (s .total) (s .named)
     ∷ 20 when ltb room recordSize ∷ [])
-    (given (recordBytes (outcomeIn (s .phase)) (s .acknowledged) (s .total) (s .named)))
+    (given (recordBytes (loggedOutcomeOf (s .phase)) (s .acknowledged) (s .total) (s .named)))
 
 -- what an input says
 abbrev pub recordAt : List ℕ → Record

@@ -4,7 +4,7 @@ ghost use lib.ListN.{length};
 ghost use Rattle.basis.specs.Board.{pages};
 ghost use Rattle.basis.specs.Lists.{overlay};
 ghost use Rattle.basis.specs.Refusals.{counted, written};
-ghost use Rattle.service_log.specs.Log.{outcomeIn, fitTwo, writeOf};
+ghost use Rattle.service_log.specs.Log.{loggedOutcomeOf, fitTwo, writeOf};
 ghost use Rattle.service_log.specs.Paper.{paperUnwritten, paperWritten};
 use crate::read::LENGTH;
 use crate::read::RECORD;
@@ -49,7 +49,7 @@ pub fn write(session: Session, buffer: &mut [u8]) -> Written
     if !phase.ended() {
         return Written::Refused(Unwritten::Unfit);
     }
-    let outcome = outcome_in(phase);
+    let outcome = logged_outcome(phase);
     let acknowledged = session.acknowledged;
     let total = session.total;
     let bytes = session.named;
@@ -79,8 +79,8 @@ pub fn write(session: Session, buffer: &mut [u8]) -> Written
 }
 
 // The outcome's number; 45, which no record holds, where there is none yet.
-pub fn outcome_in(phase: Phase) -> u8
-    ensures { λ r. ⌜ r ≡ outcomeIn phase ⌝ }
+pub fn logged_outcome(phase: Phase) -> u8
+    ensures { λ r. ⌜ r ≡ loggedOutcomeOf phase ⌝ }
 {
     match phase {
         Phase::Greeting => 45,

@@ -19,7 +19,7 @@ use Rattle.runs.specs.Pages.{touched}
 use Rattle.runs.specs.Pieces.{pieceMost, namedCount}
 use Rattle.runs.specs.Survey.{surveyOf}
 use Rattle.runs.specs.declared.survey.Surveyed.{Surveyed}
-use Rattle.session.specs.Phases.{placeOf, standsIn}
+use Rattle.session.specs.Phases.{placeOf, standsAt}
 use Rattle.session.specs.Plan.{total}
 use Rattle.session.specs.Session.{fitsOf}
 use Rattle.session.specs.declared.phase.Phase.{Phase}
@@ -28,8 +28,8 @@ use Rattle.session.proofs.Surveys.{Told, told}
 
 -- a cursor past the board stands nowhere
 module _ (m : List ℕ) (long : length m ≡ mapSize) where
-  past-stands : (ph : Phase) (k : ℕ) → flashSize ≤ placeOf pages ph → standsIn pages m ph k ≡ false
-  unfolding placeOf standsIn
+  past-stands : (ph : Phase) (k : ℕ) → flashSize ≤ placeOf pages ph → standsAt pages m ph k ≡ false
+  unfolding placeOf standsAt
   past-stands Phase.Greeting k l = absurd (omega arith)
   past-stands (Phase.Erase p) k l =
       decide (leb pages (p .0))
@@ -67,8 +67,8 @@ standsBy f (Phase.Ended o) k = false
 module _ (m : List ℕ) {f : Surveyed} (k : ℕ) where
   -- is what the file says of it
   told-stands : (ph : Phase) → f ≡ surveyOf pages m (placeOf pages ph) → placeOf pages ph < flashSize
-      → standsBy f ph k ≡ standsIn pages m ph k
-  unfolding placeOf standsIn
+      → standsBy f ph k ≡ standsAt pages m ph k
+  unfolding placeOf standsAt
   told-stands Phase.Greeting e l = refl
   told-stands (Phase.Erase p) e l =
       decide (leb pages (p .0))

@@ -4,7 +4,7 @@ use mathlib.Core.Bool.{Bool, true, false}
 use mathlib.Core.List.{List, [], _∷_}
 use lib.Dec.{eqb}
 use lib.ListN.{length, take, drop}
-use Rattle.basis.specs.Board.{greeting, answerMost}
+use Rattle.basis.specs.Board.{greeting, answerMost, ackByte, belByte}
 use Rattle.basis.specs.Choice.{pick, both}
 use Rattle.session.specs.declared.event.Event.{Event}
 
@@ -27,6 +27,6 @@ unfoldable pub classifyOf : Bool → List ℕ → Event
 classifyOf silent b =
     pick silent Event.Silence
     (pick (greetsOf b) Event.Greeting
-    (pick (sameOf b (0x06 ∷ [])) Event.Ack
-    (pick (sameOf b (0x07 ∷ [])) Event.Bel
+    (pick (sameOf b (ackByte ∷ [])) Event.Ack
+    (pick (sameOf b (belByte ∷ [])) Event.Bel
     Event.Other)))

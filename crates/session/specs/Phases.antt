@@ -9,7 +9,7 @@ use Rattle.runs.specs.Map.{named}
 use Rattle.runs.specs.Pages.{touched}
 use Rattle.runs.specs.Pieces.{pieceMost, pieceStarts, runStarts, runCount}
 use Rattle.runs.specs.Runs.{count, next, select, follow}
-use Rattle.session.specs.Plan.{erasePacket, writePacket, verifyPacket, runPacket, beforeRun, beforeVerify}
+use Rattle.session.specs.Plan.{erasePacket, writePacket, verifyPacket, runPacket, beforeR, beforeVerify}
 use Rattle.session.specs.declared.phase.Outcome.{Outcome}
 use Rattle.session.specs.declared.phase.Phase.{Phase}
 use Rattle.session.specs.declared.phase.RunKind.{RunKind}
@@ -21,19 +21,6 @@ ended (Phase.Write a) = false
 ended (Phase.Verify a) = false
 ended Phase.Run = false
 ended (Phase.Ended o) = true
-
--- ended valid
-abbrev pub isValid : Phase → Bool
-isValid Phase.Greeting = false
-isValid (Phase.Erase p) = false
-isValid (Phase.Write a) = false
-isValid (Phase.Verify a) = false
-isValid Phase.Run = false
-isValid (Phase.Ended Outcome.Valid) = true
-isValid (Phase.Ended Outcome.Silence) = false
-isValid (Phase.Ended Outcome.Bel) = false
-isValid (Phase.Ended Outcome.NoGreeting) = false
-isValid (Phase.Ended Outcome.Other) = false
 
 -- the packet that is out for its answer; an ending has none
 abbrev pub packetOut : ℕ → List ℕ → List ℕ → RunKind → Phase → List ℕ
@@ -60,7 +47,7 @@ phaseAt board m k =
     pick (ltb k (runCount board m)) (eraseAt (select (runStarts board m) k board))
     (pick (ltb k (beforeVerify board m))
     (writeAt (select (pieceStarts m) (k - runCount board m) (startOf board)))
-    (pick (ltb k (beforeRun board m))
+    (pick (ltb k (beforeR board m))
     (verifyAt (select (pieceStarts m) (k - beforeVerify board m) (startOf board)))
     Phase.Run))
 
@@ -111,13 +98,13 @@ abbrev pub ranked : (ℕ → Bool) → ℕ → ℕ → ℕ → Bool
 ranked starts base a k = both (starts a) (eqb (base + count starts a) k)
 
 -- the phase has the k-th packet of the file out, or waits for the greeting with none acknowledged
-unfoldable pub standsIn : ℕ → List ℕ → Phase → ℕ → Bool
-standsIn board m Phase.Greeting k = eqb k 0
-standsIn board m (Phase.Erase p) k = ranked (runStarts board m) 0 (p .0) k
-standsIn board m (Phase.Write a) k = ranked (pieceStarts m) (runCount board m) (a .0) k
-standsIn board m (Phase.Verify a) k = ranked (pieceStarts m) (beforeVerify board m) (a .0) k
-standsIn board m Phase.Run k = eqb (beforeRun board m) k
-standsIn board m (Phase.Ended o) k = false
+unfoldable pub standsAt : ℕ → List ℕ → Phase → ℕ → Bool
+standsAt board m Phase.Greeting k = eqb k 0
+standsAt board m (Phase.Erase p) k = ranked (runStarts board m) 0 (p .0) k
+standsAt board m (Phase.Write a) k = ranked (pieceStarts m) (runCount board m) (a .0) k
+standsAt board m (Phase.Verify a) k = ranked (pieceStarts m) (beforeVerify board m) (a .0) k
+standsAt board m Phase.Run k = eqb (beforeR board m) k
+standsAt board m (Phase.Ended o) k = false
 
 -- the address that a phase's cursor names: 0 where it has none, the board's end for a page past the board
 unfoldable pub placeOf : ℕ → Phase → ℕ

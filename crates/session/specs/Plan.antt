@@ -8,6 +8,7 @@ use lib.ListN.{take, drop}
 use Rattle.basis.specs.Choice.{pick, either}
 use Rattle.basis.specs.Units.{startOf}
 use Rattle.packet.specs.Packet.{packet}
+use Rattle.packet.specs.Table.{eraseByte, writeByte, verifyByte, runByte}
 use Rattle.runs.specs.Pieces.{pieceStarts, pieceLen, runStarts, runLen, runCount, pieceCount}
 use Rattle.session.specs.declared.phase.RunKind.{RunKind}
 
@@ -22,20 +23,20 @@ runAddress RunKind.Jump = 0
 
 -- W and V carry a piece
 abbrev pub carriesPiece : ℕ → Bool
-carriesPiece c = either (eqb c 0x57) (eqb c 0x56)
+carriesPiece c = either (eqb c writeByte) (eqb c verifyByte)
 
 -- E for the run of pages at q, W and V for the piece at a, and R
 abbrev pub erasePacket : ℕ → List ℕ → ℕ → List ℕ
-erasePacket board m q = packet 0x45 (startOf q) (runLen board m q ∷ [])
+erasePacket board m q = packet eraseByte (startOf q) (runLen board m q ∷ [])
 
 abbrev pub writePacket : List ℕ → List ℕ → ℕ → List ℕ
-writePacket image m a = packet 0x57 a (pieceBytes image m a)
+writePacket image m a = packet writeByte a (pieceBytes image m a)
 
 abbrev pub verifyPacket : List ℕ → List ℕ → ℕ → List ℕ
-verifyPacket image m a = packet 0x56 a (pieceBytes image m a)
+verifyPacket image m a = packet verifyByte a (pieceBytes image m a)
 
 abbrev pub runPacket : RunKind → List ℕ
-runPacket kind = packet 0x52 (runAddress kind) []
+runPacket kind = packet runByte (runAddress kind) []
 
 -- the numbers below n that pass, ascending
 unfoldable pub places : (ℕ → Bool) → ℕ → List ℕ
@@ -54,9 +55,9 @@ plan board image m kind =
 abbrev pub beforeVerify : ℕ → List ℕ → ℕ
 beforeVerify board m = runCount board m + pieceCount board m
 
-abbrev pub beforeRun : ℕ → List ℕ → ℕ
-beforeRun board m = runCount board m + 2 * pieceCount board m
+abbrev pub beforeR : ℕ → List ℕ → ℕ
+beforeR board m = runCount board m + 2 * pieceCount board m
 
 -- with R the total is e + 2w + 1
 abbrev pub total : ℕ → List ℕ → ℕ
-total board m = beforeRun board m + 1
+total board m = beforeR board m + 1

@@ -9,12 +9,12 @@ use lib.ListN.{length}
 use Rattle.basis.specs.Board.{openingByte}
 use Rattle.basis.specs.Choice.{pick, both}
 use Rattle.basis.specs.Refusals.{Answer, refused, given, _when_, first}
-use Rattle.basis.specs.Units.{startOf, mapOf}
+use Rattle.basis.specs.Units.{startOf, mapBytes}
 use Rattle.packet.specs.Packet.{packetMost}
 use Rattle.runs.specs.Map.{named}
 use Rattle.runs.specs.Pieces.{pieceStarts, namedCount, pieceLen}
 use Rattle.runs.specs.Runs.{count}
-use Rattle.session.specs.Phases.{ended, packetOut, phaseAt, afterOf, standsIn, verifyAt}
+use Rattle.session.specs.Phases.{ended, packetOut, phaseAt, afterOf, standsAt, verifyAt}
 use Rattle.session.specs.Plan.{total, beforeVerify}
 use Rattle.session.specs.declared.event.Event.{Event}
 use Rattle.session.specs.declared.phase.Outcome.{Outcome}
@@ -25,19 +25,19 @@ use Rattle.session.specs.declared.session.Next.{Next}
 use Rattle.session.specs.declared.session.Session.{Session}
 
 -- a session over a file, in a phase and with so many packets acknowledged
-abbrev pub sessionIn : ℕ → List ℕ → RunKind → Phase → ℕ → Session
-sessionIn board m kind phase k =
+abbrev pub sessionWith : ℕ → List ℕ → RunKind → Phase → ℕ → Session
+sessionWith board m kind phase k =
     record { kind = kind; phase = phase; acknowledged = k; total = total board m; named = namedCount board m }
 
 -- it waits for the greeting; or k packets are acknowledged; or all are
 abbrev pub atGreeting : ℕ → List ℕ → RunKind → Session
-atGreeting board m kind = sessionIn board m kind Phase.Greeting 0
+atGreeting board m kind = sessionWith board m kind Phase.Greeting 0
 
 abbrev pub stateAt : ℕ → List ℕ → RunKind → ℕ → Session
-stateAt board m kind k = sessionIn board m kind (phaseAt board m k) k
+stateAt board m kind k = sessionWith board m kind (phaseAt board m k) k
 
 abbrev pub valid : ℕ → List ℕ → RunKind → Session
-valid board m kind = sessionIn board m kind (Phase.Ended Outcome.Valid) (total board m)
+valid board m kind = sessionWith board m kind (Phase.Ended Outcome.Valid) (total board m)
 
 -- a session, and the packet that it sends
 pub record Sent : Type 0 where
@@ -57,7 +57,7 @@ sentBytes (given x) = x .packet
 -- for each (7,936), a packet buffer of at least 259
 abbrev pub rightSizes : ℕ → ℕ → ℕ → ℕ → Bool
 rightSizes board image m packet =
-    both (eqb image (startOf board)) (both (eqb m (mapOf board)) (leb packetMost packet))
+    both (eqb image (startOf board)) (both (eqb m (mapBytes board)) (leb packetMost packet))
 
 -- start: 20, 32 for an empty map, else the single byte 08 and the session that waits for the greeting
 unfoldable pub started : ℕ → List ℕ → List ℕ → ℕ → RunKind → Answer Sent
@@ -128,7 +128,7 @@ fitsOf board m s =
     both (ltb 0 (namedCount board m))
     (both (eqb (s .named) (namedCount board m))
     (both (eqb (s .total) (total board m))
-    (standsIn board m (s .phase) (s .acknowledged))))
+    (standsAt board m (s .phase) (s .acknowledged))))
 
 -- a step: 20, 44 after the end, 46 for a file that is not the session's, else the event is taken
 unfoldable pub stepOf : ℕ → List ℕ → List ℕ → ℕ → Session → Event → Answer Sent
@@ -155,14 +155,14 @@ marked board m k a = both (named m a) (leb (markedFrom board m a) k)
 -- asking for a mark: 20 for a map of another size
 unfoldable pub provedOf : ℕ → List ℕ → Session → ℕ → Answer Bool
 provedOf board m s a =
-    first (20 when not (eqb (length m) (mapOf board)) ∷ []) (given (marked board m (s .acknowledged) a))
+    first (20 when not (eqb (length m) (mapBytes board)) ∷ []) (given (marked board m (s .acknowledged) a))
 
 -- ---- what the laws speak by
 
 -- a file that a session can load: image and map have the board's sizes, and a byte is named
 pub record Loadable (board : ℕ) (image m : List ℕ) : Type 0 where
   pub right : length image ≡ startOf board
-  pub long : length m ≡ mapOf board
+  pub long : length m ≡ mapBytes board
   pub some : 0 < namedCount board m
 
 -- a record that fits a file waits for its greeting, or is the state after the acknowledgements that it counts
@@ -185,7 +185,7 @@ pub data Came (board : ℕ) (m : List ℕ) (kind : RunKind) (s : Session) : Type
   waits : s ≡ atGreeting board m kind → Came board m kind s
   stands : (k : ℕ) → k < total board m → s ≡ stateAt board m kind k → Came board m kind s
   fails : (o : Outcome) (k : ℕ) → k < total board m → failing o k ≡ true
-      → s ≡ sessionIn board m kind (Phase.Ended o) k
+      → s ≡ sessionWith board m kind (Phase.Ended o) k
       → Came board m kind s
   ends : s ≡ valid board m kind → Came board m kind s
 

@@ -1,7 +1,9 @@
 // What comes back from the board, as an event: an answer's bytes, or silence.
 ghost use mathlib.Core.Path.{_≡_};
 ghost use Rattle.session.specs.Events.{sameOf, greetsOf, classifyOf};
+use basis::board::ACK;
 use basis::board::ANSWER;
+use basis::board::BEL;
 use basis::board::GREETING;
 
 pub enum Event {
@@ -23,10 +25,10 @@ pub fn classify(silent: bool, answer: &[u8]) -> Event
     if greets(answer) {
         return Event::Greeting;
     }
-    if same(answer, b"\x06") {
+    if same(answer, &[ACK]) {
         return Event::Ack;
     }
-    if same(answer, b"\x07") {
+    if same(answer, &[BEL]) {
         return Event::Bel;
     }
     Event::Other

@@ -17,6 +17,10 @@ use basis::units::Address;
 use basis::units::Page;
 use packet::build::Built;
 use packet::build::build;
+use packet::table::ERASE;
+use packet::table::RUN;
+use packet::table::VERIFY;
+use packet::table::WRITE;
 use runs::pages::page_row_len;
 use runs::places::PIECE;
 use runs::places::row_len;
@@ -35,8 +39,8 @@ pub fn send(image: &[u8], map: &[u8], kind: RunKind, phase: Phase, buffer: &mut 
     match phase {
         Phase::Greeting => 0,
         Phase::Erase(page) => send_erase(map, page, buffer),
-        Phase::Write(address) => send_piece(image, map, 0x57, address, buffer),
-        Phase::Verify(address) => send_piece(image, map, 0x56, address, buffer),
+        Phase::Write(address) => send_piece(image, map, WRITE, address, buffer),
+        Phase::Verify(address) => send_piece(image, map, VERIFY, address, buffer),
         Phase::Run => send_run(kind, buffer),
         Phase::Ended(_) => 0,
     }
@@ -53,7 +57,7 @@ fn send_erase(map: &[u8], page: Page, buffer: &mut [u8]) -> usize
         ⌝ }
 {
     let count = [page_row_len(map, page, PAGES) as u8];
-    put(buffer, 0x45, page.start(), &count)
+    put(buffer, ERASE, page.start(), &count)
 }
 
 // W or V.
@@ -79,7 +83,7 @@ fn send_run(kind: RunKind, buffer: &mut [u8]) -> usize
         (r ≡ length (runPacket kind)) × (now (buffer .exit) ≡ overlay (runPacket kind) (now (buffer .entry)))
         ⌝ }
 {
-    put(buffer, 0x52, run_address(kind), b"")
+    put(buffer, RUN, run_address(kind), b"")
 }
 
 fn run_address(kind: RunKind) -> Address

@@ -24,9 +24,13 @@ both-second a b e = simp e
 pub both-false : (a b : Bool) → a ≡ false → both a b ≡ false
 both-false a b e = simp e
 
-pub both-none : (t : Bool) → both t false ≡ false
-both-none true = refl
-both-none false = refl
+pub both-no : (t : Bool) → both t false ≡ false
+both-no true = refl
+both-no false = refl
+
+pub either-no : (t : Bool) → either t false ≡ t
+either-no true = refl
+either-no false = refl
 
 pub or-either : (a b : Bool) → a || b ≡ either a b
 or-either true b = refl

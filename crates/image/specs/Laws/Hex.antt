@@ -15,7 +15,7 @@ use Rattle.basis.specs.Sums.{plainSum, sumOf}
 use Rattle.image.specs.Digits.{digitOf, allDigits, decoded}
 use Rattle.image.specs.Writer.{letterOf, spelt, line}
 use Rattle.image.specs.Laws.Writer.{length-spelt, spelt-digits, spelt-bytes}
-use Rattle.basis.specs.Laws.Choice.{pick-second, both-true, both-none, either-none}
+use Rattle.basis.specs.Laws.Choice.{pick-second, both-true, both-no, either-none}
 use Rattle.image.specs.Record.{count, kind, address, recordLeast, recordMost, noColon, lengthWrong, countWrong, isData, kindWrong, shapeWrong, characterRows, byteRows, shapeRows, charactersOf, framingOf, shapeOf}
 use Rattle.image.specs.Hex.{hex, file, place, placeRows, namedBefore, placed, otherOf, rightSizesIn, recordIn, applyIn, dataIn}
 use Rattle.image.specs.declared.hex.Hex.{Hex}
@@ -133,7 +133,7 @@ data-placed : (size : ℕ) (h : Hex) (b image map : List ℕ)
     → namedBefore h b map ≡ false
     → dataIn size h b image map ≡ given (placed h b image map)
 unfolding first dataIn
-data-placed size h b image map l e = rw (le-ltb _ _ l, both-none (ltb 0 (count b)), e)
+data-placed size h b image map l e = rw (le-ltb _ _ l, both-no (ltb 0 (count b)), e)
 
 end-read : (size : ℕ) (h : Hex) (image map : List ℕ)
     → andThen (charactersOf (line 0 1 []))

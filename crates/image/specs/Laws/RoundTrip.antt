@@ -19,7 +19,7 @@ use Rattle.runs.specs.Laws.Map.{named-past, named-none, named-only, name-all-le
 use Rattle.runs.specs.Laws.Runs.{next-ge, next-pass, next-skip, len-le, len-ge, len-in}
 use Rattle.image.specs.Hex.{File, hex, file, started, fed, place, placed, recordIn, closeOf}
 use Rattle.image.specs.declared.hex.Hex.{Hex}
-use Rattle.image.specs.Writer.{content, line, text, step, recordLength, recordFrom, lowest, stepFrom}
+use Rattle.image.specs.Writer.{content, line, text, step, recordPart, recordFrom, lowest, stepFrom}
 use Rattle.image.specs.RoundTrip.{unended, lines, addressAfter, readLines, Returned}
 use Rattle.image.specs.Laws.Hex.{right-sizes, data-taken, end-taken}
 
@@ -70,16 +70,16 @@ module _ (size : ℕ) (image map : List ℕ) where
     low-named : named map low ≡ true
     low-named = next-pass (named map) (size - a) a (omega arith)
 
-    run-some : 0 < recordLength map low
+    run-some : 0 < recordPart map low
     run-some = len-ge (named map) (16 - low % 16) low 1 (omega arith) (λ i l. first-one i l)
       where
         first-one : (i : ℕ) → i < 1 → named map (low + i) ≡ true
         first-one i l = let e : low + i ≡ low = omega arith in rw e low-named
 
-    run-few : recordLength map low ≤ 16 - low % 16
+    run-few : recordPart map low ≤ 16 - low % 16
     run-few = len-le (named map) low (16 - low % 16)
 
-    run-named : (j : ℕ) → low ≤ j → j < low + recordLength map low → named map j ≡ true
+    run-named : (j : ℕ) → low ≤ j → j < low + recordPart map low → named map j ≡ true
     run-named j l m =
         let e : low + (j - low) ≡ j = omega arith in
         rw e at (len-in (named map) (16 - low % 16) low (j - low) (omega arith))
@@ -137,7 +137,7 @@ module _ (size : ℕ) (image map : List ℕ) where
       (λ e. rw (step-end a l (leb-true _ _ e)) (address-past k))
       (λ e. let h : lowest size map a < size = leb-false _ _ e in
       rw (step-run a l h)
-      (writer-ends whole k (lowest size map a + recordLength map (lowest size map a))
+      (writer-ends whole k (lowest size map a + recordPart map (lowest size map a))
       (omega (arith, run-few a h)) (omega (arith, next-ge (named map) (size - a) a, run-some a h))))
 
   -- ---- the reader after the records below an address
@@ -306,7 +306,7 @@ module _ (size : ℕ) (image map : List ℕ) where
 
         module _ (a k : ℕ) (f : File) (u : Upto a f) (l : a ≤ size) (h : lowest size map a < size) where
           abbrev far : ℕ
-          far = recordLength map (low a h)
+          far = recordPart map (low a h)
 
           upto-low : Upto (low a h) f
           upto-low =

@@ -5,11 +5,11 @@ use mathlib.Core.List.{List, [], _∷_}
 use mathlib.Core.Path.{_≡_, refl, sym, ap, _∙_}
 use borrow.Author.Tests.{eq-eqb}
 use lib.ListN.{length}
-use Rattle.basis.specs.Board.{greeting, openingByte}
+use Rattle.basis.specs.Board.{greeting, openingByte, ackByte, belByte}
 use Rattle.basis.specs.Choice.{pick}
 use Rattle.basis.specs.Laws.Choice.{true-false}
 use Rattle.basis.specs.Refusals.{Answer, refused, given, bare}
-use Rattle.line.specs.Line.{Moment, momentWith, begun, loaderTakes, delivered, arrives, reply, eventIn, stepsOn, between, exchangeOf}
+use Rattle.line.specs.Line.{Moment, momentWith, begun, loaderTakes, delivered, arrives, reply, eventFrom, stepsOn, between, exchangeOf}
 use Rattle.line.specs.declared.exchange.Loss.{Loss}
 use Rattle.loader.specs.Commands.{Effect}
 use Rattle.loader.specs.State.{resetOf}
@@ -22,7 +22,7 @@ use Rattle.session.specs.Laws.States.{greeting-state, ack-next, ack-last, step-
 use Rattle.session.specs.Laws.Steps.{step-taken}
 use Rattle.session.specs.Phases.{packetOut, packetAt}
 use Rattle.session.specs.Plan.{total}
-use Rattle.session.specs.Session.{sessionIn, atGreeting, stateAt, rightSizes, tookOf, failing, Loadable}
+use Rattle.session.specs.Session.{sessionWith, atGreeting, stateAt, rightSizes, tookOf, failing, Loadable}
 use Rattle.session.specs.declared.event.Event.{Event}
 use Rattle.session.specs.declared.phase.Outcome.{Outcome}
 use Rattle.session.specs.declared.phase.Phase.{Phase}
@@ -33,25 +33,25 @@ use Rattle.packet.specs.Packet.{packetMost}
 -- ---- what the session hears
 
 -- no answer is silence
-pub silence-is : (b : List ℕ) → b ≡ [] → eventIn b ≡ Event.Silence
-silence-is b e = ap eventIn e ∙ silence-heard []
+pub silence-is : (b : List ℕ) → b ≡ [] → eventFrom b ≡ Event.Silence
+silence-is b e = ap eventFrom e ∙ silence-heard []
 
-refusal-heard : (n : ℕ) → isAck (eventIn (tellOf false (refused n))) ≡ false
+refusal-heard : (n : ℕ) → isAck (eventFrom (tellOf false (refused n))) ≡ false
 refusal-heard n = go (quiet n)
   where
-    go : (q : Bool) → isAck (eventIn (pick q [] (0x07 ∷ []))) ≡ false
+    go : (q : Bool) → isAck (eventFrom (pick q [] (belByte ∷ []))) ≡ false
     go true = ap isAck (silence-heard [])
     go false = ap isAck bel-heard
 
 -- an ACK comes from a loader that has let the packet through, and nothing was lost
 pub acked : (board : ℕ) (o : Loss) (l : Loader) (s f : List ℕ) → l .condition ≡ Serving
-    → eventIn (arrives board o l s f) ≡ Event.Ack
+    → eventFrom (arrives board o l s f) ≡ Event.Ack
     → (o ≡ Loss.Whole) × (e : Effect) × (loaderTakes board l s f ≡ given e)
 acked board Loss.Whole l s f c h =
-    let w = ap (λ (w : Bool). eventIn (tellOf w (bare (loaderTakes board l s f)))) (ap waiting c) in
+    let w = ap (λ (w : Bool). eventFrom (tellOf w (bare (loaderTakes board l s f)))) (ap waiting c) in
     go (loaderTakes board l s f) refl (sym (ap isAck (sym w ∙ h)))
   where
-    go : (x : Answer Effect) → loaderTakes board l s f ≡ x → true ≡ isAck (eventIn (tellOf false (bare x)))
+    go : (x : Answer Effect) → loaderTakes board l s f ≡ x → true ≡ isAck (eventFrom (tellOf false (bare x)))
         → (Loss.Whole ≡ Loss.Whole) × (e : Effect) × (loaderTakes board l s f ≡ given e)
     go (refused n) e t = absurd (true-false (t ∙ refusal-heard n))
     go (given y) e t = (refl, y, e)
@@ -60,10 +60,10 @@ acked board Loss.Unanswered l s f c h = absurd (true-false (sym (ap isAck (sym (
 
 -- and what it lets through it acknowledges
 pub let-acked : (board : ℕ) (l : Loader) (s f : List ℕ) (e : Effect) → l .condition ≡ Serving
-    → loaderTakes board l s f ≡ given e → eventIn (arrives board Loss.Whole l s f) ≡ Event.Ack
+    → loaderTakes board l s f ≡ given e → eventFrom (arrives board Loss.Whole l s f) ≡ Event.Ack
 let-acked board l s f e c q =
-    ap (λ (x : Answer Effect). eventIn (answerBytes l x)) q
-    ∙ ap (λ (w : Bool). eventIn (pick w greeting (0x06 ∷ []))) (ap waiting c) ∙ ack-heard
+    ap (λ (x : Answer Effect). eventFrom (answerBytes l x)) q
+    ∙ ap (λ (w : Bool). eventFrom (pick w greeting (ackByte ∷ []))) (ap waiting c) ∙ ack-heard
 
 -- ---- where the session stands then
 
@@ -73,7 +73,7 @@ opened board o l f = delivered board o (resetOf l) (openingByte ∷ []) f
 
 -- the session has ended
 abbrev pub over : ℕ → List ℕ → RunKind → Effect → Outcome → ℕ → Moment
-over board m kind e u k = momentWith e (sessionIn board m kind (Phase.Ended u) k) []
+over board m kind e u k = momentWith e (sessionWith board m kind (Phase.Ended u) k) []
 
 module _ (board : ℕ) (image m : List ℕ) (kind : RunKind) where
   -- k packets are acknowledged and the next is on the wire
@@ -98,7 +98,7 @@ module _ (board : ℕ) (image m : List ℕ) (file : Loadable board image m) (kin
     here = standing board image m kind e k
 
     abbrev heard : Event
-    heard = eventIn (reply board o here)
+    heard = eventFrom (reply board o here)
 
     abbrev next : Session → Moment
     next = went board image m kind (served board image m kind o e k)
@@ -136,7 +136,7 @@ module _ (board : ℕ) (image m : List ℕ) (file : Loadable board image m) (kin
     start = begun board m kind l f
 
     abbrev first-heard : Event
-    first-heard = eventIn (reply board o start)
+    first-heard = eventFrom (reply board o start)
 
     abbrev first-next : Session → Moment
     first-next = went board image m kind (opened board o l f)

@@ -23,7 +23,7 @@ use Rattle.line.specs.Line.{loaderTakes}
 use Rattle.loader.specs.Commands.{Effect, keeping, protectedPages, protectedBytes}
 use Rattle.loader.specs.Laws.Commands.{erase-passes, write-passes, verify-passes, run-passes}
 use Rattle.loader.specs.Laws.Protection.{free-pages, free-bytes}
-use Rattle.loader.specs.Laws.Verify.{stands-same}
+use Rattle.loader.specs.Laws.Verify.{stands-equals}
 use Rattle.loader.specs.State.{withCondition}
 use Rattle.loader.specs.Verify.{equalsOf}
 use Rattle.loader.specs.declared.state.Condition.the-variants.{Left}
@@ -41,7 +41,7 @@ use Rattle.runs.specs.Runs.{count}
 use Rattle.session.specs.Laws.Starts.{run-below, piece-carried}
 use Rattle.session.specs.Laws.Out.{Ranked, Out, erases, writes, verifies, runs}
 use Rattle.session.specs.Phases.{packetOut, packetAt}
-use Rattle.session.specs.Plan.{erasePacket, writePacket, pieceBytes, runAddress, beforeRun}
+use Rattle.session.specs.Plan.{erasePacket, writePacket, pieceBytes, runAddress, beforeVerify, beforeR}
 use Rattle.session.specs.Session.{Loadable}
 use Rattle.session.specs.declared.phase.Phase.{Phase}
 use Rattle.session.specs.declared.phase.RunKind.{RunKind}
@@ -66,7 +66,7 @@ pub record Grows (board : ℕ) (image m : List ℕ) (k : ℕ) (f : List ℕ) : T
 pub record Lets (board : ℕ) (image m : List ℕ) (l : Loader) (s f : List ℕ) (k : ℕ) (e : Effect) : Type 0 where
   pub let-is : loaderTakes board l s f ≡ given e
   pub grows : Grows board image m (k + 1) (e .flash)
-  pub loader-is : k < beforeRun board m → e .loader ≡ l
+  pub loader-is : k < beforeR board m → e .loader ≡ l
 
 module _ (board : ℕ) (few : board ≤ 255) (image m : List ℕ) (file : Loadable board image m)
     (bytes : Bytes image) (kind : RunKind) (l : Loader) (serves : Serves l) (free : Free m l)
@@ -217,9 +217,9 @@ module _ (board : ℕ) (few : board ≤ 255) (image m : List ℕ) (file : Loadab
 
     -- ---- V
 
-    verify-same : runCount board m + pieceCount board m ≤ k → equalsOf f s (map turnedOf piece) ≡ true
+    verify-same : beforeVerify board m ≤ k → equalsOf f s (map turnedOf piece) ≡ true
     verify-same c =
-        stands-same f s (map turnedOf piece)
+        stands-equals f s (map turnedOf piece)
         (omega (arith, length-map piece turnedOf, long-is, fits, h .size))
         (ap (λ (n : ℕ). take n (drop s f)) (length-map piece turnedOf ∙ long-is)
         ∙ parts-equal f image s (pieceLen m s) (omega (arith, fits, h .size)) (omega (arith, fits))
@@ -227,7 +227,7 @@ module _ (board : ℕ) (few : board ≤ 255) (image m : List ℕ) (file : Loadab
         ∙ sym (undone restoredOf turnedOf restored-turned piece piece-bytes))
 
   -- past the last W nothing more is to be written
-  late-grows : runCount board m + pieceCount board m ≤ k → Grows board image m (k + 1) f
+  late-grows : beforeVerify board m ≤ k → Grows board image m (k + 1) f
   late-grows c =
       record {
         size = h .size;

@@ -14,13 +14,13 @@ use Rattle.basis.specs.Laws.Choice.{decide, true-false}
 use Rattle.basis.specs.Laws.Refusals.{given-one}
 use Rattle.basis.specs.Lists.{Bytes}
 use Rattle.basis.specs.Refusals.{Answer, given}
-use Rattle.basis.specs.Units.{pageOf, startOf, mapOf}
+use Rattle.basis.specs.Units.{pageOf, startOf, mapBytes}
 use Rattle.line.specs.Demand.{AllProved, RunOut, Valid, Safe, Free}
 use Rattle.line.specs.Laws.Exchange.{silence-is, let-acked, opened, standing, served, taken, on-ack, on-last, taken-first, on-greeting}
 use Rattle.line.specs.Laws.Liveness.{Grows, Lets, lets}
 use Rattle.line.specs.Laws.Safety.{serving, serving-serves, board-greets}
 use Rattle.line.specs.Laws.Stages.{Holds, Stage, starts, stands, ends, stage, served-holds, opening-holds, first-flash}
-use Rattle.line.specs.Line.{Moment, momentWith, begun, loaderTakes, between, reply, eventIn, exchangeOf, momentAt, loadAt}
+use Rattle.line.specs.Line.{Moment, momentWith, begun, loaderTakes, between, reply, eventFrom, exchangeOf, momentAt, loadAt}
 use Rattle.line.specs.declared.exchange.Loss.{Loss}
 use Rattle.loader.specs.Commands.{Effect, effectAfter}
 use Rattle.loader.specs.State.{resetOf}
@@ -28,6 +28,7 @@ use Rattle.loader.specs.Take.{answerBytes}
 use Rattle.loader.specs.declared.state.Loader.{Loader}
 use Rattle.packet.specs.Laws.Packet.{packet-command}
 use Rattle.packet.specs.Packet.{command}
+use Rattle.packet.specs.Table.{eraseByte, writeByte, verifyByte, runByte}
 use Rattle.runs.specs.Laws.Pages.{named-touched}
 use Rattle.runs.specs.Laws.Pieces.{rank-some}
 use Rattle.runs.specs.Map.{named}
@@ -40,7 +41,7 @@ use Rattle.session.specs.Laws.Starts.{some-page}
 use Rattle.session.specs.Laws.States.{phase-open}
 use Rattle.session.specs.Laws.Out.{Out, erases, writes, verifies, runs, out-after}
 use Rattle.session.specs.Phases.{ended, packetAt}
-use Rattle.session.specs.Plan.{pieceBytes, total, beforeRun}
+use Rattle.session.specs.Plan.{pieceBytes, total, beforeR}
 use Rattle.session.specs.Session.{atGreeting, stateAt, marked, tookOf, failing, Loadable}
 use Rattle.session.specs.declared.event.Event.{Event}
 use Rattle.session.specs.declared.phase.Outcome.{Outcome}
@@ -73,13 +74,13 @@ module _ (board : ℕ) (image m : List ℕ) (losses : ℕ → Loss) (x : Moment)
 
 -- ---- what flash holds makes a moment safe, if R and the verdict come late enough
 
-holds-safe : (board : ℕ) (image m before : List ℕ) (long : length m ≡ mapOf board) (k : ℕ) (x : Moment)
+holds-safe : (board : ℕ) (image m before : List ℕ) (long : length m ≡ mapBytes board) (k : ℕ) (x : Moment)
     → x .session .acknowledged ≡ k → Holds board image m before k (x .flash)
-    → (RunOut x → beforeRun board m ≤ k)
-    → (Valid (x .session) → beforeRun board m ≤ k) → Safe board image m before x
+    → (RunOut x → beforeR board m ≤ k)
+    → (Valid (x .session) → beforeR board m ≤ k) → Safe board image m before x
 holds-safe board image m before long k x c h run val =
     record {
-      proved-stands = λ a p. h .stands a
+      proved-stands = λ a p. h .marked-stands a
           (sym (is a) ∙ given-one (sym (proved-is board m long (x .session) a) ∙ p));
       untouched-stays = h .untouched;
       run-proved = λ r. all (run r);
@@ -89,22 +90,23 @@ holds-safe board image m before long k x c h run val =
     is : (a : ℕ) → marked board m (x .session .acknowledged) a ≡ marked board m k a
     is a = ap (λ (j : ℕ). marked board m j a) c
 
-    all : beforeRun board m ≤ k → AllProved board m (x .session)
+    all : beforeR board m ≤ k → AllProved board m (x .session)
     all b a t = proved-is board m long (x .session) a ∙ ap given (is a ∙ all-marked board m long k a b ∙ t)
 
 -- on the wire R comes after every V
-run-late : (board : ℕ) (image m : List ℕ) (long : length m ≡ mapOf board) (kind : RunKind) (k : ℕ)
+run-late : (board : ℕ) (image m : List ℕ) (long : length m ≡ mapBytes board) (kind : RunKind) (k : ℕ)
     → k < total board m
-    → command (packetAt board image m kind k) ≡ 0x52 → beforeRun board m ≤ k
+    → command (packetAt board image m kind k) ≡ runByte → beforeR board m ≤ k
 run-late board image m long kind k b = go (out-after board m long k b)
   where
-    go : Out board m k → command (packetAt board image m kind k) ≡ 0x52 → beforeRun board m ≤ k
+    go : Out board m k → command (packetAt board image m kind k) ≡ runByte → beforeR board m ≤ k
     go (erases q e r c) h =
-        absurd (omega (arith, sym (packet-command 0x45 (startOf q) (runLen board m q ∷ [])) ∙ (rw e at h)))
+        absurd (omega
+        (arith, sym (packet-command eraseByte (startOf q) (runLen board m q ∷ [])) ∙ (rw e at h)))
     go (writes a j e r t c) h =
-        absurd (omega (arith, sym (packet-command 0x57 a (pieceBytes image m a)) ∙ (rw e at h)))
+        absurd (omega (arith, sym (packet-command writeByte a (pieceBytes image m a)) ∙ (rw e at h)))
     go (verifies a j e r t c) h =
-        absurd (omega (arith, sym (packet-command 0x56 a (pieceBytes image m a)) ∙ (rw e at h)))
+        absurd (omega (arith, sym (packet-command verifyByte a (pieceBytes image m a)) ∙ (rw e at h)))
     go (runs e t) h = omega arith
 
 -- a session that goes on is not valid
@@ -266,7 +268,7 @@ module _ (board : ℕ) (few : board ≤ 255) (image m before : List ℕ) (file :
       served-is : served board image m kind Loss.Whole (serves-at f) k ≡ passing .0
       served-is = ap (λ (x : Answer Effect). effectAfter (serving l) f x) (passing .1 .let-is)
 
-      hears : eventIn (reply board Loss.Whole (standing board image m kind (serves-at f) k)) ≡ Event.Ack
+      hears : eventFrom (reply board Loss.Whole (standing board image m kind (serves-at f) k)) ≡ Event.Ack
       hears = let-acked board (serving l) _ f (passing .0) refl (passing .1 .let-is)
 
     -- the exchange that follows
@@ -292,7 +294,7 @@ module _ (board : ℕ) (few : board ≤ 255) (image m before : List ℕ) (file :
               ∙ ap (λ (o : Loss). exchangeOf board image m o (load 0)) (whole 0)
               ∙ ap (exchangeOf board image m Loss.Whole) begins
               ∙ on-greeting board image m file kind Loss.Whole l before
-              (ap (λ (x : Answer Effect). eventIn (answerBytes (resetOf l) x)) greets ∙ greeting-heard)
+              (ap (λ (x : Answer Effect). eventFrom (answerBytes (resetOf l) x)) greets ∙ greeting-heard)
               ∙ ap (λ (x : Answer Effect). standing board image m kind (effectAfter (resetOf l) before x) 0)
               greets;
         }
@@ -328,7 +330,7 @@ module _ (board : ℕ) (few : board ≤ 255) (image m before : List ℕ) (file :
         ∙ ended-valid
       where
         last : ℕ
-        last = beforeRun board m
+        last = beforeR board m
 
         ended-valid : Valid (load (suc (suc last)) .session)
         ended-valid =

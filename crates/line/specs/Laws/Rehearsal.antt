@@ -1,6 +1,6 @@
 -- What demand 3 says of `rehearse`: of the verdict and the flash that it leaves.
 use Prim.Native.Nat.{ℕ, _+_, _≤_}
-use mathlib.Core.Bool.{true, false}
+use mathlib.Core.Bool.{true}
 use mathlib.Core.List.{List}
 use mathlib.Core.Path.{_≡_, refl, sym, ap, subst, _∙_}
 use native.Mathlib.Omega.{arith}
@@ -11,8 +11,8 @@ use Rattle.basis.specs.Laws.Choice.{both-true}
 use Rattle.basis.specs.Laws.Refusals.{passed, done, apart, given-one}
 use Rattle.basis.specs.Lists.{Bytes}
 use Rattle.basis.specs.Refusals.{Answer, refused, given}
-use Rattle.basis.specs.Units.{pageOf, startOf}
-use Rattle.line.specs.Demand.{Stands, Valid, Safe}
+use Rattle.basis.specs.Units.{startOf}
+use Rattle.line.specs.Demand.{Stands, Untouched, Valid, Safe}
 use Rattle.line.specs.Laws.Demand.{safe, finite}
 use Rattle.line.specs.Line.{Moment, loadAt, rehearseOf, loaded, leftFlash, Rehearses}
 use Rattle.line.specs.declared.exchange.Loss.{Loss}
@@ -20,7 +20,6 @@ use Rattle.line.specs.declared.rehearse.Load.{Load}
 use Rattle.loader.specs.declared.state.Loader.{Loader}
 use Rattle.packet.specs.Packet.{packetMost}
 use Rattle.runs.specs.Map.{named}
-use Rattle.runs.specs.Pages.{touched}
 use Rattle.runs.specs.Pieces.{namedCount}
 use Rattle.session.specs.Laws.Steps.{sizes-right}
 use Rattle.session.specs.Phases.{ended}
@@ -67,7 +66,7 @@ module _ (board : ℕ) (few : board ≤ 255) (image m : List ℕ) (kind : RunKin
 
   module _ (bytes : Bytes image) (r : Answer Load) (flash : List ℕ) (h : Rehearses whole before r flash) where
     -- whatever the verdict, flash differs from before only in touched pages
-    pub untouched-stays : (a : ℕ) → touched m (pageOf a) ≡ false → Stands flash before a
+    pub untouched-stays : Untouched m before flash
     untouched-stays a t = go whole refl (h .flash-is)
       where
         go : (w : Answer Moment) → whole ≡ w → flash ≡ leftFlash before w → Stands flash before a

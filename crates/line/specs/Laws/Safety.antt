@@ -15,13 +15,14 @@ use Rattle.basis.specs.Lists.{Bytes}
 use Rattle.basis.specs.Refusals.{Answer, refused, given, first}
 use Rattle.basis.specs.Units.{pageOf, startOf}
 use Rattle.image.specs.Flash.{eraseOf, storeOf}
+use Rattle.line.specs.Demand.{Untouched}
 use Rattle.line.specs.Laws.Places.{page-start, store-or, erase-or, equal-at}
 use Rattle.line.specs.Line.{loaderTakes, delivered}
 use Rattle.line.specs.declared.exchange.Loss.{Loss}
 use Rattle.loader.specs.Commands.{Effect, effectAfter, keeping, eraseRows, writeRows, verifyRows, writing, running}
 use Rattle.loader.specs.Laws.Commands.{erasing-pages, verify-let}
 use Rattle.loader.specs.Laws.Host.{sent-opening, sent-erase, sent-write, sent-verify, sent-run}
-use Rattle.loader.specs.Laws.Verify.{same-stands}
+use Rattle.loader.specs.Laws.Verify.{equals-stands}
 use Rattle.loader.specs.State.{resetOf, withCondition}
 use Rattle.loader.specs.declared.state.Condition.the-variants.{Serving}
 use Rattle.loader.specs.declared.state.Loader.{Loader}
@@ -47,10 +48,6 @@ serving l = withCondition (resetOf l) Serving
 
 pub serving-serves : (l : Loader) → Serves (serving l)
 serving-serves l = record { condition-is = refl; sequence-is = refl }
-
--- pages the file does not touch are as before
-abbrev pub Untouched : List ℕ → List ℕ → List ℕ → Type 0
-Untouched m before f = (a : ℕ) → touched m (pageOf a) ≡ false → getD f a 0 ≡ getD before a 0
 
 -- flash with the run of pages at q erased
 abbrev pub erasedRun : ℕ → List ℕ → List ℕ → ℕ → List ℕ
@@ -160,6 +157,6 @@ module _ (board : ℕ) (few : board ≤ 255) (image m : List ℕ) (file : Loadab
           let v = told _ (sym (takes-verify s h) ∙ q) in
           let w = verify-let board l s (map turnedOf d) f (given l) (v .1) in
           ap (λ (i : ℕ). take i (drop s f)) (sym n)
-          ∙ same-stands f s (map turnedOf d) (omega (arith, w .1, size)) (w .3)
+          ∙ equals-stands f s (map turnedOf d) (omega (arith, w .1, size)) (w .3)
           ∙ undone restoredOf turnedOf restored-turned d
           (bytes-take (pieceLen m s) (drop s image) (bytes-drop s image bytes))

@@ -12,11 +12,12 @@ use Rattle.basis.specs.Choice.{pick}
 use Rattle.basis.specs.Laws.Choice.{decide, true-false}
 use Rattle.basis.specs.Lists.{Bytes}
 use Rattle.basis.specs.Refusals.{Answer, given, first}
-use Rattle.basis.specs.Units.{startOf, mapOf}
+use Rattle.basis.specs.Units.{startOf, mapBytes}
 use Rattle.image.specs.Laws.Flash.{length-erase, length-store}
+use Rattle.line.specs.Demand.{Untouched}
 use Rattle.line.specs.Laws.Exchange.{silence-is, acked, opened, over, standing, served, on-ack, on-last, on-else, on-greeting, on-silence}
-use Rattle.line.specs.Laws.Safety.{Serves, serving, serving-serves, board-greets, Untouched, erase-untouched, store-untouched, served-by, takes-erase, takes-write, takes-verify, takes-run, verified}
-use Rattle.line.specs.Line.{Moment, begun, loaderTakes, delivered, reply, eventIn, exchangeOf, momentAt, loadAt}
+use Rattle.line.specs.Laws.Safety.{Serves, serving, serving-serves, board-greets, erase-untouched, store-untouched, served-by, takes-erase, takes-write, takes-verify, takes-run, verified}
+use Rattle.line.specs.Line.{Moment, begun, loaderTakes, delivered, reply, eventFrom, exchangeOf, momentAt, loadAt}
 use Rattle.line.specs.declared.exchange.Loss.{Loss}
 use Rattle.loader.specs.Commands.{Effect, effectAfter, verifyRows, running}
 use Rattle.loader.specs.Laws.Commands.{either-way, judged-does}
@@ -25,7 +26,7 @@ use Rattle.loader.specs.State.{resetOf}
 use Rattle.loader.specs.Take.{answerBytes}
 use Rattle.loader.specs.declared.state.Loader.{Loader}
 use Rattle.packet.specs.Turn.{turnedOf}
-use Rattle.runs.specs.Pieces.{runLen, runCount, pieceCount}
+use Rattle.runs.specs.Pieces.{runLen}
 use Rattle.session.specs.Laws.Events.{greeting-heard}
 use Rattle.session.specs.Laws.Marks.{marked-late, marked-more, all-marked}
 use Rattle.session.specs.Laws.Series.{isAck, ack-or}
@@ -33,7 +34,7 @@ use Rattle.session.specs.Laws.Starts.{piece-carried}
 use Rattle.session.specs.Laws.States.{phase-open}
 use Rattle.session.specs.Laws.Out.{Out, erases, writes, verifies, runs, out-after}
 use Rattle.session.specs.Phases.{ended, packetOut, verifyAt, placeOf, packetAt}
-use Rattle.session.specs.Plan.{total, pieceBytes, verifyPacket, beforeRun}
+use Rattle.session.specs.Plan.{total, pieceBytes, verifyPacket, beforeVerify, beforeR}
 use Rattle.session.specs.Session.{marked, failing, Loadable}
 use Rattle.session.specs.declared.event.Event.{Event}
 use Rattle.session.specs.declared.phase.Outcome.{Outcome}
@@ -45,7 +46,7 @@ module _ (board : ℕ) (image m before : List ℕ) where
   pub record Holds (k : ℕ) (f : List ℕ) : Type 0 where
     pub size : length f ≡ startOf board
     pub untouched : Untouched m before f
-    pub stands : (a : ℕ) → marked board m k a ≡ true → getD f a 0 ≡ getD image a 0
+    pub marked-stands : (a : ℕ) → marked board m k a ≡ true → getD f a 0 ≡ getD image a 0
 
   -- after n exchanges: the opening byte is out; or n - 1 packets are acknowledged and the next is out; or the
   -- session has ended
@@ -54,20 +55,20 @@ module _ (board : ℕ) (image m before : List ℕ) where
     stands : (e : Effect) (k : ℕ) → n ≡ k + 1 → k < total board m → e .loader ≡ serving l → Holds k (e .flash)
         → x ≡ standing board image m kind e k → Stage kind l n x
     ends : (e : Effect) (u : Outcome) (k : ℕ) → Holds k (e .flash)
-        → (u ≡ Outcome.Valid → beforeRun board m ≤ k) → x ≡ over board m kind e u k → Stage kind l n x
+        → (u ≡ Outcome.Valid → beforeR board m ≤ k) → x ≡ over board m kind e u k → Stage kind l n x
 
 -- ---- before the first V
 
-module _ (board : ℕ) (image m before : List ℕ) (long : length m ≡ mapOf board) where
+module _ (board : ℕ) (image m before : List ℕ) (long : length m ≡ mapBytes board) where
   -- before the first V is acknowledged no byte is marked
-  early : {k : ℕ} {f : List ℕ} → k ≤ runCount board m + pieceCount board m → length f ≡ startOf board
+  early : {k : ℕ} {f : List ℕ} → k ≤ beforeVerify board m → length f ≡ startOf board
       → Untouched m before f
       → Holds board image m before k f
   early {k} l s u =
       record {
         size = s;
         untouched = u;
-        stands = λ a h. absurd (omega (arith, marked-late board m long k a h));
+        marked-stands = λ a h. absurd (omega (arith, marked-late board m long k a h));
       }
 
   pub opening-holds : (f : List ℕ) → f ≡ before → length before ≡ startOf board
@@ -122,7 +123,7 @@ module _ (board : ℕ) (few : board ≤ 255) (image m before : List ℕ) (file :
       (arrived (out-after board m (file .long) k b))
 
   -- until R it keeps the loader too
-  served-loader : k < beforeRun board m → Out board m k
+  served-loader : k < beforeR board m → Out board m k
       → delivered board o l (packetAt board image m kind k) f .loader ≡ l
   served-loader b t =
       served-by board (λ (x : Effect). x .loader ≡ l) o l (packetAt board image m kind k) f refl (go t)
@@ -159,7 +160,7 @@ module _ (board : ℕ) (few : board ≤ 255) (image m before : List ℕ) (file :
           record {
             size = hg .size;
             untouched = hg .untouched;
-            stands = λ a n. marked-more board m (file .long) k a n (hg .stands a)
+            marked-stands = λ a n. marked-more board m (file .long) k a n (hg .marked-stands a)
                 (λ z v. let y : s ≡ z = place board s z (sym t ∙ v .phase) in
                 ap (λ (x : List ℕ). getD x a 0) same
                 ∙ verified board few image m file l serves f (h .size) bytes s (r .begins) e let-through a
@@ -179,7 +180,7 @@ module _ (board : ℕ) (few : board ≤ 255) (image m before : List ℕ) (file :
           record {
             size = hg .size;
             untouched = hg .untouched;
-            stands = λ a n. hg .stands a
+            marked-stands = λ a n. hg .marked-stands a
                 (all-marked board m (file .long) k a (omega arith)
                 ∙ sym (all-marked board m (file .long) (k + 1) a (omega arith)) ∙ n);
           }
@@ -197,10 +198,10 @@ module _ (board : ℕ) (few : board ≤ 255) (image m before : List ℕ) (file :
 
   -- an outcome that is a failure is not valid
   not-late : {u : Outcome} {k : ℕ} → failing u k ≡ true → u ≡ Outcome.Valid
-      → beforeRun board m ≤ k
+      → beforeR board m ≤ k
   not-late {u} {k} t e = absurd (true-false (sym t ∙ ap (λ (v : Outcome). failing v k) e))
 
-  silent-stage : (o : Loss) → eventIn (reply board o start) ≡ Event.Silence
+  silent-stage : (o : Loss) → eventFrom (reply board o start) ≡ Event.Silence
       → At 1 (exchangeOf board image m o start)
   silent-stage o h =
       let s = on-silence board image m file kind o l before h in
@@ -215,7 +216,7 @@ module _ (board : ℕ) (few : board ≤ 255) (image m before : List ℕ) (file :
       (ap (λ (x : Answer Effect). effectAfter (resetOf l) before x .loader) g)
       (opening-holds board image m before (file .long) _ (first-flash board Loss.Whole l before size) size)
       (on-greeting board image m file kind Loss.Whole l before
-      (ap (λ (x : Answer Effect). eventIn (answerBytes (resetOf l) x)) g ∙ greeting-heard))
+      (ap (λ (x : Answer Effect). eventFrom (answerBytes (resetOf l) x)) g ∙ greeting-heard))
   first-stage Loss.Lost = silent-stage Loss.Lost (silence-is [] refl)
   first-stage Loss.Unanswered = silent-stage Loss.Unanswered (silence-is [] refl)
 
@@ -223,7 +224,7 @@ module _ (board : ℕ) (few : board ≤ 255) (image m before : List ℕ) (file :
   next-stage : (o : Loss) (e : Effect) (k : ℕ) → k < total board m → e .loader ≡ serving l
       → Holds board image m before k (e .flash)
       → At (suc (k + 1)) (exchangeOf board image m o (standing board image m kind e k))
-  next-stage o e k b s h = ack-or (eventIn (reply board o here)) on-it off-it
+  next-stage o e k b s h = ack-or (eventFrom (reply board o here)) on-it off-it
     where
       here : Moment
       here = standing board image m kind e k
@@ -231,7 +232,7 @@ module _ (board : ℕ) (few : board ≤ 255) (image m before : List ℕ) (file :
       serves : Serves (e .loader)
       serves = rw s (serving-serves l)
 
-      off-it : isAck (eventIn (reply board o here)) ≡ false
+      off-it : isAck (eventFrom (reply board o here)) ≡ false
           → At (suc (k + 1)) (exchangeOf board image m o here)
       off-it t =
           let r = on-else board image m file kind o e k b t in
@@ -239,7 +240,7 @@ module _ (board : ℕ) (few : board ≤ 255) (image m before : List ℕ) (file :
           (served-holds board few image m before file kind (e .loader) serves o (e .flash) k h b)
           (not-late (r .1)) (r .2)
 
-      on-it : eventIn (reply board o here) ≡ Event.Ack → At (suc (k + 1)) (exchangeOf board image m o here)
+      on-it : eventFrom (reply board o here) ≡ Event.Ack → At (suc (k + 1)) (exchangeOf board image m o here)
       on-it t =
           let c : (o ≡ Loss.Whole) × (x : Effect)
           × (loaderTakes board (e .loader) (packetAt board image m kind k) (e .flash) ≡ given x)

@@ -8,10 +8,10 @@ use borrow.Author.Tests.{lt-ltb, le-ltb, ltb-true, ltb-false}
 use lib.Dec.{ltb}
 use lib.ListN.{length, length-append}
 use Rattle.basis.specs.Laws.Choice.{decide}
-use Rattle.listing.specs.Numbers.{numeral, decimalIn, decimalOf}
+use Rattle.listing.specs.Numbers.{numeral, decimalBy, decimalOf}
 
-enough : (j k n : ℕ) → n ≤ j → n ≤ k → decimalIn j n ≡ decimalIn k n
-unfolding decimalIn
+enough : (j k n : ℕ) → n ≤ j → n ≤ k → decimalBy j n ≡ decimalBy k n
+unfolding decimalBy
 enough zero zero n h l = refl
 enough zero (suc k) n h l = rw (lt-ltb n 10 (omega arith))
 enough (suc j) zero n h l = rw (lt-ltb n 10 (omega arith))
@@ -21,12 +21,12 @@ enough (suc j) (suc k) n h l =
     (λ t. let g = ltb-false n 10 t in rw (t, enough j k (n / 10) (omega arith) (omega arith)))
 
 pub decimal-one : (n : ℕ) → n < 10 → decimalOf n ≡ numeral n ∷ []
-unfolding decimalOf decimalIn
+unfolding decimalOf decimalBy
 decimal-one zero h = refl
 decimal-one (suc n) h = rw (lt-ltb (suc n) 10 h)
 
 pub decimal-more : (n : ℕ) → 10 ≤ n → decimalOf n ≡ decimalOf (n / 10) ++ (numeral (n % 10) ∷ [])
-unfolding decimalOf decimalIn
+unfolding decimalOf decimalBy
 decimal-more zero h = absurd (omega arith)
 decimal-more (suc n) h =
     rw (le-ltb (suc n) 10 h, enough n (suc n / 10) (suc n / 10) (omega arith) (omega arith))

@@ -12,7 +12,7 @@ use lib.Seq.{drop-cons, drop-nil}
 use Rattle.basis.specs.Laws.Choice.{decide}
 use Rattle.basis.specs.Laws.Refusals.{apart, given-one, refused-one}
 use Rattle.basis.specs.Refusals.{Answer, refused, given}
-use Rattle.basis.specs.Units.{mapOf}
+use Rattle.basis.specs.Units.{mapBytes}
 use Rattle.runs.specs.Pieces.{namedCount}
 use Rattle.session.specs.Laws.Phases.{at-stands, stands-start}
 use Rattle.session.specs.Laws.Plan.{plan-length, plan-at}
@@ -32,7 +32,7 @@ use Rattle.listing.specs.declared.plan.Listing.{Listing}
 
 -- ---- along the plan
 
-module _ (board : ℕ) (m : List ℕ) (long : length m ≡ mapOf board) (some : 0 < namedCount board m) where
+module _ (board : ℕ) (m : List ℕ) (long : length m ≡ mapBytes board) (some : 0 < namedCount board m) where
   took-phase : (n : ℕ)
       → tookOf board m (stateAt board m RunKind.Reset n) Event.Ack .phase
       ≡ afterOf board m (phaseAt board m n)

@@ -13,6 +13,7 @@ use lib.Seq.{length-take-le, take-all, take-nil, take-append-le, take-suc-set, s
 use Rattle.basis.specs.Laws.Choice.{decide}
 use Rattle.basis.specs.Refusals.{Answer, refused, given, _when_, first}
 use Rattle.image.specs.Hex.{File, file, settled, rightSizesIn, startIn, recordIn, closeOf}
+use Rattle.image.specs.Record.{recordMost}
 use Rattle.image.specs.declared.hex.Hex.{Hex}
 use Rattle.listing.specs.Text.{Blame, stopped, going, atLine, Result, result, lineRoom, trimmedOf, linesFrom, unlessRefused, readFrom, readIn}
 use Rattle.listing.specs.Feed.{Fed, state, textAt, fedAfter, nextLine, withKept, keepOneOf, fedByte, byteIn, feedIn, lastIn, afterClosing, shutOf, fedClosing, endedOf, fedResult, cameTo}
@@ -31,14 +32,14 @@ module _ (size : ℕ) (h : Hex) (image map : List ℕ) where
       ∷ 22 when not (eqb c 0x3A) ∷ [])
       (refused 23)
 
-  long-record : (l : List ℕ) → 521 < length l → recordIn size h l image map ≡ early (getD l 0 0)
+  long-record : (l : List ℕ) → recordMost < length l → recordIn size h l image map ≡ early (getD l 0 0)
   unfolding first recordIn
   long-record l g =
       let some : length l ≡ 0 → ⊥ = λ e. omega arith in
       let least : 11 ≤ length l = omega arith in
       rw (ne-eqb _ _ some, le-ltb _ _ least, lt-ltb _ _ g)
 
-  overlong : (a b : List ℕ) → 521 < length a → 521 < length b → getD a 0 0 ≡ getD b 0 0
+  overlong : (a b : List ℕ) → recordMost < length a → recordMost < length b → getD a 0 0 ≡ getD b 0 0
       → recordIn size h a image map ≡ recordIn size h b image map
   overlong a b p q e = long-record a p ∙ ap early e ∙ sym (long-record b q)
 

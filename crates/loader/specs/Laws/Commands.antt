@@ -17,6 +17,7 @@ use Rattle.loader.specs.State.{withCondition, clearedOf}
 use Rattle.loader.specs.Verify.{equalsOf}
 use Rattle.loader.specs.declared.state.Condition.the-variants.{Left}
 use Rattle.loader.specs.declared.state.Loader.{Loader}
+use Rattle.packet.specs.Table.{eraseByte, writeByte, verifyByte, protectByte, runByte}
 
 -- what a function that obeys shows, by its two ways out
 pub stays : {x : Answer Loader} {n : ℕ} (l : Loader) → x ≡ refused n → Changes x l (refused n) l
@@ -167,23 +168,23 @@ module _ (l : Loader) (f : List ℕ) where
 -- ---- each command by its byte
 
 module _ (board : ℕ) (l : Loader) (a : ℕ) (d f : List ℕ) where
-  pub obey-erase : obeyOf board l 0x45 a d f ≡ erasing board l a (getD d 0 0) f
+  pub obey-erase : obeyOf board l eraseByte a d f ≡ erasing board l a (getD d 0 0) f
   unfolding obeyOf
   obey-erase = refl
 
-  pub obey-write : obeyOf board l 0x57 a d f ≡ writing board l a d f
+  pub obey-write : obeyOf board l writeByte a d f ≡ writing board l a d f
   unfolding obeyOf
   obey-write = refl
 
-  pub obey-verify : obeyOf board l 0x56 a d f ≡ keeping f (first (verifyRows board l a d f) (given l))
+  pub obey-verify : obeyOf board l verifyByte a d f ≡ keeping f (first (verifyRows board l a d f) (given l))
   unfolding obeyOf
   obey-verify = refl
 
-  pub obey-protect : obeyOf board l 0x50 a d f ≡ keeping f (protecting board l a (getD d 0 0))
+  pub obey-protect : obeyOf board l protectByte a d f ≡ keeping f (protecting board l a (getD d 0 0))
   unfolding obeyOf
   obey-protect = refl
 
-  pub obey-run : obeyOf board l 0x52 a d f ≡ keeping f (running l a)
+  pub obey-run : obeyOf board l runByte a d f ≡ keeping f (running l a)
   unfolding obeyOf
   obey-run = refl
 

@@ -4,7 +4,7 @@ use mathlib.Core.List.{List}
 use mathlib.Core.Path.{_≡_, refl, ap, sym, _∙_}
 use lib.Dec.{eqb}
 use Rattle.basis.specs.Choice.{pick}
-use Rattle.basis.specs.Laws.Refusals.{apart, refused-one, determined}
+use Rattle.basis.specs.Laws.Refusals.{back-one, apart, refused-one, determined}
 use Rattle.basis.specs.Refusals.{Answer}
 use Rattle.loader.specs.Commands.{Effect}
 use Rattle.loader.specs.Paper.{paperRefusal, paperVerdict}
@@ -28,26 +28,29 @@ refusalBy n =
     (pick (eqb n 10) Differs
     (Unread (unreadBy n)))))))
 
-back : (x : Refusal) → refusalBy (paperRefusal x) ≡ x
+refusal-back : (x : Refusal) → refusalBy (paperRefusal x) ≡ x
 unfolding refusalBy unreadBy
-back Size = refl
-back Unheard = refl
-back (Unread unread.Start) = refl
-back (Unread unread.Length) = refl
-back (Unread unread.Count) = refl
-back (Unread unread.Checksum) = refl
-back (Unread unread.Unlisted) = refl
-back (Unread unread.Shape) = refl
-back Sequence = refl
-back Address = refl
-back Protected = refl
-back Differs = refl
+refusal-back Size = refl
+refusal-back Unheard = refl
+refusal-back (Unread unread.Start) = refl
+refusal-back (Unread unread.Length) = refl
+refusal-back (Unread unread.Count) = refl
+refusal-back (Unread unread.Checksum) = refl
+refusal-back (Unread unread.Unlisted) = refl
+refusal-back (Unread unread.Shape) = refl
+refusal-back Sequence = refl
+refusal-back Address = refl
+refusal-back Protected = refl
+refusal-back Differs = refl
+
+refusal-one : (x y : Refusal) → paperRefusal x ≡ paperRefusal y → x ≡ y
+refusal-one = back-one paperRefusal refusalBy refusal-back
 
 verdict-one : (v w : Verdict) → paperVerdict v ≡ paperVerdict w → v ≡ w
 verdict-one Accepted Accepted e = refl
 verdict-one Accepted (Refused y) e = absurd (apart (sym e))
 verdict-one (Refused x) Accepted e = absurd (apart e)
-verdict-one (Refused x) (Refused y) e = ap Refused (sym (back x) ∙ ap refusalBy (refused-one e) ∙ back y)
+verdict-one (Refused x) (Refused y) e = ap Refused (refusal-one x y (refused-one e))
 
 pub take-determined : {x : Answer Effect} {l : Loader} {f old : List ℕ}
     (v w : Verdict) (m n : Loader) (i j : ℕ) (g h a b : List ℕ)

@@ -19,6 +19,7 @@ use Rattle.loader.specs.declared.state.Condition.the-variants.{Waiting, 
 use Rattle.loader.specs.declared.state.Loader.{Loader}
 use Rattle.packet.specs.Laws.Packet.{packet-data, carried-plainly, read-erase, read-write, read-verify, read-run}
 use Rattle.packet.specs.Packet.{carriedOf, packet, Parts, said, readOf, dataMost}
+use Rattle.packet.specs.Table.{eraseByte, writeByte, verifyByte, protectByte, runByte}
 use Rattle.packet.specs.Turn.{turnedOf}
 
 module _ (board : ℕ) (l : Loader) (f : List ℕ) (room : ℕ) (size : length f ≡ startOf board)
@@ -41,35 +42,35 @@ module _ (board : ℕ) (l : Loader) (f : List ℕ) (room : ℕ) (size : length f
         ∙ ap (λ (s : List ℕ). obeyOf board l b a s f) (packet-data b a d)
 
     module _ (a : ℕ) (h : a < 2 ^ 32) where
-      pub sent-erase : (n : ℕ) → takeOf board l (packet 0x45 a (n ∷ [])) f room ≡ erasing board l a n f
-      sent-erase n = sent 0x45 a (n ∷ []) (read-erase a h n) ∙ obey-erase board l a (n ∷ []) f
+      pub sent-erase : (n : ℕ) → takeOf board l (packet eraseByte a (n ∷ [])) f room ≡ erasing board l a n f
+      sent-erase n = sent eraseByte a (n ∷ []) (read-erase a h n) ∙ obey-erase board l a (n ∷ []) f
 
       pub sent-write : (d : List ℕ) → 0 < length d → length d ≤ dataMost
-          → takeOf board l (packet 0x57 a d) f room ≡ writing board l a d f
+          → takeOf board l (packet writeByte a d) f room ≡ writing board l a d f
       sent-write d p q =
-          sent 0x57 a d (read-write a h d p q)
-          ∙ obey-write board l a (map (carriedOf 0x57) d) f
-          ∙ ap (λ (s : List ℕ). writing board l a s f) (carried-plainly 0x57 d refl)
+          sent writeByte a d (read-write a h d p q)
+          ∙ obey-write board l a (map (carriedOf writeByte) d) f
+          ∙ ap (λ (s : List ℕ). writing board l a s f) (carried-plainly writeByte d refl)
 
       pub sent-verify : (d : List ℕ) → 0 < length d → length d ≤ dataMost
-          → takeOf board l (packet 0x56 a d) f room
+          → takeOf board l (packet verifyByte a d) f room
           ≡ keeping f (first (verifyRows board l a (map turnedOf d) f) (given l))
       sent-verify d p q =
-          sent 0x56 a d (read-verify a h d p q) ∙ obey-verify board l a (map (carriedOf 0x56) d) f
+          sent verifyByte a d (read-verify a h d p q) ∙ obey-verify board l a (map (carriedOf verifyByte) d) f
 
-      pub sent-run : takeOf board l (packet 0x52 a []) f room ≡ keeping f (running l a)
-      sent-run = sent 0x52 a [] (read-run a h) ∙ obey-run board l a [] f
+      pub sent-run : takeOf board l (packet runByte a []) f room ≡ keeping f (running l a)
+      sent-run = sent runByte a [] (read-run a h) ∙ obey-run board l a [] f
 
 -- V, P and R never change flash
 pub kept : (l : Loader) (f : List ℕ) (x : Answer Loader) → effectAfter l f (keeping f x) .flash ≡ f
 kept l f x = ap (λ (e : Effect). e .flash) (keeping-is l f x)
 
-flash-kept : (board : ℕ) (l : Loader) (c a : ℕ) (d f : List ℕ) → (c ≡ 0x45 → ⊥) → (c ≡ 0x57 → ⊥)
+flash-kept : (board : ℕ) (l : Loader) (c a : ℕ) (d f : List ℕ) → (c ≡ eraseByte → ⊥) → (c ≡ writeByte → ⊥)
     → effectAfter l f (obeyOf board l c a d f) .flash ≡ f
 unfolding obeyOf
 flash-kept board l c a d f e w =
-    rw (ne-eqb c 0x45 e, ne-eqb c 0x57 w)
-    (go (eqb c 0x56) (eqb c 0x50) (first (verifyRows board l a d f) (given l))
+    rw (ne-eqb c eraseByte e, ne-eqb c writeByte w)
+    (go (eqb c verifyByte) (eqb c protectByte) (first (verifyRows board l a d f) (given l))
     (protecting board l a (getD d 0 0)) (running l a))
   where
     go : (v p : Bool) (x y z : Answer Loader)
@@ -80,7 +81,7 @@ flash-kept board l c a d f e w =
 
 -- so only a packet of E or W changes it
 pub flash-by : (board : ℕ) (l : Loader) (s f : List ℕ) (room : ℕ)
-    → ((p : Parts) → readOf s ≡ given p → (p .command ≡ 0x45 → ⊥) × (p .command ≡ 0x57 → ⊥))
+    → ((p : Parts) → readOf s ≡ given p → (p .command ≡ eraseByte → ⊥) × (p .command ≡ writeByte → ⊥))
     → effectAfter l f (takeOf board l s f room) .flash ≡ f
 flash-by board l s f room h =
     any-input (λ (e : Effect). e .flash ≡ f) board l s f room refl refl

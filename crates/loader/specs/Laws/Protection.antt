@@ -25,6 +25,7 @@ use Rattle.loader.specs.declared.protection.Protection.{Protection}
 use Rattle.loader.specs.declared.state.Condition.the-variants.{Left}
 use Rattle.loader.specs.declared.state.Loader.{Loader}
 use Rattle.packet.specs.Packet.{Parts, readOf}
+use Rattle.packet.specs.Table.{eraseByte, writeByte, verifyByte, protectByte}
 
 -- bytes and pages are free when each of their groups is
 module _ (p : Protection) where
@@ -87,29 +88,29 @@ module _ (board : ℕ) (l : Loader) (a : ℕ) where
       go false false e = absurd (true-false (sym e))
 
   -- of the commands, a mass erase and a P of type 0x01 change it, and no other
-  pub force-kept : (c : ℕ) (d f : List ℕ) → (c ≡ 0x45 → massErase a (getD d 0 0) ≡ false)
-      → (c ≡ 0x50 → either (eqb (getD d 0 0) 0x00) (eqb (getD d 0 0) 0x0F) ≡ true)
+  pub force-kept : (c : ℕ) (d f : List ℕ) → (c ≡ eraseByte → massErase a (getD d 0 0) ≡ false)
+      → (c ≡ protectByte → either (eqb (getD d 0 0) 0x00) (eqb (getD d 0 0) 0x0F) ≡ true)
       → force (effectAfter l f (obeyOf board l c a d f) .loader) ≡ force l
   unfolding obeyOf writing running
   force-kept c d f e p =
-      decide (eqb c 0x45) (λ t. rw t (erase-keeps (getD d 0 0) f (e (eqb-true c 0x45 t))))
-      (λ t. decide (eqb c 0x57)
+      decide (eqb c eraseByte) (λ t. rw t (erase-keeps (getD d 0 0) f (e (eqb-true c eraseByte t))))
+      (λ t. decide (eqb c writeByte)
       (λ u. rw (t, u)
       (either-way (λ (x : Effect). force (x .loader) ≡ force l) l f _
       (writeRows board l a (length d)) refl refl))
-      (λ u. decide (eqb c 0x56)
+      (λ u. decide (eqb c verifyByte)
       (λ v. rw (t, u, v, keeping-is l f (first (verifyRows board l a d f) (given l)))
       (held force l l (verifyRows board l a d f) refl))
-      (λ v. decide (eqb c 0x50)
+      (λ v. decide (eqb c protectByte)
       (λ w. rw (t, u, v, w, keeping-is l f (protecting board l a (getD d 0 0)))
-      (protect-keeps (getD d 0 0) (p (eqb-true c 0x50 w))))
+      (protect-keeps (getD d 0 0) (p (eqb-true c protectByte w))))
       (λ w. rw (t, u, v, w, keeping-is l f (running l a)) (held force l (withCondition l Left) _ refl)))))
 
 -- so of all inputs only a packet of these two changes it
 pub force-by : (board : ℕ) (l : Loader) (s f : List ℕ) (room : ℕ)
     → ((p : Parts) → readOf s ≡ given p
-    → (p .command ≡ 0x45 → massErase (p .address) (getD (sentData s p) 0 0) ≡ false)
-    × (p .command ≡ 0x50
+    → (p .command ≡ eraseByte → massErase (p .address) (getD (sentData s p) 0 0) ≡ false)
+    × (p .command ≡ protectByte
     → either (eqb (getD (sentData s p) 0 0) 0x00) (eqb (getD (sentData s p) 0 0) 0x0F) ≡ true))
     → force (effectAfter l f (takeOf board l s f room) .loader) ≡ force l
 force-by board l s f room h =

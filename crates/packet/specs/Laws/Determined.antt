@@ -10,6 +10,7 @@ use Rattle.basis.specs.Lists.{overlay}
 use Rattle.basis.specs.Refusals.{Answer, counted, written}
 use Rattle.packet.specs.Packet.{Parts}
 use Rattle.packet.specs.Paper.{paperCommand, paperRefusal, paperRow, paperBuilt, paperReading}
+use Rattle.packet.specs.Table.{eraseByte, writeByte, verifyByte, protectByte}
 use Rattle.packet.specs.declared.build.Built as Built
 use Rattle.packet.specs.declared.build.Built.the-variants as built
 use Rattle.packet.specs.declared.read.Packet.{Packet}
@@ -25,8 +26,8 @@ use Rattle.packet.specs.declared.table.Row.the-variants as row
 -- the command of a byte, and the refusal of a number
 commandBy : ℕ → Command
 commandBy n =
-    pick (eqb n 0x45) Erase
-    (pick (eqb n 0x57) Write (pick (eqb n 0x56) Verify (pick (eqb n 0x50) Protect Run)))
+    pick (eqb n eraseByte) Erase
+    (pick (eqb n writeByte) Write (pick (eqb n verifyByte) Verify (pick (eqb n protectByte) Protect Run)))
 
 command-back : (c : Command) → commandBy (paperCommand c) ≡ c
 unfolding commandBy

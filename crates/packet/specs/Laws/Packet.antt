@@ -16,7 +16,7 @@ use Rattle.basis.specs.Refusals.{refused, given, first}
 use Rattle.basis.specs.Sums.{sumOf}
 use Rattle.packet.specs.Laws.Table.{table-passes, table-holds, kind-counts}
 use Rattle.packet.specs.Packet.{carriedOf, summed, packet, buildOf, count, command, kind, joined, Parts, parts, said, startsRight, rows, tabledOf, readOf, packetMost, dataMost}
-use Rattle.packet.specs.Table.{listed, dataCount, inShape, table}
+use Rattle.packet.specs.Table.{eraseByte, writeByte, verifyByte, protectByte, runByte, listed, dataCount, inShape, table}
 
 pub packet-length : (c a : ℕ) (d : List ℕ) → length (packet c a d) ≡ length d + 9
 unfolding packet
@@ -68,7 +68,7 @@ address-back a h =
     (join a (a / 256) (a / 65536) (a / 16777216) (a % 256) (a / 256 % 256) (a / 65536 % 256)
     (div-add-mod' a 256) e₁ e₂)
 
-one-byte : (c a : ℕ) (d : List ℕ) → c ≡ 0x50 → length d + 5 ≡ 6 → getD d 0 0 ≡ kind (packet c a d)
+one-byte : (c a : ℕ) (d : List ℕ) → c ≡ protectByte → length d + 5 ≡ 6 → getD d 0 0 ≡ kind (packet c a d)
 unfolding packet
 one-byte c a [] e h = absurd (omega arith)
 one-byte c a (x ∷ d) e h = rw e
@@ -105,19 +105,19 @@ read-packet c a d h l s =
 
 -- each of the five commands as the host sends it
 module _ (a : ℕ) (h : a < 2 ^ 32) where
-  pub read-erase : (n : ℕ) → readOf (packet 0x45 a (n ∷ [])) ≡ given (said 0x45 a (n ∷ []))
-  read-erase n = read-packet 0x45 a (n ∷ []) h refl refl
+  pub read-erase : (n : ℕ) → readOf (packet eraseByte a (n ∷ [])) ≡ given (said eraseByte a (n ∷ []))
+  read-erase n = read-packet eraseByte a (n ∷ []) h refl refl
 
   pub read-write : (d : List ℕ) → 0 < length d → length d ≤ dataMost
-      → readOf (packet 0x57 a d) ≡ given (said 0x57 a d)
-  read-write d l m = read-packet 0x57 a d h refl (data-fits d l m)
+      → readOf (packet writeByte a d) ≡ given (said writeByte a d)
+  read-write d l m = read-packet writeByte a d h refl (data-fits d l m)
 
   pub read-verify : (d : List ℕ) → 0 < length d → length d ≤ dataMost
-      → readOf (packet 0x56 a d) ≡ given (said 0x56 a d)
-  read-verify d l m = read-packet 0x56 a d h refl (data-fits d l m)
+      → readOf (packet verifyByte a d) ≡ given (said verifyByte a d)
+  read-verify d l m = read-packet verifyByte a d h refl (data-fits d l m)
 
-  pub read-run : readOf (packet 0x52 a []) ≡ given (said 0x52 a [])
-  read-run = read-packet 0x52 a [] h refl refl
+  pub read-run : readOf (packet runByte a []) ≡ given (said runByte a [])
+  read-run = read-packet runByte a [] h refl refl
 
 -- what an input is that reading accepts
 pub record Accepted (s : List ℕ) (p : Parts) : Type 0 where
@@ -157,6 +157,6 @@ data-within s p e =
     omega arith
 
 -- every command but V carries its data as they are
-pub carried-plainly : (c : ℕ) (d : List ℕ) → eqb c 0x56 ≡ false → map (carriedOf c) d ≡ d
+pub carried-plainly : (c : ℕ) (d : List ℕ) → eqb c verifyByte ≡ false → map (carriedOf c) d ≡ d
 carried-plainly c [] e = refl
 carried-plainly c (x ∷ d) e = simp (e, carried-plainly c d e)

@@ -19,20 +19,20 @@ use Rattle.basis.specs.Sums.{sumOf, checksumOf}
 use Rattle.packet.specs.Laws.Packet.{packet-data, build-packet, read-packet, Accepted, accepted}
 use Rattle.packet.specs.Laws.Table.{table-holds, kind-counts}
 use Rattle.packet.specs.Laws.Turn.{restored-turned, turned-restored, undone}
-use Rattle.packet.specs.Packet.{addressBytes, carriedOf, plain, summed, packet, buildOf, count, command, kind, joined, address, Parts, parts, said, plainData, readOf, packetMost}
-use Rattle.packet.specs.Table.{inShape}
+use Rattle.packet.specs.Packet.{startByte, nextStartByte, addressBytes, carriedOf, plain, summed, packet, buildOf, count, command, kind, joined, address, Parts, parts, said, plainData, readOf, packetMost}
+use Rattle.packet.specs.Table.{verifyByte, protectByte, inShape}
 use Rattle.packet.specs.Turn.{turnedOf, restoredOf}
 
 -- a byte and its carried form give each other back
 plain-carried : (c b : ℕ) → b < 256 → plain c (carriedOf c b) ≡ b
-plain-carried c b h = go (eqb c 0x56)
+plain-carried c b h = go (eqb c verifyByte)
   where
     go : (t : Bool) → pick t (restoredOf (pick t (turnedOf b) b)) (pick t (turnedOf b) b) ≡ b
     go true = restored-turned b h
     go false = refl
 
 carried-plain : (c b : ℕ) → b < 256 → carriedOf c (plain c b) ≡ b
-carried-plain c b h = go (eqb c 0x56)
+carried-plain c b h = go (eqb c verifyByte)
   where
     go : (t : Bool) → pick t (turnedOf (pick t (restoredOf b) b)) (pick t (restoredOf b) b) ≡ b
     go true = turned-restored b h
@@ -118,13 +118,13 @@ module _ (s : List ℕ) (p : Parts) (b : Bytes s) (r : Accepted s p) where
       let f = bytes-back (getD s 4 0) (getD s 5 0) (getD s 6 0) (getD s 7 0) (b 4) (b 5) (b 6) (b 7) in
       λ i. data-length i ∷ command s ∷ (f i ++ body-plain i)
 
-  in-order : s ≡ 0x07 ∷ 0x0E ∷ middle ++ (last ∷ [])
+  in-order : s ≡ startByte ∷ nextStartByte ∷ middle ++ (last ∷ [])
   unfolding middle
   in-order =
       let h = both-true (leb 2 (length s)) _ (r .starts) in
-      let g = both-true (eqb (getD s 0 0) 0x07) (eqb (getD s 1 0) 0x0E) (h .1) in
-      let e₀ = eqb-true (getD s 0 0) 0x07 (g .0) in
-      let e₁ = eqb-true (getD s 1 0) 0x0E (g .1) in
+      let g = both-true (eqb (getD s 0 0) startByte) (eqb (getD s 1 0) nextStartByte) (h .1) in
+      let e₀ = eqb-true (getD s 0 0) startByte (g .0) in
+      let e₁ = eqb-true (getD s 1 0) nextStartByte (g .1) in
       eight s (omega arith)
       ∙ λ i. e₀ i ∷ e₁ i ∷ count s ∷ command s
       ∷ getD s 4 0 ∷ getD s 5 0 ∷ getD s 6 0 ∷ getD s 7 0 ∷ body-last i
@@ -138,12 +138,13 @@ module _ (s : List ℕ) (p : Parts) (b : Bytes s) (r : Accepted s p) where
   whole : packet (command s) (address s) (plainData (parts s) s) ≡ s
   unfolding packet
   whole =
-      ap (λ (l : List ℕ). 0x07 ∷ 0x0E ∷ l ++ (checksumOf l ∷ [])) middle-summed
-      ∙ ap (λ (x : ℕ). 0x07 ∷ 0x0E ∷ middle ++ (x ∷ [])) (sym last-checksum)
+      ap (λ (l : List ℕ). startByte ∷ nextStartByte ∷ l ++ (checksumOf l ∷ [])) middle-summed
+      ∙ ap (λ (x : ℕ). startByte ∷ nextStartByte ∷ middle ++ (x ∷ [])) (sym last-checksum)
       ∙ sym in-order
 
 -- the byte after the address is P's type
-one-plain : (c n : ℕ) (l : List ℕ) → c ≡ 0x50 → n ≡ 6 → getD l 0 0 ≡ getD (map (plain c) (take (n - 5) l)) 0 0
+one-plain : (c n : ℕ) (l : List ℕ) → c ≡ protectByte → n ≡ 6
+    → getD l 0 0 ≡ getD (map (plain c) (take (n - 5) l)) 0 0
 one-plain c n [] ec en = rw (ec, en)
 one-plain c n (x ∷ l) ec en = rw (ec, en)
 

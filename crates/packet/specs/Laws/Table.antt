@@ -9,7 +9,7 @@ use Rattle.basis.specs.Choice.{pick, both}
 use Rattle.basis.specs.Laws.Choice.{decide, both-true}
 use Rattle.basis.specs.Laws.Refusals.{skip, passed, done}
 use Rattle.basis.specs.Refusals.{Answer, given, first}
-use Rattle.packet.specs.Table.{listed, dataCount, protectType, inShape, table}
+use Rattle.packet.specs.Table.{eraseByte, writeByte, verifyByte, protectByte, listed, dataCount, protectType, inShape, table}
 
 module _ {A : Type 0} (c n t : ℕ) where
   -- what stands in the table passes it
@@ -27,10 +27,10 @@ module _ {A : Type 0} (c n t : ℕ) where
 -- no row allows more than N = 255
 pub shape-short : (c n t : ℕ) → inShape c n t ≡ true → n ≤ 255
 shape-short c n t =
-    row 0x45 (λ e. omega (arith, eqb-true n 6 e))
-    (row 0x57 many
-    (row 0x56 many
-    (row 0x50 (λ e. omega (arith, eqb-true n 6 (both-true (eqb n 6) (protectType t) e .0)))
+    row eraseByte (λ e. omega (arith, eqb-true n 6 e))
+    (row writeByte many
+    (row verifyByte many
+    (row protectByte (λ e. omega (arith, eqb-true n 6 (both-true (eqb n 6) (protectType t) e .0)))
     (λ e. omega (arith, eqb-true n 5 e)))))
   where
     many : dataCount n ≡ true → n ≤ 255
@@ -45,10 +45,11 @@ shape-short c n t =
         go false = g
 
 -- the byte after the address counts for P alone
-pub kind-counts : (c n t u : ℕ) → (c ≡ 0x50 → n ≡ 6 → t ≡ u) → inShape c n t ≡ true → inShape c n u ≡ true
+pub kind-counts : (c n t u : ℕ) → (c ≡ protectByte → n ≡ 6 → t ≡ u) → inShape c n t ≡ true
+    → inShape c n u ≡ true
 kind-counts c n t u e h =
-    decide (eqb c 0x50)
-    (λ p. let q : c ≡ 0x50 = eqb-true c 0x50 p in
+    decide (eqb c protectByte)
+    (λ p. let q : c ≡ protectByte = eqb-true c protectByte p in
     let b : both (eqb n 6) (protectType t) ≡ true = rw q at h in
     let x = both-true (eqb n 6) (protectType t) b in
     rw (q, ← e q (eqb-true n 6 (x .0))) b)

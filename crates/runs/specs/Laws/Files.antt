@@ -6,7 +6,7 @@ use mathlib.Core.Path.{_≡_}
 use mathlib.Core.Bool.{true, false}
 use mathlib.Core.List.{List}
 use lib.ListN.{length}
-use Rattle.basis.specs.Units.{startOf, mapOf}
+use Rattle.basis.specs.Units.{startOf, mapBytes}
 use Rattle.runs.specs.Map.{named}
 use Rattle.runs.specs.Pages.{touched}
 use Rattle.runs.specs.Pieces.{pieceMost, pieceStarts, pieceLen, runStarts, runLen}
@@ -14,7 +14,7 @@ use Rattle.runs.specs.Laws.Map.{named-past}
 use Rattle.runs.specs.Laws.Pages.{touched-past}
 use Rattle.runs.specs.Laws.Pieces.{piece-fits, run-before, run-after}
 
-module _ (board : ℕ) (m : List ℕ) (long : length m ≡ mapOf board) where
+module _ (board : ℕ) (m : List ℕ) (long : length m ≡ mapBytes board) where
   -- nothing is named or touched past the board
   pub bytes-past : (a : ℕ) → startOf board ≤ a → named m a ≡ false
   bytes-past a l = named-past m a (omega arith)

@@ -15,7 +15,7 @@ use borrow.Author.Tests.{eq-eqb, ne-eqb}
 use Rattle.basis.specs.Choice.{pick, either}
 use Rattle.basis.specs.Lists.{Bytes}
 use Rattle.basis.specs.Laws.Bits.{bit-or}
-use Rattle.basis.specs.Laws.Choice.{either-second}
+use Rattle.basis.specs.Laws.Choice.{either-second, either-no}
 use Rattle.basis.specs.Laws.Computed.{allBelow, one-of, agree}
 use Rattle.basis.specs.Laws.Lists.{zero-at}
 use Rattle.basis.specs.Bits.{bit}
@@ -50,10 +50,6 @@ same-place a b e = go (ℕ-discrete b a)
     go : Dec (b ≡ a) → eqb (b % 8) (a % 8) ≡ eqb b a
     go (yes q) = eq-eqb (b % 8) (a % 8) (omega arith) ∙ sym (eq-eqb b a q)
     go (no n) = ne-eqb (b % 8) (a % 8) (λ r. n (omega arith)) ∙ sym (ne-eqb b a n)
-
-either-no : (t : Bool) → either t false ≡ t
-either-no true = refl
-either-no false = refl
 
 -- exactly that address more is named
 name-named : (m : List ℕ) (a b : ℕ) → a < 8 * length m → named (nameOf m a) b ≡ either (named m b) (eqb b a)

@@ -10,7 +10,7 @@ use Rattle.basis.specs.Lists.{pairAt}
 use Rattle.basis.specs.Refusals.{refused, given}
 use Rattle.session.specs.Phases.{ended}
 use Rattle.session.specs.declared.session.Session.{Session}
-use Rattle.service_log.specs.Log.{recordSize, recordLength, recordVersion, isFalseOf, outcomeIn, fitTwo, recordBytes, writeOf, readOf}
+use Rattle.service_log.specs.Log.{recordSize, recordLength, recordVersion, isFalseOf, loggedOutcomeOf, fitTwo, recordBytes, writeOf, readOf}
 
 -- ---- writing
 
@@ -26,7 +26,7 @@ module _ (board : ℕ) (room : ℕ) (s : Session) where
     write-wide e = skip 45 _ _ _ (ap not e₁) ∙ stop 45 _ _ _ (ap not e)
 
     module _ (e₂ : fitTwo (s .acknowledged) (s .total) (s .named) ≡ true) (o : ℕ)
-        (is : o ≡ outcomeIn (s .phase)) where
+        (is : o ≡ loggedOutcomeOf (s .phase)) where
       pub write-false : isFalseOf board o (s .acknowledged) (s .total) (s .named) ≡ true
           → writeOf board room s ≡ refused 45
       unfolding writeOf

@@ -13,7 +13,7 @@ use Rattle.basis.specs.Laws.Choice.{both-true, both-second, either-none, true-f
 use Rattle.basis.specs.Laws.Refusals.{passed, done, given-one}
 use Rattle.basis.specs.Lists.{pairAt}
 use Rattle.basis.specs.Refusals.{given}
-use Rattle.basis.specs.Units.{startOf, mapOf}
+use Rattle.basis.specs.Units.{startOf, mapBytes}
 use Rattle.runs.specs.Pieces.{namedCount}
 use Rattle.session.specs.Laws.Series.{came}
 use Rattle.session.specs.Laws.States.{phase-open}
@@ -21,14 +21,14 @@ use Rattle.session.specs.Laws.Totals.{total-fits, total-least, named-fits}
 use Rattle.session.specs.Paper.{paperOutcome}
 use Rattle.session.specs.Phases.{ended}
 use Rattle.session.specs.Plan.{total}
-use Rattle.session.specs.Session.{sessionIn, Came, waits, stands, fails, ends, failing, atGreeting, series}
+use Rattle.session.specs.Session.{sessionWith, Came, waits, stands, fails, ends, failing, atGreeting, series}
 use Rattle.session.specs.declared.phase.Outcome.{Outcome}
 use Rattle.session.specs.declared.phase.Phase.{Phase}
 use Rattle.session.specs.declared.phase.RunKind.{RunKind}
 use Rattle.session.specs.declared.session.Session.{Session}
 use Rattle.service_log.specs.Laws.FalseRecords.{false-valid, true-greeted, false-ungreeted}
 use Rattle.service_log.specs.Laws.Log.{write-given, read-given}
-use Rattle.service_log.specs.Log.{recordSize, recordVersion, known, isFalseOf, outcomeIn, twoBytes, fitTwo, recordBytes, writeOf, recordAt, readOf}
+use Rattle.service_log.specs.Log.{recordSize, recordVersion, known, isFalseOf, loggedOutcomeOf, twoBytes, fitTwo, recordBytes, writeOf, recordAt, readOf}
 use Rattle.service_log.specs.declared.read.Record.{Record}
 use Rattle.session.specs.declared.event.Event.{Event}
 
@@ -49,7 +49,7 @@ read-back board o k t n f e =
     (omega arith) e
 
 pub written-reads : (board : ℕ) (room : ℕ) (s : Session) (w : List ℕ) → writeOf board room s ≡ given w
-    → readOf board w ≡ given (said (outcomeIn (s .phase)) (s .acknowledged) (s .total) (s .named))
+    → readOf board w ≡ given (said (loggedOutcomeOf (s .phase)) (s .acknowledged) (s .total) (s .named))
 unfolding writeOf
 written-reads board room s w e =
     let p₁ = passed _ _ _ _ e in
@@ -58,7 +58,8 @@ written-reads board room s w e =
     let p₄ = passed _ _ _ _ (p₃ .1) in
     let g = given-one (sym (done _) ∙ p₄ .1) in
     ap (readOf board) (sym g)
-    ∙ read-back board (outcomeIn (s .phase)) (s .acknowledged) (s .total) (s .named) (not-false _ (p₂ .0))
+    ∙ read-back board (loggedOutcomeOf (s .phase)) (s .acknowledged) (s .total) (s .named)
+    (not-false _ (p₂ .0))
     (p₃ .0)
 
 -- ---- a record that reads as valid says that all is acknowledged
@@ -89,7 +90,7 @@ read-valid board s r e o =
 
 -- ---- a session that came from a start by events over its file
 
-module _ (board : ℕ) (m : List ℕ) (long : length m ≡ mapOf board) (some : 0 < namedCount board m) where
+module _ (board : ℕ) (m : List ℕ) (long : length m ≡ mapBytes board) (some : 0 < namedCount board m) where
   counts-fit : (k : ℕ) → board ≤ 127 → k ≤ total board m
       → fitTwo k (total board m) (namedCount board m) ≡ true
   counts-fit k short l =
@@ -127,20 +128,23 @@ module _ (board : ℕ) (m : List ℕ) (long : length m ≡ mapOf board) (some : 
   module _ (short : board ≤ 127) (kind : RunKind) (room : ℕ) (l : recordSize ≤ room) where
     pub came-logged : (s : Session) → Came board m kind s → ended (s .phase) ≡ true
         → writeOf board room s
-        ≡ given (recordBytes (outcomeIn (s .phase)) (s .acknowledged) (total board m) (namedCount board m))
+        ≡ given (recordBytes (loggedOutcomeOf (s .phase)) (s .acknowledged) (total board m)
+        (namedCount board m))
     came-logged s (waits e) h = absurd (true-false (sym h ∙ ap (λ (x : Session). ended (x .phase)) e))
     came-logged s (stands k b e) h =
         absurd (true-false (sym h ∙ ap (λ (x : Session). ended (x .phase)) e ∙ phase-open board m k))
     came-logged s (fails o k b f e) h =
-        rw e (write-given board room (sessionIn board m kind (Phase.Ended o) k) refl
+        rw e (write-given board room (sessionWith board m kind (Phase.Ended o) k) refl
         (counts-fit k short (omega arith)) (paperOutcome o) refl (failed-true o k b f) l)
     came-logged s (ends e) h =
-        rw e (write-given board room (sessionIn board m kind (Phase.Ended Outcome.Valid) (total board m)) refl
+        rw e (write-given board room
+        (sessionWith board m kind (Phase.Ended Outcome.Valid) (total board m)) refl
         (counts-fit (total board m) short (omega arith)) 0 refl valid-true l)
 
     -- so it is of every series of events
     pub series-logged : (es : List Event)
         → (let s = series board m (atGreeting board m kind) es in ended (s .phase) ≡ true
         → writeOf board room s
-        ≡ given (recordBytes (outcomeIn (s .phase)) (s .acknowledged) (total board m) (namedCount board m)))
+        ≡ given (recordBytes (loggedOutcomeOf (s .phase)) (s .acknowledged) (total board m)
+        (namedCount board m)))
     series-logged es = came-logged _ (came board m long some kind es)

@@ -7,10 +7,10 @@ use borrow.Author.Tests.{eq-eqb, eqb-true, ltb-true, lt-ltb}
 use lib.Dec.{eqb, ltb}
 use lib.ListN.{length}
 use Rattle.basis.specs.Laws.Choice.{both-true}
-use Rattle.basis.specs.Units.{mapOf}
+use Rattle.basis.specs.Units.{mapBytes}
 use Rattle.runs.specs.Pieces.{namedCount}
 use Rattle.session.specs.Laws.Phases.{after-start}
-use Rattle.session.specs.Phases.{atStart, standsIn}
+use Rattle.session.specs.Phases.{atStart, standsAt}
 use Rattle.session.specs.Plan.{total}
 use Rattle.session.specs.Session.{judgeOf, heardOf, tookOf, fitsOf}
 use Rattle.session.specs.declared.event.Event.{Event}
@@ -22,7 +22,7 @@ pub record Fitting (board : ℕ) (m : List ℕ) (s : Session) : Type 0 where
   pub some : 0 < namedCount board m
   pub named-is : s .named ≡ namedCount board m
   pub total-is : s .total ≡ total board m
-  pub stands : standsIn board m (s .phase) (s .acknowledged) ≡ true
+  pub stands : standsAt board m (s .phase) (s .acknowledged) ≡ true
 
 pub fitting : (board : ℕ) (m : List ℕ) (s : Session) → fitsOf board m s ≡ true → Fitting board m s
 unfolding fitsOf
@@ -47,7 +47,7 @@ fits-by board m s f =
     ) (f .stands)
 
 -- after any event the cursor stands at a start
-pub took-start : (board : ℕ) (m : List ℕ) → length m ≡ mapOf board → (s : Session) (e : Event)
+pub took-start : (board : ℕ) (m : List ℕ) → length m ≡ mapBytes board → (s : Session) (e : Event)
     → fitsOf board m s ≡ true
     → atStart board m (tookOf board m s e .phase) ≡ true
 unfolding tookOf

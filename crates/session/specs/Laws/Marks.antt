@@ -11,7 +11,7 @@ use lib.ListN.{length, getD}
 use Rattle.basis.specs.Laws.Choice.{decide, both-true, both-second, both-false}
 use Rattle.basis.specs.Laws.Refusals.{skip, done}
 use Rattle.basis.specs.Refusals.{given}
-use Rattle.basis.specs.Units.{startOf, mapOf}
+use Rattle.basis.specs.Units.{startOf, mapBytes}
 use Rattle.runs.specs.Laws.Files.{bytes-past}
 use Rattle.runs.specs.Laws.Pieces.{piece-passes, in-piece, rank-in, rank-some, passes-below}
 use Rattle.runs.specs.Laws.Runs.{count-mono}
@@ -21,9 +21,9 @@ use Rattle.runs.specs.Runs.{count, home}
 use Rattle.session.specs.Laws.Fits.{fitting}
 use Rattle.session.specs.Laws.Phases.{ranked-is, ranked-by, stands-below, stands-at, at-stands}
 use Rattle.session.specs.Laws.Plan.{plan-at}
-use Rattle.session.specs.Laws.States.{stands-run}
-use Rattle.session.specs.Phases.{packetOut, verifyAt, standsIn}
-use Rattle.session.specs.Plan.{verifyPacket, plan, total, beforeRun, beforeVerify}
+use Rattle.session.specs.Laws.States.{stands-r}
+use Rattle.session.specs.Phases.{packetOut, verifyAt, standsAt}
+use Rattle.session.specs.Plan.{verifyPacket, plan, total, beforeR, beforeVerify}
 use Rattle.session.specs.Session.{fitsOf, marked, provedOf, Held, markedFrom}
 use Rattle.session.specs.declared.phase.Phase.{Phase}
 use Rattle.session.specs.declared.phase.RunKind.{RunKind}
@@ -32,10 +32,10 @@ use Rattle.session.specs.declared.session.Session.{Session}
 module _ (board : ℕ) (m : List ℕ) where
   -- the ACK to it marks the byte
   pub held-marked : (j k s a : ℕ) → Held board m j s a → j < k → marked board m k a ≡ true
-  unfolding marked standsIn
+  unfolding marked standsAt
   held-marked j k s a h l =
       let t = ranked-is (pieceStarts m) (beforeVerify board m) s j
-      (sym (ap (λ (ph : Phase). standsIn board m ph j) (h .phase)) ∙ at-stands board m j (h .planned)) in
+      (sym (ap (λ (ph : Phase). standsAt board m ph j) (h .phase)) ∙ at-stands board m j (h .planned)) in
       let r : markedFrom board m a ≤ k = omega
       (arith, rank-in (named m) pieceMost s a (t .0) (h .from) (h .below)) in
       both-second _ _ (piece-passes (named m) pieceMost s a (h .from) (h .below)) ∙ le-leb _ _ r
@@ -52,17 +52,17 @@ module _ (board : ℕ) (m : List ℕ) where
   unfolding marked
   marked-named k a h = both-true (named m a) _ h .0
 
-module _ (board : ℕ) (m : List ℕ) (long : length m ≡ mapOf board) where
+module _ (board : ℕ) (m : List ℕ) (long : length m ≡ mapBytes board) where
   -- every named byte is in the piece of one V of the plan, behind every E and W
   named-held : (a : ℕ) → named m a ≡ true
       → (j : ℕ) × (s : ℕ) × (Held board m j s a)
       × (j + 1 ≡ markedFrom board m a)
-  unfolding standsIn
+  unfolding standsAt
   named-held a t =
       let i = in-piece (named m) pieceMost (omega arith) a t in
       let s : ℕ = home (named m) pieceMost a in
       let j : ℕ = beforeVerify board m + count (pieceStarts m) s in
-      let h : standsIn board m (verifyAt s) j ≡ true = ranked-by (pieceStarts m) (beforeVerify board m) s j
+      let h : standsAt board m (verifyAt s) j ≡ true = ranked-by (pieceStarts m) (beforeVerify board m) s j
       (i .0) refl in (
         j,
         s,
@@ -84,7 +84,7 @@ module _ (board : ℕ) (m : List ℕ) (long : length m ≡ mapOf board) where
       (v .0, v .1, omega (arith, v .3, leb-true (markedFrom board m a) k (b .1)), v .2)
 
   -- once every V is acknowledged every named byte is marked
-  pub all-marked : (k a : ℕ) → beforeRun board m ≤ k → marked board m k a ≡ named m a
+  pub all-marked : (k a : ℕ) → beforeR board m ≤ k → marked board m k a ≡ named m a
   unfolding marked
   all-marked k a l =
       decide (named m a)
@@ -95,14 +95,14 @@ module _ (board : ℕ) (m : List ℕ) (long : length m ≡ mapOf board) where
       (λ t. both-false _ _ t ∙ sym t)
 
   -- so R is out only when every named byte is marked
-  pub run-marked : (s : Session) (a : ℕ) → fitsOf board m s ≡ true → s .phase ≡ Phase.Run
+  pub r-marked : (s : Session) (a : ℕ) → fitsOf board m s ≡ true → s .phase ≡ Phase.Run
       → marked board m (s .acknowledged) a ≡ named m a
-  run-marked s a h e =
+  r-marked s a h e =
       all-marked (s .acknowledged) a
       (omega (
         arith,
-        stands-run board m (s .acknowledged)
-            (sym (ap (λ (ph : Phase). standsIn board m ph (s .acknowledged)) e)
+        stands-r board m (s .acknowledged)
+            (sym (ap (λ (ph : Phase). standsAt board m ph (s .acknowledged)) e)
             ∙ fitting board m s h .stands),
       ))
 

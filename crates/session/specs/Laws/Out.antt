@@ -6,13 +6,13 @@ use mathlib.Core.Path.{_≡_, refl, sym, ap, _∙_}
 use native.Mathlib.Omega.{arith}
 use lib.ListN.{length}
 use Rattle.basis.specs.Laws.Choice.{true-false}
-use Rattle.basis.specs.Units.{mapOf}
+use Rattle.basis.specs.Units.{mapBytes}
 use Rattle.runs.specs.Pieces.{pieceStarts, runStarts, runCount, pieceCount}
 use Rattle.runs.specs.Runs.{count}
 use Rattle.session.specs.Laws.Phases.{greeted, ranked-is, run-rank, piece-rank, at-stands}
-use Rattle.session.specs.Laws.States.{stands-run, phase-greeted, phase-open}
-use Rattle.session.specs.Phases.{ended, eraseAt, writeAt, verifyAt, phaseAt, standsIn}
-use Rattle.session.specs.Plan.{total, beforeRun, beforeVerify}
+use Rattle.session.specs.Laws.States.{stands-r, phase-greeted, phase-open}
+use Rattle.session.specs.Phases.{ended, eraseAt, writeAt, verifyAt, phaseAt, standsAt}
+use Rattle.session.specs.Plan.{total, beforeR, beforeVerify}
 use Rattle.session.specs.declared.phase.Phase.{Phase}
 
 -- something starts at the place, and before it as many as are told
@@ -27,14 +27,14 @@ pub data Out (board : ℕ) (m : List ℕ) (k : ℕ) : Type 0 where
       → j < pieceCount board m → Out board m k
   verifies : (a j : ℕ) → phaseAt board m k ≡ verifyAt a → Ranked (pieceStarts m) a j
       → k ≡ beforeVerify board m + j → j < pieceCount board m → Out board m k
-  runs : phaseAt board m k ≡ Phase.Run → k ≡ beforeRun board m → Out board m k
+  runs : phaseAt board m k ≡ Phase.Run → k ≡ beforeR board m → Out board m k
 
-pub out-after : (board : ℕ) (m : List ℕ) → length m ≡ mapOf board → (k : ℕ) → k < total board m
+pub out-after : (board : ℕ) (m : List ℕ) → length m ≡ mapBytes board → (k : ℕ) → k < total board m
     → Out board m k
-unfolding standsIn
+unfolding standsAt
 out-after board m long k l = go (phaseAt board m k) refl (at-stands board m k l)
   where
-    go : (ph : Phase) → phaseAt board m k ≡ ph → standsIn board m ph k ≡ true → Out board m k
+    go : (ph : Phase) → phaseAt board m k ≡ ph → standsAt board m ph k ≡ true → Out board m k
     go Phase.Greeting e h = absurd (true-false (sym (phase-greeted board m k) ∙ ap greeted e))
     go (Phase.Erase p) e h =
         let r = ranked-is (runStarts board m) 0 (p .0) k h in
@@ -47,5 +47,5 @@ out-after board m long k l = go (phaseAt board m k) refl (at-stands board m k l)
         let r = ranked-is (pieceStarts m) (beforeVerify board m) (a .0) k h in
         verifies (a .0) (count (pieceStarts m) (a .0)) e (record { begins = r .0; rank-is = refl })
         (sym (r .1)) (omega (arith, r .1, piece-rank board m long (beforeVerify board m) (a .0) k h))
-    go Phase.Run e h = runs e (sym (stands-run board m k h))
+    go Phase.Run e h = runs e (sym (stands-r board m k h))
     go (Phase.Ended o) e h = absurd (true-false (sym (ap ended e) ∙ phase-open board m k))

@@ -8,7 +8,7 @@ use borrow.Author.Tests.{eq-eqb, eqb-true, ltb-true, ltb-false, lt-ltb, le-ltb}
 use lib.Dec.{eqb, ltb}
 use lib.ListN.{length}
 use Rattle.basis.specs.Laws.Choice.{decide, both-true, true-false}
-use Rattle.basis.specs.Units.{startOf, mapOf}
+use Rattle.basis.specs.Units.{startOf, mapBytes}
 use Rattle.runs.specs.Laws.Files.{bytes-past, pages-past}
 use Rattle.runs.specs.Laws.Pieces.{starts-below, first-starts, first-rank, follow-starts, follow-rank}
 use Rattle.runs.specs.Laws.Runs.{count-mono, rank-below, select-at, select-kth}
@@ -17,8 +17,8 @@ use Rattle.runs.specs.Pages.{touched}
 use Rattle.runs.specs.Pieces.{pieceMost, pieceStarts, runStarts, runCount, pieceCount, namedCount}
 use Rattle.runs.specs.Runs.{count, starts, next, select, follow}
 use Rattle.session.specs.Laws.Starts.{some-page, run-below, piece-below, first-piece-below, first-run-below}
-use Rattle.session.specs.Phases.{eraseAt, writeAt, verifyAt, phaseAt, lowestPiece, nextRun, nextPiece, afterOf, atStart, ranked, standsIn}
-use Rattle.session.specs.Plan.{total, beforeRun, beforeVerify}
+use Rattle.session.specs.Phases.{eraseAt, writeAt, verifyAt, phaseAt, lowestPiece, nextRun, nextPiece, afterOf, atStart, ranked, standsAt}
+use Rattle.session.specs.Plan.{total, beforeR, beforeVerify}
 use Rattle.session.specs.declared.phase.Phase.{Phase}
 
 -- ---- ranks
@@ -52,7 +52,7 @@ module _ (p : ℕ → Bool) (cap n : ℕ) (past : (a : ℕ) → n ≤ a → p a 
 
 -- ---- phases that stand in the file
 
-module _ (board : ℕ) (m : List ℕ) (long : length m ≡ mapOf board) where
+module _ (board : ℕ) (m : List ℕ) (long : length m ≡ mapBytes board) where
   pub run-rank : (q k : ℕ) → ranked (runStarts board m) 0 q k ≡ true → k < runCount board m
   run-rank q k h =
       let t = ranked-is (runStarts board m) 0 q k h in
@@ -64,18 +64,18 @@ module _ (board : ℕ) (m : List ℕ) (long : length m ≡ mapOf board) where
       omega (arith, rank-below (pieceStarts m) (startOf board) a (piece-below board m long a (t .0)) (t .0))
 
   -- fewer packets are acknowledged than there are
-  pub stands-below : (ph : Phase) (k : ℕ) → standsIn board m ph k ≡ true → k < total board m
-  unfolding standsIn
+  pub stands-below : (ph : Phase) (k : ℕ) → standsAt board m ph k ≡ true → k < total board m
+  unfolding standsAt
   stands-below Phase.Greeting k h = omega (arith, eqb-true k 0 h)
   stands-below (Phase.Erase p) k h = omega (arith, run-rank (p .0) k h)
   stands-below (Phase.Write a) k h = omega (arith, piece-rank (runCount board m) (a .0) k h)
   stands-below (Phase.Verify a) k h = omega (arith, piece-rank (beforeVerify board m) (a .0) k h)
-  stands-below Phase.Run k h = omega (arith, eqb-true (beforeRun board m) k h)
+  stands-below Phase.Run k h = omega (arith, eqb-true (beforeR board m) k h)
   stands-below (Phase.Ended o) k h = absurd (true-false (sym h))
 
   -- the cursor stands at a start
-  pub stands-start : (ph : Phase) (k : ℕ) → standsIn board m ph k ≡ true → atStart board m ph ≡ true
-  unfolding standsIn
+  pub stands-start : (ph : Phase) (k : ℕ) → standsAt board m ph k ≡ true → atStart board m ph ≡ true
+  unfolding standsAt
   stands-start Phase.Greeting k h = refl
   stands-start (Phase.Erase p) k h = ranked-is (runStarts board m) 0 (p .0) k h .0
   stands-start (Phase.Write a) k h = ranked-is (pieceStarts m) (runCount board m) (a .0) k h .0
@@ -92,11 +92,11 @@ greeted (Phase.Verify a) = true
 greeted Phase.Run = true
 greeted (Phase.Ended o) = true
 
-module _ (board : ℕ) (m : List ℕ) (long : length m ≡ mapOf board) where
+module _ (board : ℕ) (m : List ℕ) (long : length m ≡ mapBytes board) where
   -- a phase that stands after k acknowledgements is the one after k
-  pub stands-at : (ph : Phase) (k : ℕ) → greeted ph ≡ true → standsIn board m ph k ≡ true
+  pub stands-at : (ph : Phase) (k : ℕ) → greeted ph ≡ true → standsAt board m ph k ≡ true
       → ph ≡ phaseAt board m k
-  unfolding phaseAt standsIn
+  unfolding phaseAt standsAt
   stands-at Phase.Greeting k g h = absurd (true-false (sym g))
   stands-at (Phase.Erase p) k g h =
       let t = ranked-is (runStarts board m) 0 (p .0) k h in
@@ -116,7 +116,7 @@ module _ (board : ℕ) (m : List ℕ) (long : length m ≡ mapOf board) where
   stands-at (Phase.Verify a) k g h =
       let t = ranked-is (pieceStarts m) (beforeVerify board m) (a .0) k h in
       let c : count (pieceStarts m) (a .0) ≡ k - beforeVerify board m = omega arith in
-      let b : k < beforeRun board m = omega
+      let b : k < beforeR board m = omega
       (arith, piece-rank board m long (beforeVerify board m) (a .0) k h) in
       let d : runCount board m ≤ k = omega arith in
       let f : beforeVerify board m ≤ k = omega arith in
@@ -125,17 +125,17 @@ module _ (board : ℕ) (m : List ℕ) (long : length m ≡ mapOf board) where
       (sym (select-at (pieceStarts m) (startOf board) (a .0) (piece-below board m long (a .0) (t .0)) (t .0))
       ∙ ap (λ (x : ℕ). select (pieceStarts m) x (startOf board)) c))
   stands-at Phase.Run k g h =
-      let e : beforeRun board m ≡ k = eqb-true _ _ h in
+      let e : beforeR board m ≡ k = eqb-true _ _ h in
       let d : runCount board m ≤ k = omega arith in
       let f : beforeVerify board m ≤ k = omega arith in
-      let b : beforeRun board m ≤ k = omega arith in
+      let b : beforeR board m ≤ k = omega arith in
       rw (le-ltb _ _ d, le-ltb _ _ f, le-ltb _ _ b)
   stands-at (Phase.Ended o) k g h = absurd (true-false (sym h))
 
 -- and the phase after k stands after k
 pub at-stands : (board : ℕ) (m : List ℕ) (k : ℕ) → k < total board m
-    → standsIn board m (phaseAt board m k) k ≡ true
-unfolding phaseAt standsIn
+    → standsAt board m (phaseAt board m k) k ≡ true
+unfolding phaseAt standsAt
 at-stands board m k l =
     decide (ltb k (runCount board m))
     (λ d. let s = select-kth (runStarts board m) board k (ltb-true _ _ d) in
@@ -145,29 +145,29 @@ at-stands board m k l =
     let s = select-kth (pieceStarts m) (startOf board) (k - runCount board m)
     (omega (arith, ltb-true k (beforeVerify board m) f)) in
     rw (d, f) (ranked-by (pieceStarts m) (runCount board m) _ k (s .passes) (omega (arith, s .rank))))
-    (λ f. decide (ltb k (beforeRun board m))
+    (λ f. decide (ltb k (beforeR board m))
     (λ b. let g : beforeVerify board m ≤ k = ltb-false _ _ f in
     let s = select-kth (pieceStarts m) (startOf board) (k - beforeVerify board m)
-    (omega (arith, ltb-true k (beforeRun board m) b)) in
+    (omega (arith, ltb-true k (beforeR board m) b)) in
     rw (d, f, b) (ranked-by (pieceStarts m) (beforeVerify board m) _ k (s .passes) (omega (arith, s .rank))))
-    (λ b. rw (d, f, b) (eq-eqb (beforeRun board m) k (omega (arith, ltb-false k (beforeRun board m) b))))))
+    (λ b. rw (d, f, b) (eq-eqb (beforeR board m) k (omega (arith, ltb-false k (beforeR board m) b))))))
 
 -- ---- from phase to phase
 
-module _ (board : ℕ) (m : List ℕ) (long : length m ≡ mapOf board) (some : 0 < namedCount board m) where
+module _ (board : ℕ) (m : List ℕ) (long : length m ≡ mapBytes board) (some : 0 < namedCount board m) where
   first-piece-ranked : (base : ℕ) → ranked (pieceStarts m) base (lowestPiece board m) base ≡ true
   first-piece-ranked base =
       first-ranked (named m) pieceMost (startOf board) (bytes-past board m long) base
       (first-piece-below board m long some)
 
-  pub greeting-stands : standsIn board m (afterOf board m Phase.Greeting) 0 ≡ true
-  unfolding afterOf standsIn
+  pub greeting-stands : standsAt board m (afterOf board m Phase.Greeting) 0 ≡ true
+  unfolding afterOf standsAt
   greeting-stands =
       first-ranked (touched m) board board (pages-past board m long) 0 (first-run-below board m long some)
 
-  pub erase-stands : (q k : ℕ) → standsIn board m (eraseAt q) k ≡ true
-      → standsIn board m (afterOf board m (eraseAt q)) (k + 1) ≡ true
-  unfolding afterOf standsIn
+  pub erase-stands : (q k : ℕ) → standsAt board m (eraseAt q) k ≡ true
+      → standsAt board m (afterOf board m (eraseAt q)) (k + 1) ≡ true
+  unfolding afterOf standsAt
   erase-stands q k h =
       decide (ltb (nextRun board m q) board)
       (λ d. rw d (follow-ranked (touched m) board board (pages-past board m long) 0
@@ -180,9 +180,9 @@ module _ (board : ℕ) (m : List ℕ) (long : length m ≡ mapOf board) (some : 
       ))
       (first-piece-ranked (runCount board m))))
 
-  pub write-stands : (a k : ℕ) → standsIn board m (writeAt a) k ≡ true
-      → standsIn board m (afterOf board m (writeAt a)) (k + 1) ≡ true
-  unfolding afterOf standsIn
+  pub write-stands : (a k : ℕ) → standsAt board m (writeAt a) k ≡ true
+      → standsAt board m (afterOf board m (writeAt a)) (k + 1) ≡ true
+  unfolding afterOf standsAt
   write-stands a k h =
       decide (ltb (nextPiece board m a) (startOf board))
       (λ d. rw d (follow-ranked (named m) pieceMost (startOf board) (bytes-past board m long)
@@ -193,14 +193,14 @@ module _ (board : ℕ) (m : List ℕ) (long : length m ≡ mapOf board) (some : 
       (omega arith) a k h (ltb-false _ _ d))
       (first-piece-ranked (beforeVerify board m))))
 
-  pub verify-stands : (a k : ℕ) → standsIn board m (verifyAt a) k ≡ true
-      → standsIn board m (afterOf board m (verifyAt a)) (k + 1) ≡ true
-  unfolding afterOf standsIn
+  pub verify-stands : (a k : ℕ) → standsAt board m (verifyAt a) k ≡ true
+      → standsAt board m (afterOf board m (verifyAt a)) (k + 1) ≡ true
+  unfolding afterOf standsAt
   verify-stands a k h =
       decide (ltb (nextPiece board m a) (startOf board))
       (λ d. rw d (follow-ranked (named m) pieceMost (startOf board) (bytes-past board m long)
       (beforeVerify board m) (omega arith) a k h (ltb-true _ _ d)))
-      (λ d. rw d (eq-eqb (beforeRun board m) (k + 1)
+      (λ d. rw d (eq-eqb (beforeR board m) (k + 1)
       (omega (
         arith,
         follow-last (named m) pieceMost (startOf board) (bytes-past board m long) (beforeVerify board m)
@@ -208,7 +208,7 @@ module _ (board : ℕ) (m : List ℕ) (long : length m ≡ mapOf board) (some : 
       ))))
 
   -- a cursor that moves on stands at a start
-  pub after-start : (ph : Phase) (k : ℕ) → standsIn board m ph k ≡ true
+  pub after-start : (ph : Phase) (k : ℕ) → standsAt board m ph k ≡ true
       → atStart board m (afterOf board m ph) ≡ true
   unfolding afterOf
   after-start Phase.Greeting k h = stands-start board m long _ 0 greeting-stands

@@ -14,7 +14,7 @@ use Rattle.runs.specs.Laws.Runs.{count-zero, count-yes, count-no}
 use Rattle.runs.specs.Pieces.{pieceStarts, runStarts, runCount, pieceCount}
 use Rattle.runs.specs.Runs.{count, select}
 use Rattle.session.specs.Phases.{phaseAt, packetAt}
-use Rattle.session.specs.Plan.{erasePacket, writePacket, verifyPacket, places, plan, total, beforeRun, beforeVerify}
+use Rattle.session.specs.Plan.{erasePacket, writePacket, verifyPacket, places, plan, total, beforeR, beforeVerify}
 use Rattle.session.specs.declared.phase.RunKind.{RunKind}
 
 -- the places that pass are as many as are counted, and the k-th is the one of rank k
@@ -88,11 +88,11 @@ module _ (board : ℕ) (image m : List ℕ) (kind : RunKind) where
       (arith, ltb-false k (beforeVerify board m) b) in
       let e : k - runCount board m - pieceCount board m ≡ k - beforeVerify board m = omega arith in
       rw b (part-past (writePacket image m) (pieceStarts m) (startOf board) (k - runCount board m) _ d kb
-      ∙ rw e (decide (ltb k (beforeRun board m))
+      ∙ rw e (decide (ltb k (beforeR board m))
       (λ c. rw c (part-at (verifyPacket image m) (pieceStarts m) (startOf board)
-      (k - beforeVerify board m) _ d (omega (arith, ltb-true k (beforeRun board m) c))))
+      (k - beforeVerify board m) _ d (omega (arith, ltb-true k (beforeR board m) c))))
       (λ c. let kc : pieceCount board m ≤ k - beforeVerify board m = omega
-      (arith, ltb-false k (beforeRun board m) c) in
+      (arith, ltb-false k (beforeR board m) c) in
       let z : k - beforeVerify board m - pieceCount board m ≡ 0 = omega arith in
       rw c (part-past (verifyPacket image m) (pieceStarts m) (startOf board) (k - beforeVerify board m) _ d kc
       ∙ rw z)))))))

@@ -10,12 +10,12 @@ use lib.Dec.{ltb}
 use lib.ListN.{length, replicate}
 use Rattle.basis.specs.Choice.{pick}
 use Rattle.basis.specs.Laws.Choice.{decide, true-false}
-use Rattle.basis.specs.Units.{mapOf}
+use Rattle.basis.specs.Units.{mapBytes}
 use Rattle.runs.specs.Pieces.{namedCount}
 use Rattle.session.specs.Laws.States.{phase-open, phase-later, greeting-state, ack-next, ack-last}
-use Rattle.session.specs.Phases.{ended, phaseAt, isValid}
-use Rattle.session.specs.Plan.{total, beforeRun}
-use Rattle.session.specs.Session.{sessionIn, atGreeting, stateAt, valid, judgeOf, heardOf, tookOf, series, Came, waits, stands, fails, ends, failing}
+use Rattle.session.specs.Phases.{ended, phaseAt}
+use Rattle.session.specs.Plan.{total, beforeR}
+use Rattle.session.specs.Session.{sessionWith, atGreeting, stateAt, valid, judgeOf, heardOf, tookOf, series, Came, waits, stands, fails, ends, failing}
 use Rattle.session.specs.declared.event.Event.{Event}
 use Rattle.session.specs.declared.phase.Outcome.{Outcome}
 use Rattle.session.specs.declared.phase.Phase.{Phase}
@@ -45,7 +45,7 @@ silence-ends board m s = go (s .phase)
 
 -- its counts are the file's: no total is invented
 module _ (board : ℕ) (m : List ℕ) (kind : RunKind) (s : Session) where
-  came-in : Came board m kind s → (ph : Phase) × (k : ℕ) × (s ≡ sessionIn board m kind ph k)
+  came-in : Came board m kind s → (ph : Phase) × (k : ℕ) × (s ≡ sessionWith board m kind ph k)
   came-in (waits e) = (Phase.Greeting, 0, e)
   came-in (stands k l e) = (phaseAt board m k, k, e)
   came-in (fails o k l f e) = (Phase.Ended o, k, e)
@@ -56,6 +56,19 @@ module _ (board : ℕ) (m : List ℕ) (kind : RunKind) (s : Session) where
 
   pub came-named : Came board m kind s → s .named ≡ namedCount board m
   came-named c = ap (λ (x : Session). x .named) (came-in c .2)
+
+-- ended valid
+abbrev pub isValid : Phase → Bool
+isValid Phase.Greeting = false
+isValid (Phase.Erase p) = false
+isValid (Phase.Write a) = false
+isValid (Phase.Verify a) = false
+isValid Phase.Run = false
+isValid (Phase.Ended Outcome.Valid) = true
+isValid (Phase.Ended Outcome.Silence) = false
+isValid (Phase.Ended Outcome.Bel) = false
+isValid (Phase.Ended Outcome.NoGreeting) = false
+isValid (Phase.Ended Outcome.Other) = false
 
 abbrev pub isAck : Event → Bool
 isAck Event.Greeting = false
@@ -97,14 +110,14 @@ open-valid (Phase.Verify a) h = refl
 open-valid Phase.Run h = refl
 open-valid (Phase.Ended o) h = absurd (true-false h)
 
-module _ (board : ℕ) (m : List ℕ) (long : length m ≡ mapOf board) (some : 0 < namedCount board m)
+module _ (board : ℕ) (m : List ℕ) (long : length m ≡ mapBytes board) (some : 0 < namedCount board m)
     (kind : RunKind) where
   -- ---- one event
 
   -- an event that is no ACK ends the session, and not valid
   pub not-ack : (k : ℕ) (e : Event) → isAck e ≡ false → k < total board m
       → (o : Outcome) × (failing o k ≡ true)
-      × (tookOf board m (stateAt board m kind k) e ≡ sessionIn board m kind (Phase.Ended o) k)
+      × (tookOf board m (stateAt board m kind k) e ≡ sessionWith board m kind (Phase.Ended o) k)
   unfolding tookOf
   not-ack k Event.Greeting h l = (Outcome.Other, refl, rw (phase-later board m k Event.Greeting, add-zero))
   not-ack k Event.Ack h l = absurd (true-false h)
@@ -130,7 +143,7 @@ module _ (board : ℕ) (m : List ℕ) (long : length m ≡ mapOf board) (some : 
   -- all but the greeting ends the session that waits for it
   pub not-greeting : (e : Event) → isGreeting e ≡ false
       → (o : Outcome) × (failing o 0 ≡ true)
-      × (tookOf board m (atGreeting board m kind) e ≡ sessionIn board m kind (Phase.Ended o) 0)
+      × (tookOf board m (atGreeting board m kind) e ≡ sessionWith board m kind (Phase.Ended o) 0)
   unfolding tookOf
   not-greeting Event.Greeting h = absurd (true-false h)
   not-greeting Event.Ack h = (Outcome.NoGreeting, refl, refl)
@@ -186,13 +199,13 @@ module _ (board : ℕ) (m : List ℕ) (long : length m ≡ mapOf board) (some : 
 
   series-fails : (k : ℕ) (e : Event) (es : List Event) → isAck e ≡ false → k < total board m
       → (o : Outcome) × (failing o k ≡ true)
-      × (series board m (stateAt board m kind k) (e ∷ es) ≡ sessionIn board m kind (Phase.Ended o) k)
+      × (series board m (stateAt board m kind k) (e ∷ es) ≡ sessionWith board m kind (Phase.Ended o) k)
   series-fails k e es a l =
       let f = not-ack k e a l in (
         f .0,
         f .1,
         event-taken (stateAt board m kind k) e es (phase-open board m k) (f .2)
-            ∙ series-ended board m (sessionIn board m kind (Phase.Ended (f .0)) k) es refl,
+            ∙ series-ended board m (sessionWith board m kind (Phase.Ended (f .0)) k) es refl,
       )
 
   series-first : (es : List Event)
@@ -235,7 +248,7 @@ module _ (board : ℕ) (m : List ℕ) (long : length m ≡ mapOf board) (some : 
 
   -- ---- a verdict within e + 2w + 2 events
 
-  is-over : {s : Session} {o : Outcome} {k : ℕ} → s ≡ sessionIn board m kind (Phase.Ended o) k
+  is-over : {s : Session} {o : Outcome} {k : ℕ} → s ≡ sessionWith board m kind (Phase.Ended o) k
       → ended (s .phase) ≡ true
   is-over e = ap (λ (x : Session). ended (x .phase)) e
 
@@ -254,13 +267,13 @@ module _ (board : ℕ) (m : List ℕ) (long : length m ≡ mapOf board) (some : 
 
   first-fails : (e : Event) (es : List Event) → isGreeting e ≡ false
       → (o : Outcome) × (failing o 0 ≡ true)
-      × (series board m (atGreeting board m kind) (e ∷ es) ≡ sessionIn board m kind (Phase.Ended o) 0)
+      × (series board m (atGreeting board m kind) (e ∷ es) ≡ sessionWith board m kind (Phase.Ended o) 0)
   first-fails e es a =
       let f = not-greeting e a in (
         f .0,
         f .1,
         event-taken (atGreeting board m kind) e es refl (f .2)
-            ∙ series-ended board m (sessionIn board m kind (Phase.Ended (f .0)) 0) es refl,
+            ∙ series-ended board m (sessionWith board m kind (Phase.Ended (f .0)) 0) es refl,
       )
 
   pub verdict : (es : List Event) → total board m + 1 ≤ length es
@@ -269,13 +282,13 @@ module _ (board : ℕ) (m : List ℕ) (long : length m ≡ mapOf board) (some : 
   verdict (e ∷ es) b =
       greeting-or e
       (λ a. rw a (ap (λ (s : Session). ended (s .phase)) (series-first es)
-      ∙ within (beforeRun board m) 0 es (omega arith) (omega arith)))
+      ∙ within (beforeR board m) 0 es (omega arith) (omega arith)))
       (λ a. is-over (first-fails e es a .2))
 
   -- ---- valid only after every acknowledgement
 
   not-valid : {s : Session} {o : Outcome} {k : ℕ} → failing o k ≡ true
-      → s ≡ sessionIn board m kind (Phase.Ended o) k → isValid (s .phase) ≡ false
+      → s ≡ sessionWith board m kind (Phase.Ended o) k → isValid (s .phase) ≡ false
   not-valid {s} {o} {k} f e = ap (λ (x : Session). isValid (x .phase)) e ∙ go o f
     where
       go : (o : Outcome) → failing o k ≡ true → isValid (Phase.Ended o) ≡ false
@@ -316,9 +329,9 @@ module _ (board : ℕ) (m : List ℕ) (long : length m ≡ mapOf board) (some : 
       ∙ ap (λ (x : Session). isValid (x .phase)) (series-nil board m (atGreeting board m kind))))
   valid-only (e ∷ es) v =
       greeting-or e
-      (λ a. let r = valid-on (beforeRun board m) 0 es (omega arith)
+      (λ a. let r = valid-on (beforeR board m) 0 es (omega arith)
       (sym (ap (λ (s : Session). isValid (s .phase)) (series-first es)) ∙ ap isValid (rw a at v)) in
-      let n : suc (beforeRun board m) ≡ total board m = omega arith in (
+      let n : suc (beforeR board m) ≡ total board m = omega arith in (
         r .0,
         rw a (ap (λ (x : List Event). Event.Greeting ∷ x)
             (r .1 ∙ ap (λ (j : ℕ). replicate j Event.Ack ++ r .0) n)),

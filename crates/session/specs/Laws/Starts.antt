@@ -9,7 +9,7 @@ use lib.Dec.{ltb}
 use lib.ListN.{length, drop, length-drop}
 use lib.Seq.{length-take-le}
 use Rattle.basis.specs.Laws.Choice.{decide, true-false}
-use Rattle.basis.specs.Units.{pageOf, startOf, mapOf}
+use Rattle.basis.specs.Units.{pageOf, startOf, mapBytes}
 use Rattle.runs.specs.Laws.Files.{bytes-past, pages-past, file-piece}
 use Rattle.runs.specs.Laws.Pages.{named-touched}
 use Rattle.runs.specs.Laws.Pieces.{starts-below, piece-some}
@@ -29,7 +29,7 @@ runs-most board m = count-le (runStarts board m) board
 pub some-page : (board : ℕ) (m : List ℕ) → 0 < namedCount board m → 0 < board
 some-page board m some = omega (arith, count-le (named m) (startOf board))
 
-module _ (board : ℕ) (m : List ℕ) (long : length m ≡ mapOf board) where
+module _ (board : ℕ) (m : List ℕ) (long : length m ≡ mapBytes board) where
   -- runs and pieces start on the board
   pub run-below : (q : ℕ) → runStarts board m q ≡ true → q < board
   run-below = starts-below (touched m) board board (pages-past board m long)

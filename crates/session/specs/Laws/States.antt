@@ -12,15 +12,15 @@ use lib.ListN.{length, getD}
 use Rattle.basis.specs.Choice.{pick}
 use Rattle.basis.specs.Laws.Choice.{decide, true-false}
 use Rattle.basis.specs.Refusals.{given}
-use Rattle.basis.specs.Units.{startOf, mapOf}
+use Rattle.basis.specs.Units.{startOf, mapBytes}
 use Rattle.runs.specs.Pieces.{runCount, namedCount}
 use Rattle.session.specs.Laws.Fits.{Fitting, fitting, fits-by}
 use Rattle.session.specs.Laws.Phases.{greeted, stands-below, stands-at, at-stands, greeting-stands, erase-stands, write-stands, verify-stands}
 use Rattle.session.specs.Laws.Plan.{plan-at}
 use Rattle.session.specs.Laws.Steps.{step-taken}
-use Rattle.session.specs.Phases.{ended, packetOut, eraseAt, writeAt, verifyAt, phaseAt, nextRun, nextPiece, afterOf, standsIn}
-use Rattle.session.specs.Plan.{plan, total, beforeRun, beforeVerify}
-use Rattle.session.specs.Session.{sessionIn, atGreeting, stateAt, valid, Sent, rightSizes, judgeLaterOf, judgeOf, tookOf, sentOf, fitsOf, stepOf, Reached}
+use Rattle.session.specs.Phases.{ended, packetOut, eraseAt, writeAt, verifyAt, phaseAt, nextRun, nextPiece, afterOf, standsAt}
+use Rattle.session.specs.Plan.{plan, total, beforeR, beforeVerify}
+use Rattle.session.specs.Session.{sessionWith, atGreeting, stateAt, valid, Sent, rightSizes, judgeLaterOf, judgeOf, tookOf, sentOf, fitsOf, stepOf, Reached}
 use Rattle.session.specs.declared.event.Event.{Event}
 use Rattle.session.specs.declared.phase.Outcome.{Outcome}
 use Rattle.session.specs.declared.phase.Phase.{Phase}
@@ -30,16 +30,16 @@ use Rattle.session.specs.declared.session.Session.{Session}
 -- ---- which counts go with the phases that have no cursor
 
 module _ (board : ℕ) (m : List ℕ) (k : ℕ) where
-  stands-greeting : standsIn board m Phase.Greeting k ≡ true → k ≡ 0
-  unfolding standsIn
+  stands-greeting : standsAt board m Phase.Greeting k ≡ true → k ≡ 0
+  unfolding standsAt
   stands-greeting h = eqb-true k 0 h
 
-  pub stands-run : standsIn board m Phase.Run k ≡ true → beforeRun board m ≡ k
-  unfolding standsIn
-  stands-run h = eqb-true _ _ h
+  pub stands-r : standsAt board m Phase.Run k ≡ true → beforeR board m ≡ k
+  unfolding standsAt
+  stands-r h = eqb-true _ _ h
 
-  stands-ended : (o : Outcome) → standsIn board m (Phase.Ended o) k ≡ true → ⊥
-  unfolding standsIn
+  stands-ended : (o : Outcome) → standsAt board m (Phase.Ended o) k ≡ true → ⊥
+  unfolding standsAt
   stands-ended o h = true-false (sym h)
 
 -- ---- the phase after k acknowledgements
@@ -49,7 +49,7 @@ phase-cases : (board : ℕ) (P : Phase → Type 0) → ((q : ℕ) → P (eraseAt
     → ((a : ℕ) → P (verifyAt a)) → P Phase.Run → (m : List ℕ) (k : ℕ) → P (phaseAt board m k)
 unfolding phaseAt
 phase-cases board P e w v r m k =
-    go (ltb k (runCount board m)) (ltb k (beforeVerify board m)) (ltb k (beforeRun board m)) _ _ _
+    go (ltb k (runCount board m)) (ltb k (beforeVerify board m)) (ltb k (beforeR board m)) _ _ _
   where
     go : (a b c : Bool) (x y z : ℕ)
         → P (pick a (eraseAt x) (pick b (writeAt y) (pick c (verifyAt z) Phase.Run)))
@@ -73,9 +73,9 @@ module _ (board : ℕ) (m : List ℕ) (k : ℕ) where
       (λ a. refl) refl m k
 
   -- R is out exactly after all else is acknowledged
-  run-after : beforeRun board m ≤ k → phaseAt board m k ≡ Phase.Run
+  r-after : beforeR board m ≤ k → phaseAt board m k ≡ Phase.Run
   unfolding phaseAt
-  run-after b =
+  r-after b =
       let d : runCount board m ≤ k = omega arith in
       let f : beforeVerify board m ≤ k = omega arith in
       rw (le-ltb _ _ d, le-ltb _ _ f, le-ltb _ _ b)
@@ -93,8 +93,8 @@ after-greeted board m (Phase.Verify a) =
 after-greeted board m Phase.Run = refl
 after-greeted board m (Phase.Ended o) = refl
 
-module _ (board : ℕ) (m : List ℕ) (long : length m ≡ mapOf board) (some : 0 < namedCount board m) where
-  phase-next : (ph : Phase) (k : ℕ) → k + 1 < total board m → greeted ph ≡ true → standsIn board m ph k ≡ true
+module _ (board : ℕ) (m : List ℕ) (long : length m ≡ mapBytes board) (some : 0 < namedCount board m) where
+  phase-next : (ph : Phase) (k : ℕ) → k + 1 < total board m → greeted ph ≡ true → standsAt board m ph k ≡ true
       → afterOf board m ph ≡ phaseAt board m (k + 1)
   phase-next Phase.Greeting k l g h = absurd (true-false (sym g))
   phase-next (Phase.Erase p) k l g h =
@@ -106,7 +106,7 @@ module _ (board : ℕ) (m : List ℕ) (long : length m ≡ mapOf board) (some : 
   phase-next (Phase.Verify a) k l g h =
       stands-at board m long _ (k + 1) (after-greeted board m (Phase.Verify a))
       (verify-stands board m long some (a .0) k h)
-  phase-next Phase.Run k l g h = absurd (omega (arith, stands-run board m k h))
+  phase-next Phase.Run k l g h = absurd (omega (arith, stands-r board m k h))
   phase-next (Phase.Ended o) k l g h = absurd (stands-ended board m k o h)
 
   module _ (kind : RunKind) where
@@ -114,7 +114,7 @@ module _ (board : ℕ) (m : List ℕ) (long : length m ≡ mapOf board) (some : 
     pub greeting-state : tookOf board m (atGreeting board m kind) Event.Greeting ≡ stateAt board m kind 0
     unfolding tookOf
     greeting-state =
-        ap (λ (ph : Phase). sessionIn board m kind ph 0)
+        ap (λ (ph : Phase). sessionWith board m kind ph 0)
         (stands-at board m long _ 0 (after-greeted board m Phase.Greeting)
         (greeting-stands board m long some))
 
@@ -124,7 +124,7 @@ module _ (board : ℕ) (m : List ℕ) (long : length m ≡ mapOf board) (some : 
     unfolding tookOf
     ack-next k l =
         rw (phase-later board m k Event.Ack)
-        (ap (λ (ph : Phase). sessionIn board m kind ph (k + 1))
+        (ap (λ (ph : Phase). sessionWith board m kind ph (k + 1))
         (phase-next (phaseAt board m k) k l (phase-greeted board m k) (at-stands board m k (omega arith))))
 
     -- ACK to R ends valid
@@ -132,13 +132,13 @@ module _ (board : ℕ) (m : List ℕ) (long : length m ≡ mapOf board) (some : 
         → tookOf board m (stateAt board m kind k) Event.Ack ≡ valid board m kind
     unfolding tookOf afterOf
     ack-last k l =
-        rw (phase-later board m k Event.Ack, run-after board m k (omega arith))
-        (ap (sessionIn board m kind (Phase.Ended Outcome.Valid)) l)
+        rw (phase-later board m k Event.Ack, r-after board m k (omega arith))
+        (ap (sessionWith board m kind (Phase.Ended Outcome.Valid)) l)
 
     -- ---- 46 is exact: these states fit the file
 
     pub waiting-fits : fitsOf board m (atGreeting board m kind) ≡ true
-    unfolding standsIn
+    unfolding standsAt
     waiting-fits =
         fits-by board m (atGreeting board m kind)
         (record { some = some; named-is = refl; total-is = refl; stands = refl })
@@ -149,14 +149,14 @@ module _ (board : ℕ) (m : List ℕ) (long : length m ≡ mapOf board) (some : 
         (record { some = some; named-is = refl; total-is = refl; stands = at-stands board m k l })
 
 -- and no other
-pub fits-reached : (board : ℕ) (m : List ℕ) → length m ≡ mapOf board → (s : Session) → fitsOf board m s ≡ true
+pub fits-reached : (board : ℕ) (m : List ℕ) → length m ≡ mapBytes board → (s : Session) → fitsOf board m s ≡ true
     → (0 < namedCount board m) × Reached board m s
 fits-reached board m long s h = (f .some, go (s .phase) refl)
   where
     f : Fitting board m s
     f = fitting board m s h
 
-    counts : (ph : Phase) (k : ℕ) → s .phase ≡ ph → s .acknowledged ≡ k → s ≡ sessionIn board m (s .kind) ph k
+    counts : (ph : Phase) (k : ℕ) → s .phase ≡ ph → s .acknowledged ≡ k → s ≡ sessionWith board m (s .kind) ph k
     counts ph k p q =
         λ i. record {
           kind = s .kind;
@@ -178,7 +178,7 @@ fits-reached board m long s h = (f .some, go (s .phase) refl)
     go Phase.Greeting e =
         inl (counts Phase.Greeting 0 e
         (stands-greeting board m (s .acknowledged)
-        (sym (ap (λ (x : Phase). standsIn board m x (s .acknowledged)) e) ∙ f .stands)))
+        (sym (ap (λ (x : Phase). standsAt board m x (s .acknowledged)) e) ∙ f .stands)))
     go (Phase.Erase p) e = on (ap greeted e)
     go (Phase.Write a) e = on (ap greeted e)
     go (Phase.Verify a) e = on (ap greeted e)
@@ -188,7 +188,7 @@ fits-reached board m long s h = (f .some, go (s .phase) refl)
 -- ---- a step from a state
 
 module _ (board : ℕ) (image m : List ℕ) (room : ℕ) (kind : RunKind)
-    (right : rightSizes board (length image) (length m) room ≡ true) (long : length m ≡ mapOf board)
+    (right : rightSizes board (length image) (length m) room ≡ true) (long : length m ≡ mapBytes board)
     (some : 0 < namedCount board m) where
   -- no event is refused
   pub step-state : (k : ℕ) (e : Event) → k < total board m

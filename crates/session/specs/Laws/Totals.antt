@@ -6,7 +6,7 @@ use mathlib.Core.Path.{_≡_, sym, _∙_}
 use native.Mathlib.Omega.{arith}
 use lib.ListN.{length}
 use Rattle.basis.specs.Laws.Choice.{decide, true-false}
-use Rattle.basis.specs.Units.{startOf, mapOf}
+use Rattle.basis.specs.Units.{startOf, mapBytes}
 use Rattle.runs.specs.Laws.Files.{bytes-past, pages-past}
 use Rattle.runs.specs.Laws.Pieces.{starts-inside, starts-off, off-more, first-starts}
 use Rattle.runs.specs.Laws.Runs.{count-zero, count-yes, count-no, count-le, rank-below}
@@ -51,7 +51,7 @@ pub named-fits : (board : ℕ) (m : List ℕ) → namedCount board m ≤ startOf
 named-fits board m = count-le (named m) (startOf board)
 
 -- a file with a named byte has a run and a piece, so four packets at least
-pub total-least : (board : ℕ) (m : List ℕ) → length m ≡ mapOf board → 0 < namedCount board m
+pub total-least : (board : ℕ) (m : List ℕ) → length m ≡ mapBytes board → 0 < namedCount board m
     → 4 ≤ total board m
 total-least board m long some =
     let a = first-piece-below board m long some in

@@ -6,7 +6,7 @@ use native.Mathlib.Omega.{arith}
 use lib.Dec.{leb}
 use borrow.Author.Tests.{le-leb, lt-leb}
 use Rattle.basis.specs.Choice.{both}
-use Rattle.basis.specs.Laws.Choice.{both-none}
+use Rattle.basis.specs.Laws.Choice.{both-no}
 use Rattle.image.specs.Digits.{digitOf}
 use borrow.Author.Needs.{needs}
 use Rattle.image.proofs.digits.digit.Statement.{statement}
@@ -21,7 +21,7 @@ module _ (low high c : ℕ) where
   below h = simp (lt-leb _ _ h)
 
   above : high < c → both (leb low c) (leb c high) ≡ false
-  above h = ap (both (leb low c)) (lt-leb _ _ h) ∙ both-none (leb low c)
+  above h = ap (both (leb low c)) (lt-leb _ _ h) ∙ both-no (leb low c)
 
 sub-result : tie.Need-sub-result
 sub-result c = search needs

@@ -9,7 +9,7 @@ use borrow.Author.Tests.{not-true, not-false, lt-ltb, le-ltb, le-leb, lt-leb}
 use Rattle.basis.specs.Refusals.{refused, given, first}
 use Rattle.image.specs.Hex.{rightSizesIn}
 use Rattle.image.specs.Laws.Hex.{sizes-right}
-use Rattle.image.specs.Writer.{text, step, recordLength, recordFrom, lowest, stepFrom, recordRoom, writeIn}
+use Rattle.image.specs.Writer.{text, step, recordPart, recordFrom, lowest, stepFrom, recordRoom, writeIn}
 use Rattle.runs.specs.Map.{named}
 use Rattle.runs.specs.Laws.Runs.{len-le}
 use borrow.Author.Needs.{needs}
@@ -44,7 +44,7 @@ module _ (size : ℕ) (image map : List ℕ) (a n : ℕ) (e : rightSizesIn size 
     unfolding stepFrom
     write-end h = write-step ∙ simp (le-ltb _ _ low, le-leb _ _ (rw ek at h))
 
-    write-run : (c m : ℕ) → k < size → c ≡ recordLength map k → m ≡ c
+    write-run : (c m : ℕ) → k < size → c ≡ recordPart map k → m ≡ c
         → writeIn size image map a n ≡ given (step (text k 0 (take m (drop k image))) (k + c))
     unfolding stepFrom
     write-run c m h ec em =

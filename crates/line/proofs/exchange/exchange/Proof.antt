@@ -6,7 +6,7 @@ use borrow.Author.Needs.{needs}
 use lib.ListN.{length, take}
 use lib.Seq.{length-take-le}
 use Rattle.line.proofs.Delivering.{arrived-fits, goes, keeps}
-use Rattle.line.specs.Line.{Moment, momentIn}
+use Rattle.line.specs.Line.{Moment, momentOn}
 use Rattle.session.specs.Paper.{paperStepped}
 use Rattle.line.proofs.exchange.exchange.Statement.{statement}
 use Rattle.line.proofs.exchange.exchange.Tie as tie
@@ -19,7 +19,7 @@ abbrev delivered : tie.After-step → tie.After-deliver
 delivered c = c .before .before .before .before .before .before .before .before
 
 abbrev moment : tie.Start → Moment
-moment c = momentIn (c .args .link) (c .args .flash .now) (c .args .packet .now)
+moment c = momentOn (c .args .link) (c .args .flash .now) (c .args .packet .now)
 
 -- the packet that is out lies within its buffer
 fits : (c : tie.Start) → c .args .link .len ≤ length (c .args .packet .now)

@@ -8,7 +8,7 @@ use borrow.Author.Tests.{not-true, not-false}
 use lib.ListN.{length}
 use Rattle.basis.specs.Board.{pages}
 use Rattle.line.proofs.Driving.{len-fits, exchanged, not-past, done, again}
-use Rattle.line.specs.Line.{Moment, Lent, lossAt, momentAt, momentIn}
+use Rattle.line.specs.Line.{Moment, Lent, lossAt, momentAt, momentOn}
 use Rattle.session.specs.Laws.Totals.{total-most}
 use Rattle.session.specs.Phases.{ended}
 use Rattle.session.specs.Plan.{total}
@@ -19,8 +19,8 @@ use Rattle.packet.specs.Packet.{packetMost}
 abbrev Inv-loop : tie.InvT-loop
 Inv-loop losses image map flash₀ packet₀ answer₀ link₀ i₀ flash packet answer link i =
     (Lent pages image map flash packet answer) × (link .len ≤ packetMost) × (i ≤ total pages map + 1)
-    × (momentIn link flash packet ≡ momentAt pages image map (lossAt losses)
-    (momentIn link₀ flash₀ packet₀) i)
+    × (momentOn link flash packet ≡ momentAt pages image map (lossAt losses)
+    (momentOn link₀ flash₀ packet₀) i)
 
 abbrev μ-loop : tie.MeasureT-loop
 μ-loop losses image map flash₀ packet₀ answer₀ link₀ i₀ flash packet answer link i = total pages map + 2 - i

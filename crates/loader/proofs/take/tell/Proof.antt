@@ -5,7 +5,7 @@ use mathlib.Core.List.{[], _∷_}
 use mathlib.Core.Path.{_≡_, refl, ap, sym, _∙_}
 use native.Mathlib.Omega.{arith}
 use borrow.Author.Needs.{needs}
-use Rattle.basis.specs.Board.{greeting}
+use Rattle.basis.specs.Board.{greeting, ackByte, belByte}
 use Rattle.basis.specs.Laws.Lists.{overlay-next}
 use Rattle.basis.specs.Refusals.{Answer, refused, given}
 use Rattle.loader.specs.Paper.{paperVerdict}
@@ -16,14 +16,14 @@ use Rattle.loader.proofs.take.tell.Tie as tie
 told-greeting : (w : Bool) (v : Answer (Unit {0})) → w ≡ true → v ≡ given tt → tellOf w v ≡ greeting
 told-greeting w v e g = rw (g, e)
 
-told-ack : (w : Bool) (v : Answer (Unit {0})) → w ≡ false → v ≡ given tt → tellOf w v ≡ 0x06 ∷ []
+told-ack : (w : Bool) (v : Answer (Unit {0})) → w ≡ false → v ≡ given tt → tellOf w v ≡ ackByte ∷ []
 told-ack w v e g = rw (g, e)
 
 told-nothing : (w : Bool) (v : Answer (Unit {0})) (n : ℕ) → quiet n ≡ true → v ≡ refused n → tellOf w v ≡ []
 told-nothing w v n e g = rw (g, e)
 
 told-bel : (w : Bool) (v : Answer (Unit {0})) (n : ℕ) → quiet n ≡ false → v ≡ refused n
-    → tellOf w v ≡ 0x07 ∷ []
+    → tellOf w v ≡ belByte ∷ []
 told-bel w v n e g = rw (g, e)
 
 enum-told : tie.Need-enum-told

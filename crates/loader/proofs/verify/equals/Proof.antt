@@ -1,4 +1,4 @@
--- `same` meets its contract: the bytes passed so far are equal.
+-- `equals` meets its contract: the bytes passed so far are equal.
 use Prim.Native.Nat.{_+_, _≤_, _-_}
 use mathlib.Core.Path.{_≡_, sym, _∙_}
 use native.Mathlib.Nat.{add-zero}

@@ -9,7 +9,7 @@ use Rattle.basis.specs.Choice.{pick}
 use Rattle.basis.specs.Laws.Choice.{both-second, both-false}
 use Rattle.basis.specs.Laws.Refusals.{stop}
 use Rattle.basis.specs.Refusals.{refused, given, first}
-use Rattle.packet.specs.Table.{listed, protectType, inShape, table}
+use Rattle.packet.specs.Table.{eraseByte, writeByte, verifyByte, protectByte, runByte, listed, protectType, inShape, table}
 use Rattle.packet.proofs.table.look_up.Statement.{statement}
 use Rattle.packet.proofs.table.look_up.Tie as tie
 
@@ -20,7 +20,8 @@ unfolding first
 in-row c n t v true e l s = simp (e, l, s)
 in-row c n t v false e l s = simp (e, l, s)
 
-unlisted : (c : ℕ) → (c ≡ 0x45 → ⊥) → (c ≡ 0x57 → ⊥) → (c ≡ 0x56 → ⊥) → (c ≡ 0x50 → ⊥) → (c ≡ 0x52 → ⊥)
+unlisted : (c : ℕ) → (c ≡ eraseByte → ⊥) → (c ≡ writeByte → ⊥) → (c ≡ verifyByte → ⊥) → (c ≡ protectByte → ⊥)
+    → (c ≡ runByte → ⊥)
     → listed c ≡ false
 unlisted c e w v p r = simp (ne-eqb _ _ e, ne-eqb _ _ w, ne-eqb _ _ v, ne-eqb _ _ p, ne-eqb _ _ r)
 
@@ -42,7 +43,7 @@ shaped-requires-3 c κs = search needs
 returns : tie.Need-returns
 returns c =
     let a = c .before .before .args in
-    sym (in-row (a .command) (a .n) (a .kind) 0x50 false (c .before .match .keys4) refl
+    sym (in-row (a .command) (a .n) (a .kind) protectByte false (c .before .match .keys4) refl
     (both-false (eqb (a .n) 6) (protectType (a .kind)) (ne-eqb _ _ (c .if1 .taken))))
 
 protect-type-requires : tie.Need-protect-type-requires
@@ -57,27 +58,28 @@ shaped-requires-5 c κs = search needs
 returns-2 : tie.Need-returns-2
 returns-2 c =
     let a = c .before .before .args in
-    c .shaped .ensures ∙ sym (in-row (a .command) (a .n) (a .kind) 0x45 _ (c .before .match .keys1) refl refl)
+    c .shaped .ensures
+    ∙ sym (in-row (a .command) (a .n) (a .kind) eraseByte _ (c .before .match .keys1) refl refl)
 
 returns-3 : tie.Need-returns-3
 returns-3 c =
     let a = c .before .before .before .args in
     c .shaped2 .ensures
-    ∙ sym (in-row (a .command) (a .n) (a .kind) 0x57 _ (c .before .before .match .keys2) refl
+    ∙ sym (in-row (a .command) (a .n) (a .kind) writeByte _ (c .before .before .match .keys2) refl
     (sym (c .before .data-count .ensures)))
 
 returns-4 : tie.Need-returns-4
 returns-4 c =
     let a = c .before .before .before .args in
     c .shaped3 .ensures
-    ∙ sym (in-row (a .command) (a .n) (a .kind) 0x56 _ (c .before .before .match .keys3) refl
+    ∙ sym (in-row (a .command) (a .n) (a .kind) verifyByte _ (c .before .before .match .keys3) refl
     (sym (c .before .data-count2 .ensures)))
 
 returns-5 : tie.Need-returns-5
 returns-5 c =
     let a = c .before .before .before .before .args in
     c .shaped4 .ensures
-    ∙ sym (in-row (a .command) (a .n) (a .kind) 0x50 _ (c .before .before .before .match .keys4) refl
+    ∙ sym (in-row (a .command) (a .n) (a .kind) protectByte _ (c .before .before .before .match .keys4) refl
     (both-second (eqb (a .n) 6) (protectType (a .kind)) (eq-eqb _ _ (c .before .before .if1 .left))
     ∙ sym (c .before .protect-type .ensures)))
 
@@ -85,7 +87,7 @@ returns-6 : tie.Need-returns-6
 returns-6 c =
     let a = c .before .before .args in
     c .shaped5 .ensures
-    ∙ sym (in-row (a .command) (a .n) (a .kind) 0x52 _ (c .before .match .keys5) refl refl)
+    ∙ sym (in-row (a .command) (a .n) (a .kind) runByte _ (c .before .match .keys5) refl refl)
 
 returns-7 : tie.Need-returns-7
 returns-7 c =

@@ -15,8 +15,8 @@ returns : tie.Need-returns
 returns c =
     leaves _ (write-unfinished pages _ _ (sym (c .before .ended .ensures) ∙ not-true _ (c .if1 .taken)))
 
-outcome-in-requires : tie.Need-outcome-in-requires
-outcome-in-requires c κs = search needs
+logged-outcome-requires : tie.Need-logged-outcome-requires
+logged-outcome-requires c κs = search needs
 
 fit-two-requires : tie.Need-fit-two-requires
 fit-two-requires c κs = search needs
@@ -37,7 +37,7 @@ returns-3 c =
     (sym (c .before .before .before .before .before .before .ended .ensures)
     ∙ not-false _ (c .before .before .before .before .before .if1 .left))
     (sym (c .before .before .before .fit-two .ensures) ∙ not-false _ (c .before .before .if2 .left)) _
-    (c .before .before .before .before .outcome-in .ensures)
+    (c .before .before .before .before .logged-outcome .ensures)
     (sym (c .before .is-false .ensures) ∙ c .if3 .taken))
 
 returns-4 : tie.Need-returns-4
@@ -47,7 +47,7 @@ returns-4 c =
     ∙ not-false _ (c .before .before .before .before .before .before .if1 .left))
     (sym (c .before .before .before .before .fit-two .ensures)
     ∙ not-false _ (c .before .before .before .if2 .left)) _
-    (c .before .before .before .before .before .outcome-in .ensures)
+    (c .before .before .before .before .before .logged-outcome .ensures)
     (sym (c .before .before .is-false .ensures) ∙ c .before .if3 .left) (c .if4 .taken))
 
 cast-t18 : tie.Need-cast-t18
@@ -91,7 +91,7 @@ returns-5 c =
     (c .before .before .before .before .before .before .before .before .before .before .before .if1 .left))
     (sym (c .before .before .before .before .before .before .before .before .before .fit-two .ensures)
     ∙ not-false _ (c .before .before .before .before .before .before .before .before .if2 .left)) _
-    (c .before .before .before .before .before .before .before .before .before .before .outcome-in .ensures)
+    (c .before .before .before .before .before .before .before .before .before .before .logged-outcome .ensures)
     (sym (c .before .before .before .before .before .before .before .is-false .ensures)
     ∙ c .before .before .before .before .before .before .if3 .left)
     (c .before .before .before .before .before .if4 .left)) refl (c .before .before .write .ensures)
@@ -102,7 +102,7 @@ write-spec =
     (tie.spec
     ended-requires
     returns
-    outcome-in-requires
+    logged-outcome-requires
     fit-two-requires
     returns-2
     is-false-requires

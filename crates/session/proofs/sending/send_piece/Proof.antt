@@ -9,7 +9,7 @@ use lib.ListN.{length, getD}
 use lib.Dec.{eqb, leb}
 use Rattle.basis.specs.Board.{pages}
 use Rattle.basis.specs.Laws.Choice.{decide, both-second}
-use Rattle.packet.specs.Table.{listed, inShape, dataCount}
+use Rattle.packet.specs.Table.{writeByte, verifyByte, listed, inShape, dataCount}
 use Rattle.runs.specs.Laws.Files.{file-piece}
 use Rattle.runs.specs.Pieces.{pieceLen}
 use Rattle.session.specs.Laws.Starts.{piece-below, piece-carried}
@@ -20,16 +20,16 @@ use Rattle.session.proofs.sending.send_piece.Tie as tie
 -- W and V with 1 to 250 bytes stand in the table
 carries-listed : (c : ℕ) → carriesPiece c ≡ true → listed c ≡ true
 carries-listed c e =
-    decide (eqb c 0x57)
-    (λ d. rw (eqb-true c 0x57 d))
-    (λ d. rw (eqb-true c 0x56 (rw d at e)))
+    decide (eqb c writeByte)
+    (λ d. rw (eqb-true c writeByte d))
+    (λ d. rw (eqb-true c verifyByte (rw d at e)))
 
 carries-shape : (c n t : ℕ) → carriesPiece c ≡ true → 6 ≤ n → n ≤ 255 → inShape c n t ≡ true
 carries-shape c n t e l h =
     let f : dataCount n ≡ true = both-second (leb 6 n) (leb n 255) (le-leb 6 n l) ∙ le-leb n 255 h in
-    decide (eqb c 0x57)
-    (λ d. rw (eqb-true c 0x57 d) f)
-    (λ d. rw (eqb-true c 0x56 (rw d at e)) f)
+    decide (eqb c writeByte)
+    (λ d. rw (eqb-true c writeByte d) f)
+    (λ d. rw (eqb-true c verifyByte (rw d at e)) f)
 
 cast-from : tie.Need-cast-from
 cast-from c = search needs

@@ -1,4 +1,4 @@
--- `heard` meets its contract, verdict by verdict.
+-- `heard` meets its contract, meaning by meaning.
 use mathlib.Core.Path.{sym, ap, _∙_}
 use borrow.Author.Needs.{needs}
 use Rattle.basis.specs.Board.{pages}
