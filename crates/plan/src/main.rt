@@ -107,14 +107,14 @@ fn print(image: &[u8], map: &[u8], buffer: &mut [u8]) -> bool
     requires { ⌜ longestLine ≤ length (now buffer) ⌝ }
 {
     // a file that closed names a byte, so its listing is never refused
-    let Begun::Listing(first) = Listing::start(image, map) else {
+    let Begun::Listing(begun) = Listing::start(image, map) else {
         return false;
     };
     let head = head_line(buffer);
     if !put(buffer, head) {
         return false;
     }
-    let mut listing = first;
+    let mut listing = begun;
     while listing.listed < listing.total {
         let sheet = listing.sheet(image, map, buffer);
         listing = sheet.listing;

@@ -21,8 +21,8 @@ abbrev μ-loop : tie.MeasureT-loop
 start-requires : tie.Need-start-requires Inv-loop μ-loop
 start-requires c κs = search needs
 
-enum-known-first : tie.Need-enum-known-first Inv-loop μ-loop
-enum-known-first c = search needs
+enum-known-begun : tie.Need-enum-known-begun Inv-loop μ-loop
+enum-known-begun c = search needs
 
 enum-told : tie.Need-enum-told Inv-loop μ-loop
 enum-told c = search needs
@@ -47,7 +47,7 @@ loop-holds c = (
   refl,
   begun-listed pages _ _ _ _
       (sym (ap paperBegun
-      (c .before .before .before .before .before .before .before .before .first .given .1))
+      (c .before .before .before .before .before .before .before .before .begun .given .1))
       ∙ c .before .before .before .before .before .before .before .before .before .before .start .ensures),
 )
 
@@ -106,7 +106,7 @@ print-spec =
     Inv-loop
     μ-loop
     start-requires
-    enum-known-first
+    enum-known-begun
     enum-told
     returns
     head-line-requires
