@@ -4,3 +4,4 @@ pub mod Computed
 pub mod Lists
 pub mod Sums
 pub mod Bits
+pub mod Units

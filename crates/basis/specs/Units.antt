@@ -1,6 +1,9 @@
--- The units: addresses, pages and groups. Every conversion rounds down.
+-- The units: addresses, pages and groups, and the sizes of a board. Every conversion rounds down.
 use Prim.Native.Nat.{ℕ, _*_, _/_}
+use mathlib.Core.Bool.{Bool}
+use lib.Dec.{eqb}
 use Rattle.basis.specs.Board.{pageSize, groupPages, groupSize}
+use Rattle.basis.specs.Choice.{both}
 
 -- the page of an address
 abbrev pub pageOf : ℕ → ℕ
@@ -22,3 +25,7 @@ startOf p = p * pageSize
 -- and its map has one bit for each byte
 abbrev pub mapBytes : ℕ → ℕ
 mapBytes board = startOf board / 8
+
+-- an image as long as the board, and a map of one bit an address
+abbrev pub rightSizesIn : ℕ → ℕ → ℕ → Bool
+rightSizesIn size image map = both (eqb image size) (eqb map (size / 8))

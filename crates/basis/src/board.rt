@@ -1,4 +1,8 @@
 // The board: its pages and groups, a map of one bit a byte, and how it greets.
+ghost use mathlib.Core.Path.{_≡_};
+ghost use Rattle.basis.specs.Board.{flashSize};
+ghost use Rattle.basis.specs.Units.{rightSizesIn};
+
 pub const PAGE: u32 = 512;
 
 pub const GROUP_PAGES: u32 = 4;
@@ -27,3 +31,13 @@ pub const BEL: u8 = 0x07;
 pub const ANSWER: usize = 24;
 
 pub const GREETING: [u8; ANSWER] = *b"ADuC702x   -62 I31    \n\r";
+
+// An image as long as the board, and a map of one bit an address.
+pub fn right_sizes(image: usize, map: usize) -> bool
+    ensures { λ r. ⌜ r ≡ rightSizesIn flashSize image map ⌝ }
+{
+    if image != SIZE {
+        return false;
+    }
+    map == MAP
+}

@@ -6,6 +6,7 @@ use lib.Dec.{eqb, ltb}
 use lib.ListN.{length, drop, replicate}
 use Rattle.basis.specs.Choice.{pick, both, either}
 use Rattle.basis.specs.Refusals.{Answer, refused, given, Rule, _when_, first}
+use Rattle.basis.specs.Units.{rightSizesIn}
 use Rattle.image.specs.Digits.{decoded}
 use Rattle.basis.specs.Lists.{copyOf}
 use Rattle.image.specs.Record.{count, address, kind, payload, value, isData, characterRows, byteRows, shapeRows}
@@ -34,10 +35,6 @@ settledAs a image map = record { answer = a; image = image; map = map }
 abbrev pub settled : Answer File → List ℕ → List ℕ → Settled
 settled (refused n) image map = settledAs (refused n) image map
 settled (given f) image map = settledAs (given (f .reader)) (f .image) (f .map)
-
--- an image as long as the board, and a map of one bit an address
-abbrev pub rightSizesIn : ℕ → ℕ → ℕ → Bool
-rightSizesIn size image map = both (eqb image size) (eqb map (size / 8))
 
 -- both bases, whether the end record came, and whether a data byte was taken
 abbrev pub hex : ℕ → ℕ → Bool → Bool → Hex

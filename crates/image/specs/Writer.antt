@@ -4,12 +4,12 @@ use mathlib.Core.Bool.{not}
 use mathlib.Core.List.{List, [], _∷_, _++_}
 use lib.Dec.{ltb, leb}
 use lib.ListN.{length, take, drop}
+use Rattle.basis.specs.Units.{rightSizesIn}
 use Rattle.basis.specs.Choice.{pick}
 use Rattle.basis.specs.Refusals.{Answer, refused, given, _when_, first}
 use Rattle.basis.specs.Sums.{checksumOf}
 use Rattle.runs.specs.Map.{named}
 use Rattle.runs.specs.Runs.{len, next}
-use Rattle.image.specs.Hex.{rightSizesIn}
 
 -- the upper case character of a digit
 unfoldable pub letterOf : ℕ → ℕ

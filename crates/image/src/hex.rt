@@ -7,7 +7,7 @@ ghost use Rattle.basis.specs.Refusals.{given};
 ghost use Rattle.basis.specs.Board.{flashSize, mapSize};
 ghost use Rattle.image.specs.Record.{count, kind, shapeOf};
 ghost use Rattle.image.specs.Paper.{paperRead, Reads};
-ghost use Rattle.image.specs.Hex.{rightSizesIn, startIn, recordIn, applyIn, dataIn, otherOf, closeOf};
+ghost use Rattle.image.specs.Hex.{startIn, recordIn, applyIn, dataIn, otherOf, closeOf};
 use crate::record::Check;
 use crate::record::Refusal;
 use crate::record::characters;
@@ -15,8 +15,7 @@ use crate::record::framing;
 use crate::record::shape;
 use crate::record::wide;
 use basis::board::END;
-use basis::board::MAP;
-use basis::board::SIZE;
+use basis::board::right_sizes;
 use basis::buffers::copy;
 use basis::buffers::pair_at;
 use basis::units::Address;
@@ -202,15 +201,6 @@ impl Hex {
         }
         Read::Taken(self)
     }
-}
-
-pub fn right_sizes(image: usize, map: usize) -> bool
-    ensures { λ r. ⌜ r ≡ rightSizesIn flashSize image map ⌝ }
-{
-    if image != SIZE {
-        return false;
-    }
-    map == MAP
 }
 
 fn fill(bytes: &mut [u8], x: u8)

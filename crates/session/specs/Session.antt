@@ -9,7 +9,7 @@ use lib.ListN.{length}
 use Rattle.basis.specs.Board.{openingByte}
 use Rattle.basis.specs.Choice.{pick, both}
 use Rattle.basis.specs.Refusals.{Answer, refused, given, _when_, first}
-use Rattle.basis.specs.Units.{startOf, mapBytes}
+use Rattle.basis.specs.Units.{startOf, mapBytes, rightSizesIn}
 use Rattle.packet.specs.Packet.{packetMost}
 use Rattle.runs.specs.Map.{named}
 use Rattle.runs.specs.Pieces.{pieceStarts, namedCount, pieceLen}
@@ -56,8 +56,7 @@ sentBytes (given x) = x .packet
 -- an image of the board's size (63,488 bytes), a map of one bit
 -- for each (7,936), a packet buffer of at least 259
 abbrev pub rightSizes : ℕ → ℕ → ℕ → ℕ → Bool
-rightSizes board image m packet =
-    both (eqb image (startOf board)) (both (eqb m (mapBytes board)) (leb packetMost packet))
+rightSizes board image m packet = both (rightSizesIn (startOf board) image m) (leb packetMost packet)
 
 -- start: 20, 32 for an empty map, else the single byte 08 and the session that waits for the greeting
 unfoldable pub started : ℕ → List ℕ → List ℕ → ℕ → RunKind → Answer Sent

@@ -23,7 +23,6 @@ use crate::sending::send;
 use basis::board::END;
 use basis::board::MAP;
 use basis::board::OPENING;
-use basis::board::SIZE;
 use basis::units::Address;
 use packet::build::PACKET;
 use runs::map::named;
@@ -308,10 +307,7 @@ fn judge_later(event: Event) -> Meaning
 fn right_sizes(image: usize, map: usize, packet: usize) -> bool
     ensures { λ r. ⌜ r ≡ rightSizes pages image map packet ⌝ }
 {
-    if image != SIZE {
-        return false;
-    }
-    if map != MAP {
+    if !basis::board::right_sizes(image, map) {
         return false;
     }
     PACKET <= packet

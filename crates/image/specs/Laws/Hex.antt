@@ -1,5 +1,5 @@
 -- Laws of the reader: what the checks of a record tell, and how the cuts make up the one table.
-use Prim.Native.Nat.{ℕ, _+_, _*_, _/_, _%_, _<_, _≤_}
+use Prim.Native.Nat.{ℕ, _+_, _*_, _%_, _<_, _≤_}
 use mathlib.Core.Path.{_≡_, refl, ap, _∙_}
 use mathlib.Core.Bool.{Bool, true, false, not}
 use mathlib.Core.List.{List, [], _∷_}
@@ -7,6 +7,7 @@ use native.Mathlib.Omega.{arith}
 use lib.Dec.{eqb, ltb}
 use lib.ListN.{length, getD, drop}
 use borrow.Author.Tests.{eq-eqb, ne-eqb, le-ltb, eqb-true, eqb-false, ltb-false, not-false}
+use Rattle.basis.specs.Units.{rightSizesIn}
 use Rattle.basis.specs.Choice.{pick, either}
 use Rattle.basis.specs.Refusals.{given, first, andThen}
 use Rattle.basis.specs.Laws.Refusals.{passed, first-then}
@@ -15,9 +16,9 @@ use Rattle.basis.specs.Sums.{plainSum, sumOf}
 use Rattle.image.specs.Digits.{digitOf, allDigits, decoded}
 use Rattle.image.specs.Writer.{letterOf, spelt, line}
 use Rattle.image.specs.Laws.Writer.{length-spelt, spelt-digits, spelt-bytes}
-use Rattle.basis.specs.Laws.Choice.{pick-second, both-true, both-no, either-none}
+use Rattle.basis.specs.Laws.Choice.{pick-second, both-no, either-none}
 use Rattle.image.specs.Record.{count, kind, address, recordLeast, recordMost, noColon, lengthWrong, countWrong, isData, kindWrong, shapeWrong, characterRows, byteRows, shapeRows, charactersOf, framingOf, shapeOf}
-use Rattle.image.specs.Hex.{hex, file, place, placeRows, namedBefore, placed, otherOf, rightSizesIn, recordIn, applyIn, dataIn}
+use Rattle.image.specs.Hex.{hex, file, place, placeRows, namedBefore, placed, otherOf, recordIn, applyIn, dataIn}
 use Rattle.image.specs.declared.hex.Hex.{Hex}
 
 -- types 02 to 05 have BB 2
@@ -53,14 +54,6 @@ characters-length line e =
   where
     one : (x : ℕ) → (x ≡ 0 → ⊥) → x < 2 → x ≡ 1
     one x z l = omega arith
-
--- what right sizes are
-pub sizes-right : (size i m : ℕ) → rightSizesIn size i m ≡ true → (i ≡ size) × (m ≡ size / 8)
-sizes-right size i m e =
-    let a = both-true (eqb i size) (eqb m (size / 8)) e in (eqb-true _ _ (a .0), eqb-true _ _ (a .1))
-
-pub right-sizes : (size i m : ℕ) → i ≡ size → m ≡ size / 8 → rightSizesIn size i m ≡ true
-right-sizes size i m p q = simp (eq-eqb _ _ p, eq-eqb _ _ q)
 
 module _ (size : ℕ) (h : Hex) (image map : List ℕ) where
   -- the table after 20 and 21: the characters, then the bytes

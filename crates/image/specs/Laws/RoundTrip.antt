@@ -8,6 +8,7 @@ use lib.Dec.{ltb, leb, lit<}
 use lib.ListN.{length, getD, take, drop, length-append, length-drop, length-replicate}
 use lib.Seq.{take-at, length-take-le, getD-take, getD-drop}
 use borrow.Author.Tests.{lt-ltb, le-ltb, ltb-true, ltb-false, leb-true, leb-false, le-leb, lt-leb}
+use Rattle.basis.specs.Laws.Units.{right-sizes}
 use Rattle.basis.specs.Lists.{Bytes, copyOf, new}
 use Rattle.basis.specs.Refusals.{given, first}
 use Rattle.basis.specs.Sums.{checksumOf}
@@ -21,7 +22,7 @@ use Rattle.image.specs.Hex.{File, hex, file, started, fed, place, placed
 use Rattle.image.specs.declared.hex.Hex.{Hex}
 use Rattle.image.specs.Writer.{content, line, text, step, recordPart, recordFrom, lowest, stepFrom}
 use Rattle.image.specs.RoundTrip.{unended, lines, addressAfter, readLines, Returned}
-use Rattle.image.specs.Laws.Hex.{right-sizes, data-taken, end-taken}
+use Rattle.image.specs.Laws.Hex.{data-taken, end-taken}
 
 -- ---- one record
 

@@ -10,9 +10,10 @@ use borrow.Author.Tests.{eq-eqb, ne-eqb, lt-ltb, le-ltb, eqb-true, eqb-false, lt
 use lib.Dec.{eqb, ltb}
 use lib.ListN.{length, getD, set, take, length-append, length-take, length-set}
 use lib.Seq.{length-take-le, take-all, take-nil, take-append-le, take-suc-set, set-out, getD-take}
+use Rattle.basis.specs.Units.{rightSizesIn}
 use Rattle.basis.specs.Laws.Choice.{decide}
 use Rattle.basis.specs.Refusals.{Answer, refused, given, _when_, first}
-use Rattle.image.specs.Hex.{File, file, settled, rightSizesIn, startIn, recordIn, closeOf}
+use Rattle.image.specs.Hex.{File, file, settled, startIn, recordIn, closeOf}
 use Rattle.image.specs.Record.{recordMost}
 use Rattle.image.specs.declared.hex.Hex.{Hex}
 use Rattle.listing.specs.Text.{Blame, stopped, going, atLine, Result, result, lineRoom, trimmedOf, linesFrom, unlessRefused, readFrom, readIn}

@@ -11,7 +11,8 @@ use Rattle.basis.specs.Board.{openingByte}
 use Rattle.basis.specs.Laws.Choice.{decide, both-true}
 use Rattle.basis.specs.Laws.Refusals.{skip, stop, done, apart, given-one}
 use Rattle.basis.specs.Refusals.{refused, given}
-use Rattle.basis.specs.Units.{startOf, mapBytes}
+use Rattle.basis.specs.Laws.Units.{sizes-right as file-right}
+use Rattle.basis.specs.Units.{startOf, mapBytes, rightSizesIn}
 use Rattle.packet.specs.Packet.{packetMost}
 use Rattle.runs.specs.Pieces.{namedCount}
 use Rattle.session.specs.Phases.{ended}
@@ -25,9 +26,9 @@ use Rattle.session.specs.declared.session.Session.{Session}
 pub sizes-right : (board : ℕ) (i m p : ℕ) → rightSizes board i m p ≡ true
     → (i ≡ startOf board) × (m ≡ mapBytes board) × (packetMost ≤ p)
 sizes-right board i m p e =
-    let a = both-true (eqb i (startOf board)) _ e in
-    let b = both-true (eqb m (mapBytes board)) (leb packetMost p) (a .1) in
-    (eqb-true i (startOf board) (a .0), eqb-true m (mapBytes board) (b .0), leb-true packetMost p (b .1))
+    let a = both-true (rightSizesIn (startOf board) i m) (leb packetMost p) e in
+    let b = file-right (startOf board) i m (a .0) in
+    (b .0, b .1, leb-true packetMost p (a .1))
 
 module _ (board : ℕ) (image m : List ℕ) (room : ℕ) (kind : RunKind) where
   pub start-size : rightSizes board (length image) (length m) room ≡ false

@@ -6,9 +6,9 @@ use mathlib.Core.List.{List, []}
 use native.Mathlib.Omega.{arith}
 use lib.ListN.{length, take, drop, length-take, length-drop}
 use borrow.Author.Tests.{not-true, not-false, lt-ltb, le-ltb, le-leb, lt-leb}
+use Rattle.basis.specs.Laws.Units.{sizes-right}
+use Rattle.basis.specs.Units.{rightSizesIn}
 use Rattle.basis.specs.Refusals.{refused, given, first}
-use Rattle.image.specs.Hex.{rightSizesIn}
-use Rattle.image.specs.Laws.Hex.{sizes-right}
 use Rattle.image.specs.Writer.{text, step, recordPart, recordFrom, lowest, stepFrom, recordRoom, writeIn}
 use Rattle.runs.specs.Map.{named}
 use Rattle.runs.specs.Laws.Runs.{len-le}

@@ -1,20 +1,19 @@
--- `right_sizes` meets its contract: the three tests, in their order.
+-- `right_sizes` meets its contract: the file's sizes, then the buffer's.
 use mathlib.Core.Path.{sym, _∙_}
-use borrow.Author.Tests.{eq-eqb, ne-eqb}
+use borrow.Author.Needs.{needs}
+use borrow.Author.Tests.{not-true, not-false}
 use Rattle.basis.specs.Laws.Choice.{both-second, both-false}
 use Rattle.session.proofs.session.right_sizes.Statement.{statement}
 use Rattle.session.proofs.session.right_sizes.Tie as tie
 
+right-sizes-requires : tie.Need-right-sizes-requires
+right-sizes-requires c κs = search needs
+
 returns : tie.Need-returns
-returns c = sym (both-false _ _ (ne-eqb _ _ (c .if1 .taken)))
+returns c = sym (both-false _ _ (sym (c .before .right-sizes .ensures) ∙ not-true _ (c .if1 .taken)))
 
 returns-2 : tie.Need-returns-2
-returns-2 c =
-    sym (both-second _ _ (eq-eqb _ _ (c .before .if1 .left)) ∙ both-false _ _ (ne-eqb _ _ (c .if2 .taken)))
-
-returns-3 : tie.Need-returns-3
-returns-3 c =
-    sym (both-second _ _ (eq-eqb _ _ (c .before .if1 .left)) ∙ both-second _ _ (eq-eqb _ _ (c .if2 .left)))
+returns-2 c = sym (both-second _ _ (sym (c .before .right-sizes .ensures) ∙ not-false _ (c .if1 .left)))
 
 pub right-sizes-spec : {M : Type 1} → statement M
-right-sizes-spec = tie.close (tie.spec returns returns-2 returns-3)
+right-sizes-spec = tie.close (tie.spec right-sizes-requires returns returns-2)

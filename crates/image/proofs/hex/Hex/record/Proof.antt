@@ -6,10 +6,11 @@ use mathlib.Core.Path.{_≡_, refl, sym, _∙_}
 use lib.ListN.{length}
 use borrow.Author.Needs.{needs}
 use borrow.Author.Tests.{not-true, not-false}
+use Rattle.basis.specs.Laws.Units.{sizes-right}
+use Rattle.basis.specs.Units.{rightSizesIn}
 use Rattle.basis.specs.Board.{flashSize}
 use Rattle.basis.specs.Refusals.{refused, first}
-use Rattle.image.specs.Hex.{settledAs, settled, rightSizesIn, recordIn}
-use Rattle.image.specs.Laws.Hex.{sizes-right}
+use Rattle.image.specs.Hex.{settledAs, settled, recordIn}
 use Rattle.image.specs.declared.hex.Hex.{Hex}
 use Rattle.image.proofs.hex.Hex.record.Statement.{statement}
 use Rattle.image.proofs.hex.Hex.record.Tie as tie

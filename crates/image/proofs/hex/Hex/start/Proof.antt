@@ -5,9 +5,10 @@ use mathlib.Core.Path.{_≡_, refl, sym, _∙_}
 use mathlib.Core.List.{List}
 use lib.ListN.{length, replicate}
 use borrow.Author.Tests.{not-true, not-false, eq-eqb}
+use Rattle.basis.specs.Laws.Units.{sizes-right}
+use Rattle.basis.specs.Units.{rightSizesIn}
 use Rattle.basis.specs.Refusals.{refused, given, first}
-use Rattle.image.specs.Hex.{settledAs, settled, rightSizesIn, fresh, startIn}
-use Rattle.image.specs.Laws.Hex.{sizes-right}
+use Rattle.image.specs.Hex.{settledAs, settled, fresh, startIn}
 use borrow.Author.Needs.{needs}
 use Rattle.basis.specs.Board.{flashSize}
 use Rattle.image.proofs.hex.Hex.start.Statement.{statement}

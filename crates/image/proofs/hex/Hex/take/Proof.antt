@@ -4,12 +4,13 @@ use mathlib.Core.Path.{_≡_, sym, ap, _∙_}
 use mathlib.Core.Bool.{false}
 use mathlib.Core.List.{List}
 use lib.ListN.{length, drop}
+use Rattle.basis.specs.Laws.Units.{right-sizes}
 use Rattle.basis.specs.Refusals.{refused, given}
 use Rattle.image.specs.Digits.{decoded}
 use Rattle.image.specs.Record.{charactersOf}
 use Rattle.image.specs.Hex.{settledAs, settled, recordIn, applyIn}
 use Rattle.image.specs.declared.hex.Hex.{Hex}
-use Rattle.image.specs.Laws.Hex.{right-sizes, record-cut, characters-length}
+use Rattle.image.specs.Laws.Hex.{record-cut, characters-length}
 use lib.Seq.{length-take-le}
 use native.Mathlib.Omega.{arith}
 use denote.Ref.{now}

@@ -1,9 +1,9 @@
 -- `right_sizes` meets its contract: the two tests, in their order.
 use mathlib.Core.Path.{sym}
 use borrow.Author.Tests.{eq-eqb, ne-eqb}
 use Rattle.basis.specs.Laws.Choice.{both-second, both-false}
-use Rattle.image.proofs.hex.right_sizes.Statement.{statement}
-use Rattle.image.proofs.hex.right_sizes.Tie as tie
+use Rattle.basis.proofs.board.right_sizes.Statement.{statement}
+use Rattle.basis.proofs.board.right_sizes.Tie as tie
 
 returns : tie.Need-returns
 returns c = sym (both-false _ _ (ne-eqb _ _ (c .if1 .taken)))
