@@ -1,7 +1,8 @@
 -- The host session. Definitions stand here in the paper's order, what is proved of them under Laws.
 pub mod Plan
 pub mod Events
-pub mod Phases
-pub mod Session
 pub mod Paper
+pub mod Phases
+pub mod Endings
+pub mod Session
 pub mod Laws

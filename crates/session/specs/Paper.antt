@@ -32,4 +32,4 @@ paperStepped (Stepped.Refused x) = refused (paperRefusal x)
 abbrev pub paperMark : Mark → Answer Bool
 paperMark Mark.Proved = given true
 paperMark Mark.Unproved = given false
-paperMark Mark.Size = refused 20
+paperMark (Mark.Refused x) = refused (paperRefusal x)

@@ -14,13 +14,14 @@ use Rattle.packet.specs.Packet.{packetMost}
 use Rattle.runs.specs.Map.{named}
 use Rattle.runs.specs.Pieces.{pieceStarts, namedCount, pieceLen}
 use Rattle.runs.specs.Runs.{count}
+use Rattle.session.specs.Endings.{awaitedOf, goesOn, acknowledges, endingOf, asked, failing, endsAt}
 use Rattle.session.specs.Phases.{ended, packetOut, phaseAt, afterOf, standsAt, verifyAt}
 use Rattle.session.specs.Plan.{total, beforeVerify}
+use Rattle.session.specs.declared.ending.Awaited.{Awaited}
 use Rattle.session.specs.declared.event.Event.{Event}
 use Rattle.session.specs.declared.phase.Outcome.{Outcome}
 use Rattle.session.specs.declared.phase.Phase.{Phase}
 use Rattle.session.specs.declared.phase.RunKind.{RunKind}
-use Rattle.session.specs.declared.session.Meaning.{Meaning}
 use Rattle.session.specs.declared.session.Next.{Next}
 use Rattle.session.specs.declared.session.Session.{Session}
 
@@ -66,31 +67,6 @@ started board image m room kind =
     ∷ 32 when eqb (namedCount board m) 0 ∷ [])
     (given (record { session = atGreeting board m kind; packet = openingByte ∷ [] }))
 
--- first the greeting, else 42; silence is 40 everywhere
-abbrev pub judgeFirstOf : Event → Meaning
-judgeFirstOf Event.Greeting = Meaning.Greeted
-judgeFirstOf Event.Ack = Meaning.Over Outcome.NoGreeting
-judgeFirstOf Event.Bel = Meaning.Over Outcome.NoGreeting
-judgeFirstOf Event.Other = Meaning.Over Outcome.NoGreeting
-judgeFirstOf Event.Silence = Meaning.Over Outcome.Silence
-
--- later the single byte 06 goes on, the single byte 07 ends with 41, other bytes or none with 43
-abbrev pub judgeLaterOf : Event → Meaning
-judgeLaterOf Event.Greeting = Meaning.Over Outcome.Other
-judgeLaterOf Event.Ack = Meaning.Acknowledged
-judgeLaterOf Event.Bel = Meaning.Over Outcome.Bel
-judgeLaterOf Event.Other = Meaning.Over Outcome.Other
-judgeLaterOf Event.Silence = Meaning.Over Outcome.Silence
-
-abbrev pub judgeOf : Phase → Event → Meaning
-judgeOf Phase.Greeting e = judgeFirstOf e
-judgeOf (Phase.Erase p) e = judgeLaterOf e
-judgeOf (Phase.Write a) e = judgeLaterOf e
-judgeOf (Phase.Verify a) e = judgeLaterOf e
-judgeOf Phase.Run e = judgeLaterOf e
--- never asked: 44 comes first
-judgeOf (Phase.Ended o) e = judgeLaterOf e
-
 -- the session in another phase, with so many more acknowledged
 abbrev pub movedOf : Session → Phase → ℕ → Session
 movedOf s phase n =
@@ -102,16 +78,17 @@ movedOf s phase n =
       named = s .named;
     }
 
--- a greeting and an acknowledgement go on along the file, and all else ends the session;
--- the greeting acknowledges no packet
-abbrev pub heardOf : ℕ → List ℕ → Session → Meaning → Session
-heardOf board m s Meaning.Greeted = movedOf s (afterOf board m (s .phase)) 0
-heardOf board m s Meaning.Acknowledged = movedOf s (afterOf board m (s .phase)) 1
-heardOf board m s (Meaning.Over o) = movedOf s (Phase.Ended o) 0
+-- the event awaited goes on along the file, and all else ends the session
+abbrev pub overOf : Session → Awaited → Event → Session
+overOf s w e = movedOf s (Phase.Ended (endingOf w e)) 0
+
+abbrev pub heardOf : ℕ → List ℕ → Session → Awaited → Event → Session
+heardOf board m s w e =
+    pick (goesOn w e) (movedOf s (afterOf board m (s .phase)) (acknowledges w)) (overOf s w e)
 
 -- the session after an event, and with the packet that it sends
 unfoldable pub tookOf : ℕ → List ℕ → Session → Event → Session
-tookOf board m s e = heardOf board m s (judgeOf (s .phase) e)
+tookOf board m s e = heardOf board m s (awaitedOf (s .phase)) e
 
 abbrev pub sentOf : ℕ → List ℕ → List ℕ → Session → Event → Sent
 sentOf board image m s e =
@@ -120,14 +97,23 @@ sentOf board image m s e =
       packet = packetOut board image m (s .kind) (tookOf board m s e .phase);
     }
 
--- some start and acknowledgements over this file lead to such a session:
--- its counts are the file's, and its cursor stands where they lead
+-- a phase to which they lead, with k packets acknowledged
+unfoldable pub cameAt : ℕ → List ℕ → RunKind → Phase → ℕ → Bool
+cameAt board m kind Phase.Greeting k = standsAt board m Phase.Greeting k
+cameAt board m kind (Phase.Erase p) k = standsAt board m (Phase.Erase p) k
+cameAt board m kind (Phase.Write a) k = standsAt board m (Phase.Write a) k
+cameAt board m kind (Phase.Verify a) k = standsAt board m (Phase.Verify a) k
+cameAt board m kind Phase.Run k = standsAt board m Phase.Run k
+cameAt board m kind (Phase.Ended o) k = endsAt (asked kind) (total board m) o k
+
+-- some start and events over this file lead to such a session:
+-- its counts are the file's, and its phase is one to which they lead
 unfoldable pub fitsOf : ℕ → List ℕ → Session → Bool
 fitsOf board m s =
     both (ltb 0 (namedCount board m))
     (both (eqb (s .named) (namedCount board m))
     (both (eqb (s .total) (total board m))
-    (standsAt board m (s .phase) (s .acknowledged))))
+    (cameAt board m (s .kind) (s .phase) (s .acknowledged))))
 
 -- a step: 20, 44 after the end, 46 for a file that is not the session's, else the event is taken
 unfoldable pub stepOf : ℕ → List ℕ → List ℕ → ℕ → Session → Event → Answer Sent
@@ -151,10 +137,13 @@ markedFrom board m a = beforeVerify board m + count (pieceStarts m) (a + 1)
 unfoldable pub marked : ℕ → List ℕ → ℕ → ℕ → Bool
 marked board m k a = both (named m a) (leb (markedFrom board m a) k)
 
--- asking for a mark: 20 for a map of another size
+-- asking for a mark: 20 for a map of another size, 46 for a file that is not the session's
 unfoldable pub provedOf : ℕ → List ℕ → Session → ℕ → Answer Bool
 provedOf board m s a =
-    first (20 when not (eqb (length m) (mapBytes board)) ∷ []) (given (marked board m (s .acknowledged) a))
+    first
+    (20 when not (eqb (length m) (mapBytes board))
+    ∷ 46 when not (fitsOf board m s) ∷ [])
+    (given (marked board m (s .acknowledged) a))
 
 -- ---- what the laws speak by
 
@@ -163,20 +152,6 @@ pub record Loadable (board : ℕ) (image m : List ℕ) : Type 0 where
   pub right : length image ≡ startOf board
   pub long : length m ≡ mapBytes board
   pub some : 0 < namedCount board m
-
--- a record that fits a file waits for its greeting, or is the state after the acknowledgements that it counts
-abbrev pub Reached : ℕ → List ℕ → Session → Type 0
-Reached board m s =
-    (s ≡ atGreeting board m (s .kind))
-    ⊎ ((s .acknowledged < total board m) × (s ≡ stateAt board m (s .kind) (s .acknowledged)))
-
--- an outcome that k acknowledgements allow, other than valid: 42 only before the first packet
-abbrev pub failing : Outcome → ℕ → Bool
-failing Outcome.Valid k = false
-failing Outcome.Silence k = true
-failing Outcome.Bel k = true
-failing Outcome.NoGreeting k = eqb k 0
-failing Outcome.Other k = true
 
 -- what a start and events lead to:
 -- it waits for the greeting, has k acknowledged, has failed with k acknowledged, or is valid

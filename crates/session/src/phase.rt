@@ -1,7 +1,9 @@
 // Where a session stands: what it waits for, with the cursor in the file, or how it ended.
 ghost use mathlib.Core.Path.{_≡_};
+ghost use Rattle.session.specs.Endings.{awaitedOf, asked, failing, endsAt};
 ghost use Rattle.session.specs.Paper.{paperOutcome};
 ghost use Rattle.session.specs.Phases.{ended};
+use crate::ending::Awaited;
 use basis::units::Address;
 use basis::units::Page;
 
@@ -9,6 +11,18 @@ use basis::units::Page;
 pub enum RunKind {
     Reset,
     Jump,
+}
+
+impl RunKind {
+    // The ending that was asked for.
+    pub fn asked(self) -> Outcome
+        ensures { λ r. ⌜ r ≡ asked self ⌝ }
+    {
+        match self {
+            RunKind::Reset => Outcome::Valid,
+            RunKind::Jump => Outcome::Valid,
+        }
+    }
 }
 
 pub enum Outcome {
@@ -43,6 +57,32 @@ impl Outcome {
             Outcome::Other => 43,
         }
     }
+
+    // Whether events lead to this ending with `k` of `total` packets acknowledged.
+    pub fn follows(self, asked: Outcome, total: u32, k: u32) -> bool
+        ensures { λ r. ⌜ r ≡ endsAt asked total self k ⌝ }
+    {
+        if self.number() == asked.number() {
+            return k == total;
+        }
+        if total <= k {
+            return false;
+        }
+        self.fails(k)
+    }
+
+    // No greeting is an ending only before the first packet.
+    fn fails(self, k: u32) -> bool
+        ensures { λ r. ⌜ r ≡ failing self k ⌝ }
+    {
+        match self {
+            Outcome::Valid => false,
+            Outcome::Silence => true,
+            Outcome::Bel => true,
+            Outcome::NoGreeting => k == 0,
+            Outcome::Other => true,
+        }
+    }
 }
 
 impl Phase {
@@ -56,6 +96,20 @@ impl Phase {
             Phase::Verify(_) => false,
             Phase::Run => false,
             Phase::Ended(_) => true,
+        }
+    }
+    // First the greeting, later an acknowledgement.
+    pub fn awaits(self) -> Awaited
+        ensures { λ r. ⌜ r ≡ awaitedOf self ⌝ }
+    {
+        match self {
+            Phase::Greeting => Awaited::Greeting,
+            Phase::Erase(_) => Awaited::Ack,
+            Phase::Write(_) => Awaited::Ack,
+            Phase::Verify(_) => Awaited::Ack,
+            Phase::Run => Awaited::Ack,
+            // Never asked: 44 comes first.
+            Phase::Ended(_) => Awaited::Ack,
         }
     }
 }

@@ -9,11 +9,15 @@ ghost use Rattle.basis.specs.Choice.{pick, both};
 ghost use Rattle.basis.specs.Lists.{overlay};
 ghost use Rattle.packet.specs.Packet.{packetMost};
 ghost use Rattle.session.specs.Events.{classifyOf};
+ghost use Rattle.session.specs.Endings.{asked, endsAt};
 ghost use Rattle.session.specs.Paper.{paperRefusal, paperStepped, paperMark};
 ghost use Rattle.session.specs.Phases.{atStart};
-ghost use Rattle.session.specs.Session.{measured, sentBytes, rightSizes, started, judgeFirstOf, judgeLaterOf, judgeOf, movedOf, heardOf, tookOf, sentOf, fitsOf, stepOf, provedOf};
+ghost use Rattle.session.specs.Session.{measured, sentBytes, rightSizes, started, movedOf, overOf, heardOf, tookOf, sentOf, fitsOf, stepOf, marked, provedOf};
+ghost use Rattle.session.specs.declared.ending.Awaited.{Awaited};
 use crate::cursor::after;
 use crate::cursor::place;
+use crate::ending::Awaited;
+use crate::ending::ending;
 use crate::event::Event;
 use crate::event::classify;
 use crate::phase::Outcome;
@@ -75,15 +79,7 @@ pub enum Stepped {
 pub enum Mark {
     Proved,
     Unproved,
-    // The map has the wrong size.
-    Size,
-}
-
-// What an event means to a session.
-enum Meaning {
-    Greeted,
-    Acknowledged,
-    Over(Outcome),
+    Refused(Refusal),
 }
 
 impl Session {
@@ -146,30 +142,23 @@ impl Session {
         Stepped::Next(self.sent(event, image, map, buffer))
     }
 
-    // Whether the byte is marked: the V of its piece is among the packets acknowledged.
+    // Whether the byte is marked proved, over the file that the session came from.
     pub fn proved(self, map: &[u8], address: Address) -> Mark
         ensures { λ r. ⌜ paperMark r ≡ provedOf pages (now (map .entry)) self (address .0) ⌝ }
     {
         if map.len() != MAP {
-            return Mark::Size;
+            return Mark::Refused(Refusal::Size);
         }
-        if END <= address.0 {
-            return Mark::Unproved;
+        if !self.fits(map) {
+            return Mark::Refused(Refusal::Foreign);
         }
-        if !named(map, address) {
-            return Mark::Unproved;
+        if marked(map, self.acknowledged, address) {
+            return Mark::Proved;
         }
-        let found = survey(map, address);
-        let all = found.all;
-        let below = found.below;
-        let pieces = below.pieces + one(found.piece);
-        if self.acknowledged < all.runs + all.pieces + pieces {
-            return Mark::Unproved;
-        }
-        Mark::Proved
+        Mark::Unproved
     }
 
-    // Whether some start and acknowledgements over this file lead here; one pass tells.
+    // Whether some start and events over this file lead here; one pass tells.
     fn fits(self, map: &[u8]) -> bool
         requires { ⌜ length (now map) ≡ mapSize ⌝ }
         ensures { λ r. ⌜ r ≡ fitsOf pages (now (map .entry)) self ⌝ }
@@ -198,8 +187,15 @@ impl Session {
             Phase::Write(_) => ranked(found.piece, all.runs + below.pieces, k),
             Phase::Verify(_) => ranked(found.piece, all.runs + all.pieces + below.pieces, k),
             Phase::Run => all.runs + 2 * all.pieces == k,
-            Phase::Ended(_) => false,
+            Phase::Ended(outcome) => self.ends(outcome),
         }
+    }
+
+    fn ends(self, outcome: Outcome) -> bool
+        ensures { λ r. ⌜ r ≡ endsAt (asked (self .kind)) (self .total) outcome (self .acknowledged) ⌝ }
+    {
+        let kind = self.kind;
+        outcome.follows(kind.asked(), self.total, self.acknowledged)
     }
 
     // An event that is not refused.
@@ -221,6 +217,7 @@ impl Session {
         Next { session, len }
     }
 
+    // The event awaited goes on along the file, and all else ends the session.
     fn took(self, event: Event, map: &[u8]) -> Session
         requires { ⌜
             (length (now map) ≡ mapSize) × (atStart pages (now map) (self .phase) ≡ true)
@@ -229,24 +226,46 @@ impl Session {
         ensures { λ r. ⌜ r ≡ tookOf pages (now (map .entry)) self event ⌝ }
     {
         let phase = self.phase;
-        let meaning = judge(phase, event);
-        self.heard(meaning, map)
+        match phase.awaits() {
+            Awaited::Greeting => self.greeted(event, map),
+            Awaited::Ack => self.answered(event, map),
+        }
     }
 
-    // On along the file, or over.
-    fn heard(self, meaning: Meaning, map: &[u8]) -> Session
+    // The greeting acknowledges no packet.
+    fn greeted(self, event: Event, map: &[u8]) -> Session
         requires { ⌜
             (length (now map) ≡ mapSize) × (atStart pages (now map) (self .phase) ≡ true)
             × (self .acknowledged < 2 ^ 31)
             ⌝ }
-        ensures { λ r. ⌜ r ≡ heardOf pages (now (map .entry)) self meaning ⌝ }
+        ensures { λ r. ⌜ r ≡ heardOf pages (now (map .entry)) self Awaited.Greeting event ⌝ }
     {
         let phase = self.phase;
-        match meaning {
-            Meaning::Greeted => self.moved(after(map, phase), 0),
-            Meaning::Acknowledged => self.moved(after(map, phase), 1),
-            Meaning::Over(outcome) => self.moved(Phase::Ended(outcome), 0),
-        }
+        let Event::Greeting = event else {
+            return self.over(Awaited::Greeting, event);
+        };
+        self.moved(after(map, phase), 0)
+    }
+
+    fn answered(self, event: Event, map: &[u8]) -> Session
+        requires { ⌜
+            (length (now map) ≡ mapSize) × (atStart pages (now map) (self .phase) ≡ true)
+            × (self .acknowledged < 2 ^ 31)
+            ⌝ }
+        ensures { λ r. ⌜ r ≡ heardOf pages (now (map .entry)) self Awaited.Ack event ⌝ }
+    {
+        let phase = self.phase;
+        let Event::Ack = event else {
+            return self.over(Awaited::Ack, event);
+        };
+        self.moved(after(map, phase), 1)
+    }
+
+    fn over(self, awaited: Awaited, event: Event) -> Session
+        requires { ⌜ self .acknowledged < 2 ^ 31 ⌝ }
+        ensures { λ r. ⌜ r ≡ overOf self awaited event ⌝ }
+    {
+        self.moved(Phase::Ended(ending(awaited, event)), 0)
     }
 
     fn moved(self, phase: Phase, more: u32) -> Session
@@ -264,44 +283,22 @@ impl Session {
     }
 }
 
-fn judge(phase: Phase, event: Event) -> Meaning
-    ensures { λ r. ⌜ r ≡ judgeOf phase event ⌝ }
+// Whether the byte is marked after `k` acknowledgements: the V of its piece is among them.
+fn marked(map: &[u8], k: u32, address: Address) -> bool
+    requires { ⌜ length (now map) ≡ mapSize ⌝ }
+    ensures { λ r. ⌜ r ≡ marked pages (now (map .entry)) k (address .0) ⌝ }
 {
-    match phase {
-        Phase::Greeting => judge_first(event),
-        Phase::Erase(_) => judge_later(event),
-        Phase::Write(_) => judge_later(event),
-        Phase::Verify(_) => judge_later(event),
-        Phase::Run => judge_later(event),
-        // Never asked: 44 comes first.
-        Phase::Ended(_) => judge_later(event),
+    if END <= address.0 {
+        return false;
     }
-}
-
-// The greeting is awaited; all else ends the session.
-fn judge_first(event: Event) -> Meaning
-    ensures { λ r. ⌜ r ≡ judgeFirstOf event ⌝ }
-{
-    match event {
-        Event::Greeting => Meaning::Greeted,
-        Event::Ack => Meaning::Over(Outcome::NoGreeting),
-        Event::Bel => Meaning::Over(Outcome::NoGreeting),
-        Event::Other => Meaning::Over(Outcome::NoGreeting),
-        Event::Silence => Meaning::Over(Outcome::Silence),
+    if !named(map, address) {
+        return false;
     }
-}
-
-// An acknowledgement is awaited; all else ends the session.
-fn judge_later(event: Event) -> Meaning
-    ensures { λ r. ⌜ r ≡ judgeLaterOf event ⌝ }
-{
-    match event {
-        Event::Greeting => Meaning::Over(Outcome::Other),
-        Event::Ack => Meaning::Acknowledged,
-        Event::Bel => Meaning::Over(Outcome::Bel),
-        Event::Other => Meaning::Over(Outcome::Other),
-        Event::Silence => Meaning::Over(Outcome::Silence),
-    }
+    let found = survey(map, address);
+    let all = found.all;
+    let below = found.below;
+    let pieces = below.pieces + one(found.piece);
+    all.runs + all.pieces + pieces <= k
 }
 
 fn right_sizes(image: usize, map: usize, packet: usize) -> bool

@@ -49,13 +49,13 @@ step-determined a r s x y old p q = (determined paperStepped stepped-one r s (p 
 mark-one : (r s : Mark) → paperMark r ≡ paperMark s → r ≡ s
 mark-one Mark.Proved Mark.Proved e = refl
 mark-one Mark.Proved Mark.Unproved e = absurd (true-false (given-one e))
-mark-one Mark.Proved Mark.Size e = absurd (apart (sym e))
+mark-one Mark.Proved (Mark.Refused y) e = absurd (apart (sym e))
 mark-one Mark.Unproved Mark.Proved e = absurd (true-false (sym (given-one e)))
 mark-one Mark.Unproved Mark.Unproved e = refl
-mark-one Mark.Unproved Mark.Size e = absurd (apart (sym e))
-mark-one Mark.Size Mark.Proved e = absurd (apart e)
-mark-one Mark.Size Mark.Unproved e = absurd (apart e)
-mark-one Mark.Size Mark.Size e = refl
+mark-one Mark.Unproved (Mark.Refused y) e = absurd (apart (sym e))
+mark-one (Mark.Refused x) Mark.Proved e = absurd (apart e)
+mark-one (Mark.Refused x) Mark.Unproved e = absurd (apart e)
+mark-one (Mark.Refused x) (Mark.Refused y) e = ap Mark.Refused (refusal-one x y (refused-one e))
 
 pub proved-determined : {a : Answer Bool} (r s : Mark) → paperMark r ≡ a → paperMark s ≡ a → r ≡ s
 proved-determined = determined paperMark mark-one

@@ -18,13 +18,13 @@ use Rattle.runs.specs.Laws.Runs.{count-mono}
 use Rattle.runs.specs.Map.{named}
 use Rattle.runs.specs.Pieces.{pieceMost, pieceStarts, pieceLen}
 use Rattle.runs.specs.Runs.{count, home}
-use Rattle.session.specs.Laws.Fits.{fitting}
+use Rattle.session.specs.Laws.Fits.{fitting, came-open}
 use Rattle.session.specs.Laws.Phases.{ranked-is, ranked-by, stands-below, stands-at, at-stands}
 use Rattle.session.specs.Laws.Plan.{plan-at}
 use Rattle.session.specs.Laws.States.{stands-r}
 use Rattle.session.specs.Phases.{packetOut, verifyAt, standsAt}
 use Rattle.session.specs.Plan.{verifyPacket, plan, total, beforeR, beforeVerify}
-use Rattle.session.specs.Session.{fitsOf, marked, provedOf, Held, markedFrom}
+use Rattle.session.specs.Session.{cameAt, fitsOf, marked, provedOf, Held, markedFrom}
 use Rattle.session.specs.declared.phase.Phase.{Phase}
 use Rattle.session.specs.declared.phase.RunKind.{RunKind}
 use Rattle.session.specs.declared.session.Session.{Session}
@@ -102,8 +102,9 @@ module _ (board : ℕ) (m : List ℕ) (long : length m ≡ mapBytes board) where
       (omega (
         arith,
         stands-r board m (s .acknowledged)
-            (sym (ap (λ (ph : Phase). standsAt board m ph (s .acknowledged)) e)
-            ∙ fitting board m s h .stands),
+            (sym (came-open board m (s .kind) (s .acknowledged) Phase.Run refl)
+            ∙ sym (ap (λ (ph : Phase). cameAt board m (s .kind) ph (s .acknowledged)) e)
+            ∙ fitting board m s h .came-to),
       ))
 
   -- in the plan's own terms
@@ -143,7 +144,8 @@ module _ (board : ℕ) (m : List ℕ) (long : length m ≡ mapBytes board) where
       (λ t. new (v .1) (subst (λ (j : ℕ). Held board m j (v .1) a) (eqb-true (v .0) k t) (v .3)))
       (λ t. old (held-marked board m (v .0) k (v .1) a (v .3) (omega (arith, v .2, eqb-false (v .0) k t))))
 
-  -- the session's `proved` says what is marked
-  pub proved-is : (s : Session) (a : ℕ) → provedOf board m s a ≡ given (marked board m (s .acknowledged) a)
+  -- over its own file the session's `proved` says what is marked
+  pub proved-is : (s : Session) (a : ℕ) → fitsOf board m s ≡ true
+      → provedOf board m s a ≡ given (marked board m (s .acknowledged) a)
   unfolding provedOf
-  proved-is s a = skip 20 _ _ _ (ap not (eq-eqb _ _ long)) ∙ done _
+  proved-is s a h = skip 20 _ _ _ (ap not (eq-eqb _ _ long)) ∙ skip 46 _ _ _ (ap not h) ∙ done _

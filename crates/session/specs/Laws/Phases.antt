@@ -17,7 +17,7 @@ use Rattle.runs.specs.Pages.{touched}
 use Rattle.runs.specs.Pieces.{pieceMost, pieceStarts, runStarts, runCount, pieceCount, namedCount}
 use Rattle.runs.specs.Runs.{count, starts, next, select, follow}
 use Rattle.session.specs.Laws.Starts.{some-page, run-below, piece-below, first-piece-below, first-run-below}
-use Rattle.session.specs.Phases.{eraseAt, writeAt, verifyAt, phaseAt, lowestPiece, nextRun, nextPiece, afterOf, atStart, ranked, standsAt}
+use Rattle.session.specs.Phases.{ended, eraseAt, writeAt, verifyAt, phaseAt, lowestPiece, nextRun, nextPiece, afterOf, atStart, ranked, standsAt}
 use Rattle.session.specs.Plan.{total, beforeR, beforeVerify}
 use Rattle.session.specs.declared.phase.Phase.{Phase}
 
@@ -217,3 +217,14 @@ module _ (board : ℕ) (m : List ℕ) (long : length m ≡ mapBytes board) (some
   after-start (Phase.Verify a) k h = stands-start board m long _ (k + 1) (verify-stands (a .0) k h)
   after-start Phase.Run k h = refl
   after-start (Phase.Ended o) k h = refl
+
+-- an ending stays where it is
+pub after-ended : (board : ℕ) (m : List ℕ) (ph : Phase) → ended ph ≡ true
+    → atStart board m (afterOf board m ph) ≡ true
+unfolding afterOf
+after-ended board m Phase.Greeting e = absurd (true-false (sym e))
+after-ended board m (Phase.Erase p) e = absurd (true-false (sym e))
+after-ended board m (Phase.Write a) e = absurd (true-false (sym e))
+after-ended board m (Phase.Verify a) e = absurd (true-false (sym e))
+after-ended board m Phase.Run e = refl
+after-ended board m (Phase.Ended o) e = refl

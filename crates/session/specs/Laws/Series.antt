@@ -12,10 +12,12 @@ use Rattle.basis.specs.Choice.{pick}
 use Rattle.basis.specs.Laws.Choice.{decide, true-false}
 use Rattle.basis.specs.Units.{mapBytes}
 use Rattle.runs.specs.Pieces.{namedCount}
+use Rattle.session.specs.Endings.{awaitedOf, isGreeting, isAck, failing}
 use Rattle.session.specs.Laws.States.{phase-open, phase-later, greeting-state, ack-next, ack-last}
 use Rattle.session.specs.Phases.{ended, phaseAt}
 use Rattle.session.specs.Plan.{total, beforeR}
-use Rattle.session.specs.Session.{sessionWith, atGreeting, stateAt, valid, judgeOf, heardOf, tookOf, series, Came, waits, stands, fails, ends, failing}
+use Rattle.session.specs.Session.{sessionWith, atGreeting, stateAt, valid, heardOf, tookOf, series, Came, waits, stands, fails, ends}
+use Rattle.session.specs.declared.ending.Awaited.{Awaited}
 use Rattle.session.specs.declared.event.Event.{Event}
 use Rattle.session.specs.declared.phase.Outcome.{Outcome}
 use Rattle.session.specs.declared.phase.Phase.{Phase}
@@ -33,15 +35,11 @@ series-ended board m s (e ∷ es) h = rw h (series-ended board m s es h)
 pub silence-ends : (board : ℕ) (m : List ℕ) (s : Session)
     → tookOf board m s Event.Silence .phase ≡ Phase.Ended Outcome.Silence
 unfolding tookOf
-silence-ends board m s = go (s .phase)
+silence-ends board m s = go (awaitedOf (s .phase))
   where
-    go : (ph : Phase) → heardOf board m s (judgeOf ph Event.Silence) .phase ≡ Phase.Ended Outcome.Silence
-    go Phase.Greeting = refl
-    go (Phase.Erase p) = refl
-    go (Phase.Write a) = refl
-    go (Phase.Verify a) = refl
-    go Phase.Run = refl
-    go (Phase.Ended o) = refl
+    go : (w : Awaited) → heardOf board m s w Event.Silence .phase ≡ Phase.Ended Outcome.Silence
+    go Awaited.Greeting = refl
+    go Awaited.Ack = refl
 
 -- its counts are the file's: no total is invented
 module _ (board : ℕ) (m : List ℕ) (kind : RunKind) (s : Session) where
@@ -70,26 +68,12 @@ isValid (Phase.Ended Outcome.Bel) = false
 isValid (Phase.Ended Outcome.NoGreeting) = false
 isValid (Phase.Ended Outcome.Other) = false
 
-abbrev pub isAck : Event → Bool
-isAck Event.Greeting = false
-isAck Event.Ack = true
-isAck Event.Bel = false
-isAck Event.Other = false
-isAck Event.Silence = false
-
 pub ack-or : {R : Type 0} (e : Event) → (e ≡ Event.Ack → R) → (isAck e ≡ false → R) → R
 ack-or Event.Greeting f g = g refl
 ack-or Event.Ack f g = f refl
 ack-or Event.Bel f g = g refl
 ack-or Event.Other f g = g refl
 ack-or Event.Silence f g = g refl
-
-abbrev pub isGreeting : Event → Bool
-isGreeting Event.Greeting = true
-isGreeting Event.Ack = false
-isGreeting Event.Bel = false
-isGreeting Event.Other = false
-isGreeting Event.Silence = false
 
 greeting-or : {R : Type 0} (e : Event) → (e ≡ Event.Greeting → R) → (isGreeting e ≡ false → R) → R
 greeting-or Event.Greeting f g = f refl
@@ -119,11 +103,11 @@ module _ (board : ℕ) (m : List ℕ) (long : length m ≡ mapBytes board) (some
       → (o : Outcome) × (failing o k ≡ true)
       × (tookOf board m (stateAt board m kind k) e ≡ sessionWith board m kind (Phase.Ended o) k)
   unfolding tookOf
-  not-ack k Event.Greeting h l = (Outcome.Other, refl, rw (phase-later board m k Event.Greeting, add-zero))
+  not-ack k Event.Greeting h l = (Outcome.Other, refl, rw (phase-later board m k, add-zero))
   not-ack k Event.Ack h l = absurd (true-false h)
-  not-ack k Event.Bel h l = (Outcome.Bel, refl, rw (phase-later board m k Event.Bel, add-zero))
-  not-ack k Event.Other h l = (Outcome.Other, refl, rw (phase-later board m k Event.Other, add-zero))
-  not-ack k Event.Silence h l = (Outcome.Silence, refl, rw (phase-later board m k Event.Silence, add-zero))
+  not-ack k Event.Bel h l = (Outcome.Bel, refl, rw (phase-later board m k, add-zero))
+  not-ack k Event.Other h l = (Outcome.Other, refl, rw (phase-later board m k, add-zero))
+  not-ack k Event.Silence h l = (Outcome.Silence, refl, rw (phase-later board m k, add-zero))
 
   ack-came : (k : ℕ) → k < total board m
       → Came board m kind (tookOf board m (stateAt board m kind k) Event.Ack)

@@ -1,9 +1,8 @@
 -- Laws of states: the state after k acknowledgements, what leads
--- to the next, and that exactly these fit a file.
+-- to the next, and that these fit a file.
 use Prim.Native.Nat.{ℕ, _+_, _≤_, _<_}
 use mathlib.Core.Bool.{Bool, true, false}
 use mathlib.Core.List.{List, []}
-use mathlib.Core.Logic.{inl, inr}
 use mathlib.Core.Path.{_≡_, refl, sym, ap, _∙_}
 use native.Mathlib.Omega.{arith}
 use borrow.Author.Tests.{eqb-true, le-ltb}
@@ -14,13 +13,15 @@ use Rattle.basis.specs.Laws.Choice.{decide, true-false}
 use Rattle.basis.specs.Refusals.{given}
 use Rattle.basis.specs.Units.{startOf, mapBytes}
 use Rattle.runs.specs.Pieces.{runCount, namedCount}
-use Rattle.session.specs.Laws.Fits.{Fitting, fitting, fits-by}
+use Rattle.session.specs.Endings.{awaitedOf}
+use Rattle.session.specs.Laws.Fits.{fits-by, came-open}
 use Rattle.session.specs.Laws.Phases.{greeted, stands-below, stands-at, at-stands, greeting-stands, erase-stands, write-stands, verify-stands}
 use Rattle.session.specs.Laws.Plan.{plan-at}
 use Rattle.session.specs.Laws.Steps.{step-taken}
 use Rattle.session.specs.Phases.{ended, packetOut, eraseAt, writeAt, verifyAt, phaseAt, nextRun, nextPiece, afterOf, standsAt}
 use Rattle.session.specs.Plan.{plan, total, beforeR, beforeVerify}
-use Rattle.session.specs.Session.{sessionWith, atGreeting, stateAt, valid, Sent, rightSizes, judgeLaterOf, judgeOf, tookOf, sentOf, fitsOf, stepOf, Reached}
+use Rattle.session.specs.Session.{sessionWith, atGreeting, stateAt, valid, Sent, rightSizes, tookOf, sentOf, cameAt, fitsOf, stepOf}
+use Rattle.session.specs.declared.ending.Awaited.{Awaited}
 use Rattle.session.specs.declared.event.Event.{Event}
 use Rattle.session.specs.declared.phase.Outcome.{Outcome}
 use Rattle.session.specs.declared.phase.Phase.{Phase}
@@ -67,10 +68,10 @@ module _ (board : ℕ) (m : List ℕ) (k : ℕ) where
   phase-open =
       phase-cases board (λ (ph : Phase). ended ph ≡ false) (λ q. refl) (λ a. refl) (λ a. refl) refl m k
 
-  pub phase-later : (e : Event) → judgeOf (phaseAt board m k) e ≡ judgeLaterOf e
-  phase-later e =
-      phase-cases board (λ (ph : Phase). judgeOf ph e ≡ judgeLaterOf e) (λ q. refl) (λ a. refl)
-      (λ a. refl) refl m k
+  pub phase-later : awaitedOf (phaseAt board m k) ≡ Awaited.Ack
+  phase-later =
+      phase-cases board (λ (ph : Phase). awaitedOf ph ≡ Awaited.Ack) (λ q. refl) (λ a. refl) (λ a. refl)
+      refl m k
 
   -- R is out exactly after all else is acknowledged
   r-after : beforeR board m ≤ k → phaseAt board m k ≡ Phase.Run
@@ -123,7 +124,7 @@ module _ (board : ℕ) (m : List ℕ) (long : length m ≡ mapBytes board) (some
         → tookOf board m (stateAt board m kind k) Event.Ack ≡ stateAt board m kind (k + 1)
     unfolding tookOf
     ack-next k l =
-        rw (phase-later board m k Event.Ack)
+        rw (phase-later board m k)
         (ap (λ (ph : Phase). sessionWith board m kind ph (k + 1))
         (phase-next (phaseAt board m k) k l (phase-greeted board m k) (at-stands board m k (omega arith))))
 
@@ -132,58 +133,27 @@ module _ (board : ℕ) (m : List ℕ) (long : length m ≡ mapBytes board) (some
         → tookOf board m (stateAt board m kind k) Event.Ack ≡ valid board m kind
     unfolding tookOf afterOf
     ack-last k l =
-        rw (phase-later board m k Event.Ack, r-after board m k (omega arith))
+        rw (phase-later board m k, r-after board m k (omega arith))
         (ap (sessionWith board m kind (Phase.Ended Outcome.Valid)) l)
 
-    -- ---- 46 is exact: these states fit the file
+    -- ---- these states fit the file
 
     pub waiting-fits : fitsOf board m (atGreeting board m kind) ≡ true
-    unfolding standsAt
+    unfolding standsAt cameAt
     waiting-fits =
         fits-by board m (atGreeting board m kind)
-        (record { some = some; named-is = refl; total-is = refl; stands = refl })
+        (record { some = some; named-is = refl; total-is = refl; came-to = refl })
 
     pub state-fits : (k : ℕ) → k < total board m → fitsOf board m (stateAt board m kind k) ≡ true
     state-fits k l =
         fits-by board m (stateAt board m kind k)
-        (record { some = some; named-is = refl; total-is = refl; stands = at-stands board m k l })
-
--- and no other
-pub fits-reached : (board : ℕ) (m : List ℕ) → length m ≡ mapBytes board → (s : Session) → fitsOf board m s ≡ true
-    → (0 < namedCount board m) × Reached board m s
-fits-reached board m long s h = (f .some, go (s .phase) refl)
-  where
-    f : Fitting board m s
-    f = fitting board m s h
-
-    counts : (ph : Phase) (k : ℕ) → s .phase ≡ ph → s .acknowledged ≡ k → s ≡ sessionWith board m (s .kind) ph k
-    counts ph k p q =
-        λ i. record {
-          kind = s .kind;
-          phase = p i;
-          acknowledged = q i;
-          total = f .total-is i;
-          named = f .named-is i;
-        }
-
-    on : greeted (s .phase) ≡ true → Reached board m s
-    on g =
-        inr (
-          stands-below board m long (s .phase) (s .acknowledged) (f .stands),
-          counts (phaseAt board m (s .acknowledged)) (s .acknowledged)
-              (stands-at board m long (s .phase) (s .acknowledged) g (f .stands)) refl,
-        )
-
-    go : (ph : Phase) → s .phase ≡ ph → Reached board m s
-    go Phase.Greeting e =
-        inl (counts Phase.Greeting 0 e
-        (stands-greeting board m (s .acknowledged)
-        (sym (ap (λ (x : Phase). standsAt board m x (s .acknowledged)) e) ∙ f .stands)))
-    go (Phase.Erase p) e = on (ap greeted e)
-    go (Phase.Write a) e = on (ap greeted e)
-    go (Phase.Verify a) e = on (ap greeted e)
-    go Phase.Run e = on (ap greeted e)
-    go (Phase.Ended o) e = on (ap greeted e)
+        (record {
+          some = some;
+          named-is = refl;
+          total-is = refl;
+          came-to = came-open board m kind k (phaseAt board m k) (phase-open board m k)
+              ∙ at-stands board m k l;
+        })
 
 -- ---- a step from a state
 

@@ -15,8 +15,10 @@ use Rattle.basis.specs.Laws.Units.{sizes-right as file-right}
 use Rattle.basis.specs.Units.{startOf, mapBytes, rightSizesIn}
 use Rattle.packet.specs.Packet.{packetMost}
 use Rattle.runs.specs.Pieces.{namedCount}
+use Rattle.session.specs.Endings.{goesOn}
 use Rattle.session.specs.Phases.{ended}
-use Rattle.session.specs.Session.{atGreeting, measured, rightSizes, started, sentOf, fitsOf, stepOf, Loadable}
+use Rattle.session.specs.Session.{atGreeting, measured, rightSizes, started, overOf, heardOf, sentOf, fitsOf, stepOf, Loadable}
+use Rattle.session.specs.declared.ending.Awaited.{Awaited}
 use Rattle.session.specs.declared.event.Event.{Event}
 use Rattle.session.specs.declared.phase.RunKind.{RunKind}
 use Rattle.session.specs.declared.session.Next.{Next}
@@ -90,3 +92,8 @@ module _ (board : ℕ) (image m : List ℕ) (room : ℕ) (s : Session) (e : Even
           → stepOf board image m room s e ≡ given (sentOf board image m s e)
       unfolding stepOf
       step-taken g = skip 20 _ _ _ (ap not h) ∙ skip 44 _ _ _ f ∙ skip 46 _ _ _ (ap not g) ∙ done _
+
+-- an event that is not the one awaited ends the session
+pub heard-over : (board : ℕ) (m : List ℕ) (s : Session) (w : Awaited) (e : Event) → goesOn w e ≡ false
+    → heardOf board m s w e ≡ overOf s w e
+heard-over board m s w e h = rw h

@@ -8,7 +8,7 @@ use Rattle.runs.specs.Survey.{surveyOf}
 use Rattle.session.specs.Phases.{placeOf}
 use Rattle.session.specs.Session.{fitsOf}
 use Rattle.session.specs.declared.phase.Phase.{Phase}
-use Rattle.session.proofs.Fits.{standsBy, fits-past, fits-empty, fits-named, fits-total, fits-place}
+use Rattle.session.proofs.Fits.{cameBy, fits-past, fits-empty, fits-named, fits-total, fits-place}
 use Rattle.session.proofs.Surveys.{Told, told}
 use Rattle.session.proofs.session.Session.fits.Statement.{statement}
 use Rattle.session.proofs.session.Session.fits.Tie as tie
@@ -30,7 +30,8 @@ surveyed s =
 
 -- past the tests of the counts the phase decides, by what the survey says of it
 decided : (c : tie.Else4) (ph : Phase) → entry (survey-at c) .args .self .phase ≡ ph
-    → standsBy (survey-at c .survey .result) ph (entry (survey-at c) .args .self .acknowledged)
+    → (let s = entry (survey-at c) .args .self in
+    cameBy (survey-at c .survey .result) (s .kind) (s .total) ph (s .acknowledged))
     ≡ fitsOf pages (entry (survey-at c) .args .map .now) (entry (survey-at c) .args .self)
 decided c ph q =
     let s = survey-at c in
@@ -44,16 +45,10 @@ few : (s : tie.After-survey)
     → Told (entry s .args .map .now) (s .before .before .before .place .result .0) (s .survey .result)
 few s = told (entry s .args .map .now) (s .before .before .before .place .result .0) (s .survey .ensures)
 
-place-requires : tie.Need-place-requires
-place-requires c κs = search needs
-
 returns : tie.Need-returns
 returns c =
     let s = c .before .before .before .before in
     fits-past (s .args .map .now) (s .pre) (s .args .self) (omega (arith, c .before .before .place .ensures))
-
-survey-requires : tie.Need-survey-requires
-survey-requires c κs = search needs
 
 returns-2 : tie.Need-returns-2
 returns-2 c =
@@ -75,49 +70,13 @@ returns-4 c = let s = c .before .before .before .before .before .before .before 
     (c .before .before .before .before .before .before .if2 .left) (c .before .before .before .if3 .left) _
     (c .before .before .total .ensures) (c .if4 .taken)
 
-enum-told : tie.Need-enum-told
-enum-told c = search needs
-
-enum-told-2 : tie.Need-enum-told-2
-enum-told-2 c = search needs
-
-ranked-requires : tie.Need-ranked-requires
-ranked-requires c κs = search needs
-
-enum-told-3 : tie.Need-enum-told-3
-enum-told-3 c = search needs
-
 add-ranked : tie.Need-add-ranked
 add-ranked c =
     let s = survey-at (c .before .before .before .before) in omega (arith, few s, s .before .if1 .left)
 
-ranked-requires-2 : tie.Need-ranked-requires-2
-ranked-requires-2 c κs = search needs
-
-enum-told-4 : tie.Need-enum-told-4
-enum-told-4 c = search needs
-
-add-ranked-2 : tie.Need-add-ranked-2
-add-ranked-2 c = search needs
-
 add-ranked-3 : tie.Need-add-ranked-3
 add-ranked-3 c =
     let s = survey-at (c .before .before .before .before) in omega (arith, few s, s .before .if1 .left)
-
-ranked-requires-3 : tie.Need-ranked-requires-3
-ranked-requires-3 c κs = search needs
-
-enum-told-5 : tie.Need-enum-told-5
-enum-told-5 c = search needs
-
-mul-result : tie.Need-mul-result
-mul-result c = search needs
-
-add-result : tie.Need-add-result
-add-result c = search needs
-
-enum-told-6 : tie.Need-enum-told-6
-enum-told-6 c = search needs
 
 returns-5 : tie.Need-returns-5
 returns-5 c = decided (c .before .before) _ (c .enum-told .given .1)
@@ -139,33 +98,35 @@ returns-9 : tie.Need-returns-9
 returns-9 c = decided (c .before .before .before .before) _ (c .before .before .enum-told5 .given .1)
 
 returns-10 : tie.Need-returns-10
-returns-10 c = decided (c .before .before) _ (c .enum-told6 .given .1)
+returns-10 c =
+    c .ends .ensures ∙ decided (c .before .before .before .before) _ (c .before .before .phase .given .1)
 
 pub fits-spec : {M : Type 1} → statement M
 fits-spec =
     tie.close
     (tie.spec
-    place-requires
+    (λ c κs. search needs)
     returns
-    survey-requires
+    (λ c κs. search needs)
     returns-2
     returns-3
     total-requires
     returns-4
-    enum-told
-    enum-told-2
-    ranked-requires
-    enum-told-3
+    (λ c. search needs)
+    (λ c. search needs)
+    (λ c κs. search needs)
+    (λ c. search needs)
     add-ranked
-    ranked-requires-2
-    enum-told-4
-    add-ranked-2
+    (λ c κs. search needs)
+    (λ c. search needs)
+    (λ c. search needs)
     add-ranked-3
-    ranked-requires-3
-    enum-told-5
-    mul-result
-    add-result
-    enum-told-6
+    (λ c κs. search needs)
+    (λ c. search needs)
+    (λ c. search needs)
+    (λ c. search needs)
+    (λ c. search needs)
+    (λ c κs. search needs)
     returns-5
     returns-6
     returns-7

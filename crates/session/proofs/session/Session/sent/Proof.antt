@@ -5,8 +5,7 @@ use borrow.Author.Needs.{needs}
 use lib.ListN.{length}
 use Rattle.basis.specs.Board.{pages}
 use Rattle.basis.specs.Lists.{overlay}
-use Rattle.session.specs.Laws.Fits.{fitting, took-start}
-use Rattle.session.specs.Laws.Phases.{stands-below, stands-start}
+use Rattle.session.specs.Laws.Fits.{fitting, came-most, came-start, took-start}
 use Rattle.session.specs.Laws.Totals.{total-most}
 use Rattle.session.specs.Phases.{atStart, packetOut}
 use Rattle.session.specs.declared.session.Session.{Session}
@@ -19,10 +18,10 @@ took-requires c κs = let s = c .before .before .before in
     let x = s .args .self in
     let f = fitting pages m x (s .pre .3) in (
       s .pre .1,
-      stands-start pages m (s .pre .1) (x .phase) (x .acknowledged) (f .stands),
+      came-start pages m (s .pre .1) (x .kind) (x .acknowledged) (x .phase) (f .came-to),
       omega (
         arith,
-        stands-below pages m (s .pre .1) (x .phase) (x .acknowledged) (f .stands),
+        came-most pages m (s .pre .1) (x .kind) (x .acknowledged) (x .phase) (f .came-to),
         total-most pages m,
       ),
     )

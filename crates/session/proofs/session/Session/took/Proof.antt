@@ -1,22 +1,38 @@
--- `took` meets its contract: the event is judged, and its meaning heard.
-use mathlib.Core.Path.{ap, _∙_}
+-- `took` meets its contract: what is awaited decides which event goes on.
+use mathlib.Core.Path.{ap, sym, _∙_}
 use borrow.Author.Needs.{needs}
 use Rattle.basis.specs.Board.{pages}
 use Rattle.session.specs.Session.{heardOf, tookOf}
+use Rattle.session.specs.declared.ending.Awaited.{Awaited}
 use Rattle.session.proofs.session.Session.took.Statement.{statement}
 use Rattle.session.proofs.session.Session.took.Tie as tie
-
-judge-requires : tie.Need-judge-requires
-judge-requires c κs = search needs
-
-heard-requires : tie.Need-heard-requires
-heard-requires c κs = search needs
 
 returns : tie.Need-returns
 unfolding tookOf
 returns c =
-    let s = c .before .before .before .args in
-    c .heard .ensures ∙ ap (heardOf pages (s .map .now) (s .self)) (c .before .judge .ensures)
+    let m = c .before .before in
+    let s = m .before .before .before .args in
+    c .greeted .ensures
+    ∙ sym (ap (λ (w : Awaited). heardOf pages (s .map .now) (s .self) w (s .event))
+    (sym (m .before .awaits .ensures) ∙ c .before .enum-told .given .1))
+
+returns-2 : tie.Need-returns-2
+unfolding tookOf
+returns-2 c =
+    let m = c .before .before in
+    let s = m .before .before .before .args in
+    c .answered .ensures
+    ∙ sym (ap (λ (w : Awaited). heardOf pages (s .map .now) (s .self) w (s .event))
+    (sym (m .before .awaits .ensures) ∙ c .before .enum-told2 .given .1))
 
 pub took-spec : {M : Type 1} → statement M
-took-spec = tie.close (tie.spec judge-requires heard-requires returns)
+took-spec =
+    tie.close
+    (tie.spec
+    (λ c κs. search needs)
+    (λ c. search needs)
+    (λ c κs. search needs)
+    (λ c. search needs)
+    (λ c κs. search needs)
+    returns
+    returns-2)

@@ -1,0 +1,31 @@
+-- Laws of endings: with how many packets acknowledged each can come.
+use Prim.Native.Nat.{ℕ, _≤_, _<_}
+use mathlib.Core.Bool.{true, false}
+use mathlib.Core.Path.{_≡_}
+use borrow.Author.Tests.{eq-eqb, ne-eqb, eqb-true, ltb-true, lt-ltb, le-ltb}
+use lib.Dec.{eqb, ltb}
+use Rattle.basis.specs.Laws.Choice.{decide, both-true}
+use Rattle.session.specs.Endings.{failing, endsAt}
+use Rattle.session.specs.Paper.{paperOutcome}
+use Rattle.session.specs.declared.phase.Outcome.{Outcome}
+
+module _ (wish o : Outcome) (n k : ℕ) where
+  -- the one that was asked for, once all are acknowledged
+  pub ends-asked : paperOutcome o ≡ paperOutcome wish → endsAt wish n o k ≡ eqb k n
+  ends-asked e = rw (eq-eqb _ _ e)
+
+  -- any other, before the last is
+  module _ (e : paperOutcome o ≡ paperOutcome wish → ⊥) where
+    pub ends-late : n ≤ k → endsAt wish n o k ≡ false
+    ends-late l = rw (ne-eqb _ _ e, le-ltb _ _ l)
+
+    pub ends-fails : k < n → endsAt wish n o k ≡ failing o k
+    ends-fails l = rw (ne-eqb _ _ e, lt-ltb _ _ l)
+
+  -- and no other way
+  pub ends-by : {R : Type 0} → endsAt wish n o k ≡ true
+      → (paperOutcome o ≡ paperOutcome wish → k ≡ n → R) → (k < n → failing o k ≡ true → R) → R
+  ends-by h all before =
+      decide (eqb (paperOutcome o) (paperOutcome wish))
+      (λ t. all (eqb-true _ _ t) (eqb-true k n (rw t at h)))
+      (λ t. let b = both-true (ltb k n) (failing o k) (rw t at h) in before (ltb-true _ _ (b .0)) (b .1))
