@@ -75,7 +75,7 @@ module _ (m : List ℕ) (long : length m ≡ mapSize) (k a : ℕ) where
     mark-ranked h =
         let t = told m a e in
         let u : f .all .runs + f .all .pieces + (f .below .pieces + n) ≡ markedFrom pages m a
-            = omega (arith, t .runs, t .pieces, rank) in
+        = omega (arith, t .runs, t .pieces, rank) in
         ap (λ (x : ℕ). leb x k) u ∙ sym (both-second _ _ h)
 
 -- the counts fit

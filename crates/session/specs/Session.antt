@@ -1,7 +1,7 @@
 -- The session: its start, its steps, and what they have proved.
 use Prim.Native.Nat.{ℕ, _+_, _≤_, _<_}
 use mathlib.Core.Bool.{Bool, not, true, false}
-use mathlib.Core.List.{List, [], _∷_}
+use mathlib.Core.List.{List, [], _∷_, _++_}
 use mathlib.Core.Path.{_≡_}
 use mathlib.Core.Logic.{_⊎_}
 use lib.Dec.{eqb, leb, ltb}
@@ -169,3 +169,21 @@ pub record Held (board : ℕ) (m : List ℕ) (j s a : ℕ) : Type 0 where
   pub phase : phaseAt board m j ≡ verifyAt s
   pub from : s ≤ a
   pub below : a < s + pieceLen m s
+
+-- in this series of events the V of the piece that holds the byte at a was acknowledged: it was out, and ACK came
+pub record Acknowledged (board : ℕ) (m : List ℕ) (kind : RunKind) (es : List Event) (a : ℕ) : Type 0 where
+  pub before : List Event
+  pub rest : List Event
+  pub piece : ℕ
+  pub cut : es ≡ before ++ (Event.Ack ∷ rest)
+  pub out : series board m (atGreeting board m kind) before .phase ≡ verifyAt piece
+  pub from : piece ≤ a
+  pub below : a < piece + pieceLen m piece
+
+-- some series of events over the map's file leads to the session,
+-- and in each that does the V that holds the byte was acknowledged
+pub record Shown (board : ℕ) (m : List ℕ) (s : Session) (a : ℕ) : Type 0 where
+  pub events : List Event
+  pub lead-here : s ≡ series board m (atGreeting board m (s .kind)) events
+  pub held : (es : List Event) → s ≡ series board m (atGreeting board m (s .kind)) es
+      → Acknowledged board m (s .kind) es a

@@ -17,12 +17,13 @@ use Rattle.loader.specs.Take.{waiting, quiet, tellOf, answerBytes}
 use Rattle.loader.specs.declared.state.Condition.the-variants.{Serving}
 use Rattle.loader.specs.declared.state.Loader.{Loader}
 use Rattle.session.specs.Laws.Events.{ack-heard, bel-heard, silence-heard}
-use Rattle.session.specs.Laws.Series.{isAck, isGreeting, not-ack, not-greeting}
+use Rattle.session.specs.Endings.{isAck, isGreeting, failing}
+use Rattle.session.specs.Laws.Series.{not-ack, not-greeting}
 use Rattle.session.specs.Laws.States.{greeting-state, ack-next, ack-last, step-state, waiting-fits}
 use Rattle.session.specs.Laws.Steps.{step-taken}
 use Rattle.session.specs.Phases.{packetOut, packetAt}
 use Rattle.session.specs.Plan.{total}
-use Rattle.session.specs.Session.{sessionWith, atGreeting, stateAt, rightSizes, tookOf, failing, Loadable}
+use Rattle.session.specs.Session.{sessionWith, atGreeting, stateAt, rightSizes, tookOf, Loadable}
 use Rattle.session.specs.declared.event.Event.{Event}
 use Rattle.session.specs.declared.phase.Outcome.{Outcome}
 use Rattle.session.specs.declared.phase.Phase.{Phase}

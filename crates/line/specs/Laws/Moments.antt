@@ -35,14 +35,18 @@ use Rattle.runs.specs.Map.{named}
 use Rattle.runs.specs.Pages.{touched}
 use Rattle.runs.specs.Pieces.{pieceMost, runLen}
 use Rattle.session.specs.Laws.Events.{greeting-heard}
+use Rattle.session.specs.Endings.{failing}
+use Rattle.session.specs.Laws.Endings.{ends-asked}
+use Rattle.session.specs.Laws.Exact.{ended-fits}
 use Rattle.session.specs.Laws.Marks.{proved-is, all-marked}
 use Rattle.session.specs.Laws.Series.{silence-ends}
 use Rattle.session.specs.Laws.Starts.{some-page}
-use Rattle.session.specs.Laws.States.{phase-open}
+use Rattle.session.specs.Laws.States.{phase-open, waiting-fits, state-fits}
 use Rattle.session.specs.Laws.Out.{Out, erases, writes, verifies, runs, out-after}
 use Rattle.session.specs.Phases.{ended, packetAt}
 use Rattle.session.specs.Plan.{pieceBytes, total, beforeR}
-use Rattle.session.specs.Session.{atGreeting, stateAt, marked, tookOf, failing, Loadable}
+use Rattle.session.specs.Paper.{paperOutcome}
+use Rattle.session.specs.Session.{atGreeting, stateAt, fitsOf, marked, tookOf, Loadable}
 use Rattle.session.specs.declared.event.Event.{Event}
 use Rattle.session.specs.declared.phase.Outcome.{Outcome}
 use Rattle.session.specs.declared.phase.Phase.{Phase}
@@ -75,13 +79,13 @@ module _ (board : ℕ) (image m : List ℕ) (losses : ℕ → Loss) (x : Moment)
 -- ---- what flash holds makes a moment safe, if R and the verdict come late enough
 
 holds-safe : (board : ℕ) (image m before : List ℕ) (long : length m ≡ mapBytes board) (k : ℕ) (x : Moment)
-    → x .session .acknowledged ≡ k → Holds board image m before k (x .flash)
+    → x .session .acknowledged ≡ k → fitsOf board m (x .session) ≡ true → Holds board image m before k (x .flash)
     → (RunOut x → beforeR board m ≤ k)
     → (Valid (x .session) → beforeR board m ≤ k) → Safe board image m before x
-holds-safe board image m before long k x c h run val =
+holds-safe board image m before long k x c fits h run val =
     record {
       proved-stands = λ a p. h .marked-stands a
-          (sym (is a) ∙ given-one (sym (proved-is board m long (x .session) a) ∙ p));
+          (sym (is a) ∙ given-one (sym (proved-is board m long (x .session) a fits) ∙ p));
       untouched-stays = h .untouched;
       run-proved = λ r. all (run r);
       valid-proved = λ v. all (val v);
@@ -91,7 +95,7 @@ holds-safe board image m before long k x c h run val =
     is a = ap (λ (j : ℕ). marked board m j a) c
 
     all : beforeR board m ≤ k → AllProved board m (x .session)
-    all b a t = proved-is board m long (x .session) a ∙ ap given (is a ∙ all-marked board m long k a b ∙ t)
+    all b a t = proved-is board m long (x .session) a fits ∙ ap given (is a ∙ all-marked board m long k a b ∙ t)
 
 -- on the wire R comes after every V
 run-late : (board : ℕ) (image m : List ℕ) (long : length m ≡ mapBytes board) (kind : RunKind) (k : ℕ)
@@ -136,21 +140,25 @@ module _ (board : ℕ) (few : board ≤ 255) (image m before : List ℕ) (file :
       → Safe board image m before (momentWith e (atGreeting board m kind) (openingByte ∷ []))
   first-safe e q =
       holds-safe board image m before (file .long) 0 _ refl
+      (waiting-fits board m (file .long) (file .some) kind)
       (opening-holds board image m before (file .long) (e .flash) q size)
       (λ r. absurd (omega arith)) (open-invalid (atGreeting board m kind) refl)
 
   next-safe : (k : ℕ) → k < total board m → (e : Effect) → Holds board image m before k (e .flash)
       → Safe board image m before (standing board image m kind e k)
   next-safe k b e h =
-      holds-safe board image m before (file .long) k _ refl h (run-late board image m (file .long) kind k b)
+      holds-safe board image m before (file .long) k _ refl
+      (state-fits board m (file .long) (file .some) kind k b) h (run-late board image m (file .long) kind k b)
       (open-invalid (stateAt board m kind k) (phase-open board m k))
 
   pub stage-safe : (n : ℕ) (x : Moment) → Stage board image m before kind l n x → Safe board image m before x
   stage-safe n x (starts z q) = rw q (first-safe (record { loader = resetOf l; flash = before }) refl)
   stage-safe n x (stands e k z b s h q) = rw q (next-safe k b e h)
   stage-safe n x (ends e u k h v q) =
-      rw q (holds-safe board image m before (file .long) k _ refl h (λ r. absurd (omega arith))
-      (λ t. v (valid-is u t)))
+      rw q (holds-safe board image m before (file .long) k _ refl
+      (ended-fits board m (file .long) (file .some) kind u k v) h (λ r. absurd (omega arith))
+      (λ t. let a = eqb-true k (total board m) (sym
+      (ends-asked Outcome.Valid u (total board m) k (ap paperOutcome (valid-is u t))) ∙ v) in omega arith))
 
   pub amid-safe : (o : Loss) (n : ℕ) (x : Moment) → Stage board image m before kind l n x
       → ended (x .session .phase) ≡ false → Safe board image m before (between board o x)

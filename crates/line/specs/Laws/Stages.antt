@@ -4,7 +4,7 @@ use mathlib.Core.Bool.{true, false}
 use mathlib.Core.List.{List, [], _∷_, map}
 use mathlib.Core.Path.{_≡_, refl, sym, ap, subst, _∙_}
 use native.Mathlib.Omega.{arith}
-use borrow.Author.Tests.{ltb-true, ltb-false}
+use borrow.Author.Tests.{eq-eqb, ltb-true, ltb-false}
 use lib.Dec.{ltb}
 use lib.ListN.{length, getD}
 use Rattle.basis.specs.Board.{openingByte}
@@ -29,13 +29,15 @@ use Rattle.packet.specs.Turn.{turnedOf}
 use Rattle.runs.specs.Pieces.{runLen}
 use Rattle.session.specs.Laws.Events.{greeting-heard}
 use Rattle.session.specs.Laws.Marks.{marked-late, marked-more, all-marked}
-use Rattle.session.specs.Laws.Series.{isAck, ack-or}
+use Rattle.session.specs.Endings.{isAck, asked, endsAt}
+use Rattle.session.specs.Laws.Endings.{fails-ends}
+use Rattle.session.specs.Laws.Series.{ack-or}
 use Rattle.session.specs.Laws.Starts.{piece-carried}
 use Rattle.session.specs.Laws.States.{phase-open}
 use Rattle.session.specs.Laws.Out.{Out, erases, writes, verifies, runs, out-after}
 use Rattle.session.specs.Phases.{ended, packetOut, verifyAt, placeOf, packetAt}
 use Rattle.session.specs.Plan.{total, pieceBytes, verifyPacket, beforeVerify, beforeR}
-use Rattle.session.specs.Session.{marked, failing, Loadable}
+use Rattle.session.specs.Session.{marked, Loadable}
 use Rattle.session.specs.declared.event.Event.{Event}
 use Rattle.session.specs.declared.phase.Outcome.{Outcome}
 use Rattle.session.specs.declared.phase.Phase.{Phase}
@@ -55,7 +57,7 @@ module _ (board : ℕ) (image m before : List ℕ) where
     stands : (e : Effect) (k : ℕ) → n ≡ k + 1 → k < total board m → e .loader ≡ serving l → Holds k (e .flash)
         → x ≡ standing board image m kind e k → Stage kind l n x
     ends : (e : Effect) (u : Outcome) (k : ℕ) → Holds k (e .flash)
-        → (u ≡ Outcome.Valid → beforeR board m ≤ k) → x ≡ over board m kind e u k → Stage kind l n x
+        → endsAt (asked kind) (total board m) u k ≡ true → x ≡ over board m kind e u k → Stage kind l n x
 
 -- ---- before the first V
 
@@ -196,18 +198,13 @@ module _ (board : ℕ) (few : board ≤ 255) (image m before : List ℕ) (file :
   abbrev start : Moment
   start = begun board m kind l before
 
-  -- an outcome that is a failure is not valid
-  not-late : {u : Outcome} {k : ℕ} → failing u k ≡ true → u ≡ Outcome.Valid
-      → beforeR board m ≤ k
-  not-late {u} {k} t e = absurd (true-false (sym t ∙ ap (λ (v : Outcome). failing v k) e))
-
   silent-stage : (o : Loss) → eventFrom (reply board o start) ≡ Event.Silence
       → At 1 (exchangeOf board image m o start)
   silent-stage o h =
       let s = on-silence board image m file kind o l before h in
       ends (opened board o l before) (s .0) 0
       (opening-holds board image m before (file .long) _ (first-flash board o l before size) size)
-      (not-late (s .1)) (s .2)
+      (fails-ends kind (s .0) (total board m) 0 (omega arith) (s .1)) (s .2)
 
   first-stage : (o : Loss) → At 1 (exchangeOf board image m o start)
   first-stage Loss.Whole =
@@ -238,7 +235,7 @@ module _ (board : ℕ) (few : board ≤ 255) (image m before : List ℕ) (file :
           let r = on-else board image m file kind o e k b t in
           ends _ (r .0) k
           (served-holds board few image m before file kind (e .loader) serves o (e .flash) k h b)
-          (not-late (r .1)) (r .2)
+          (fails-ends kind (r .0) (total board m) k b (r .1)) (r .2)
 
       on-it : eventFrom (reply board o here) ≡ Event.Ack → At (suc (k + 1)) (exchangeOf board image m o here)
       on-it t =
@@ -257,7 +254,7 @@ module _ (board : ℕ) (few : board ≤ 255) (image m before : List ℕ) (file :
           (λ d. let n : k + 1 ≡ total board m = omega (arith, ltb-false (k + 1) (total board m) d) in
           ends x Outcome.Valid (total board m)
           (subst (λ (j : ℕ). Holds board image m before j (x .flash)) n g)
-          (λ q. omega arith) (on-last board image m file kind o e k b n t))
+          (eq-eqb (total board m) (total board m) refl) (on-last board image m file kind o e k b n t))
 
   -- after any number of exchanges
   pub stage : (losses : ℕ → Loss) (n : ℕ) → At n (loadAt board image m kind l losses before n)

@@ -21,7 +21,8 @@ use Rattle.session.specs.Laws.Totals.{total-fits, total-least, named-fits}
 use Rattle.session.specs.Paper.{paperOutcome}
 use Rattle.session.specs.Phases.{ended}
 use Rattle.session.specs.Plan.{total}
-use Rattle.session.specs.Session.{sessionWith, Came, waits, stands, fails, ends, failing, atGreeting, series}
+use Rattle.session.specs.Endings.{failing}
+use Rattle.session.specs.Session.{sessionWith, Came, waits, stands, fails, ends, atGreeting, series}
 use Rattle.session.specs.declared.phase.Outcome.{Outcome}
 use Rattle.session.specs.declared.phase.Phase.{Phase}
 use Rattle.session.specs.declared.phase.RunKind.{RunKind}

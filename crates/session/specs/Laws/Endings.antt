@@ -1,13 +1,14 @@
 -- Laws of endings: with how many packets acknowledged each can come.
 use Prim.Native.Nat.{ℕ, _≤_, _<_}
 use mathlib.Core.Bool.{true, false}
-use mathlib.Core.Path.{_≡_}
+use mathlib.Core.Path.{_≡_, sym}
 use borrow.Author.Tests.{eq-eqb, ne-eqb, eqb-true, ltb-true, lt-ltb, le-ltb}
 use lib.Dec.{eqb, ltb}
-use Rattle.basis.specs.Laws.Choice.{decide, both-true}
-use Rattle.session.specs.Endings.{failing, endsAt}
+use Rattle.basis.specs.Laws.Choice.{decide, both-true, true-false}
+use Rattle.session.specs.Endings.{asked, failing, endsAt}
 use Rattle.session.specs.Paper.{paperOutcome}
 use Rattle.session.specs.declared.phase.Outcome.{Outcome}
+use Rattle.session.specs.declared.phase.RunKind.{RunKind}
 
 module _ (wish o : Outcome) (n k : ℕ) where
   -- the one that was asked for, once all are acknowledged
@@ -29,3 +30,12 @@ module _ (wish o : Outcome) (n k : ℕ) where
       decide (eqb (paperOutcome o) (paperOutcome wish))
       (λ t. all (eqb-true _ _ t) (eqb-true k n (rw t at h)))
       (λ t. let b = both-true (ltb k n) (failing o k) (rw t at h) in before (ltb-true _ _ (b .0)) (b .1))
+
+-- a failure is not what was asked for
+pub fails-ends : (kind : RunKind) (o : Outcome) (n k : ℕ) → k < n → failing o k ≡ true
+    → endsAt (asked kind) n o k ≡ true
+fails-ends kind Outcome.Valid n k l f = absurd (true-false (sym f))
+fails-ends kind Outcome.Silence n k l f = rw (lt-ltb k n l)
+fails-ends kind Outcome.Bel n k l f = rw (lt-ltb k n l)
+fails-ends kind Outcome.NoGreeting n k l f = rw (lt-ltb k n l) f
+fails-ends kind Outcome.Other n k l f = rw (lt-ltb k n l)

@@ -64,7 +64,7 @@ module _ (board : ℕ) (m : List ℕ) (kind : RunKind) (k : ℕ) where
   came-open Phase.Run h = refl
   came-open (Phase.Ended o) h = absurd (true-false h)
 
-  came-ended : (o : Outcome) → cameAt board m kind (Phase.Ended o) k ≡ endsAt (asked kind) (total board m) o k
+  pub came-ended : (o : Outcome) → cameAt board m kind (Phase.Ended o) k ≡ endsAt (asked kind) (total board m) o k
   unfolding cameAt
   came-ended o = refl
 
@@ -89,7 +89,7 @@ module _ (board : ℕ) (m : List ℕ) (long : length m ≡ mapBytes board) (kind
 
   -- the cursor stands at a start, and where it moves on it does so again
   pub came-start : (ph : Phase) → cameAt board m kind ph k ≡ true → atStart board m ph ≡ true
-  came-start ph h = 
+  came-start ph h =
       decide (ended ph) (λ e. ended-start ph e)
       (λ e. stands-start board m long ph k (sym (came-open board m kind k ph e) ∙ h))
     where

@@ -25,7 +25,7 @@ use Rattle.session.specs.declared.phase.RunKind.{RunKind}
 use Rattle.session.specs.declared.session.Session.{Session}
 
 -- after the end nothing changes
-series-ended : (board : ℕ) (m : List ℕ) (s : Session) (es : List Event) → ended (s .phase) ≡ true
+pub series-ended : (board : ℕ) (m : List ℕ) (s : Session) (es : List Event) → ended (s .phase) ≡ true
     → series board m s es ≡ s
 unfolding series
 series-ended board m s [] h = refl
@@ -75,14 +75,14 @@ ack-or Event.Bel f g = g refl
 ack-or Event.Other f g = g refl
 ack-or Event.Silence f g = g refl
 
-greeting-or : {R : Type 0} (e : Event) → (e ≡ Event.Greeting → R) → (isGreeting e ≡ false → R) → R
+pub greeting-or : {R : Type 0} (e : Event) → (e ≡ Event.Greeting → R) → (isGreeting e ≡ false → R) → R
 greeting-or Event.Greeting f g = f refl
 greeting-or Event.Ack f g = g refl
 greeting-or Event.Bel f g = g refl
 greeting-or Event.Other f g = g refl
 greeting-or Event.Silence f g = g refl
 
-series-nil : (board : ℕ) (m : List ℕ) (s : Session) → series board m s [] ≡ s
+pub series-nil : (board : ℕ) (m : List ℕ) (s : Session) → series board m s [] ≡ s
 unfolding series
 series-nil board m s = refl
 
@@ -162,26 +162,26 @@ module _ (board : ℕ) (m : List ℕ) (long : length m ≡ mapBytes board) (some
   came es = series-came es (atGreeting board m kind) (waits refl)
 
   -- an event taken
-  event-taken : (s : Session) (e : Event) (es : List Event) {t : Session} → ended (s .phase) ≡ false
+  pub event-taken : (s : Session) (e : Event) (es : List Event) {t : Session} → ended (s .phase) ≡ false
       → tookOf board m s e ≡ t → series board m s (e ∷ es) ≡ series board m t es
   unfolding series
   event-taken s e es h q = rw h (ap (λ (x : Session). series board m x es) q)
 
-  series-ack : (k : ℕ) (es : List Event) → k + 1 < total board m
+  pub series-ack : (k : ℕ) (es : List Event) → k + 1 < total board m
       → series board m (stateAt board m kind k) (Event.Ack ∷ es)
       ≡ series board m (stateAt board m kind (k + 1)) es
   series-ack k es l =
       event-taken (stateAt board m kind k) Event.Ack es (phase-open board m k)
       (ack-next board m long some kind k l)
 
-  series-last : (k : ℕ) (es : List Event) → k + 1 ≡ total board m
+  pub series-last : (k : ℕ) (es : List Event) → k + 1 ≡ total board m
       → series board m (stateAt board m kind k) (Event.Ack ∷ es) ≡ valid board m kind
   series-last k es l =
       event-taken (stateAt board m kind k) Event.Ack es (phase-open board m k)
       (ack-last board m long some kind k l)
       ∙ series-ended board m (valid board m kind) es refl
 
-  series-fails : (k : ℕ) (e : Event) (es : List Event) → isAck e ≡ false → k < total board m
+  pub series-fails : (k : ℕ) (e : Event) (es : List Event) → isAck e ≡ false → k < total board m
       → (o : Outcome) × (failing o k ≡ true)
       × (series board m (stateAt board m kind k) (e ∷ es) ≡ sessionWith board m kind (Phase.Ended o) k)
   series-fails k e es a l =
@@ -192,7 +192,7 @@ module _ (board : ℕ) (m : List ℕ) (long : length m ≡ mapBytes board) (some
             ∙ series-ended board m (sessionWith board m kind (Phase.Ended (f .0)) k) es refl,
       )
 
-  series-first : (es : List Event)
+  pub series-first : (es : List Event)
       → series board m (atGreeting board m kind) (Event.Greeting ∷ es)
       ≡ series board m (stateAt board m kind 0) es
   series-first es =
@@ -249,7 +249,7 @@ module _ (board : ℕ) (m : List ℕ) (long : length m ≡ mapBytes board) (some
       ∙ within n (k + 1) es (omega arith) (omega arith)))
       (λ a. is-over (series-fails k e es a (omega arith) .2))
 
-  first-fails : (e : Event) (es : List Event) → isGreeting e ≡ false
+  pub first-fails : (e : Event) (es : List Event) → isGreeting e ≡ false
       → (o : Outcome) × (failing o 0 ≡ true)
       × (series board m (atGreeting board m kind) (e ∷ es) ≡ sessionWith board m kind (Phase.Ended o) 0)
   first-fails e es a =

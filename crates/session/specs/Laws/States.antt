@@ -31,7 +31,7 @@ use Rattle.session.specs.declared.session.Session.{Session}
 -- ---- which counts go with the phases that have no cursor
 
 module _ (board : ℕ) (m : List ℕ) (k : ℕ) where
-  stands-greeting : standsAt board m Phase.Greeting k ≡ true → k ≡ 0
+  pub stands-greeting : standsAt board m Phase.Greeting k ≡ true → k ≡ 0
   unfolding standsAt
   stands-greeting h = eqb-true k 0 h
 
