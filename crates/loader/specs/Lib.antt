@@ -4,5 +4,6 @@ pub mod State
 pub mod Verify
 pub mod Commands
 pub mod Take
+pub mod Guard
 pub mod Paper
 pub mod Laws

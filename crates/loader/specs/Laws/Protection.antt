@@ -1,17 +1,18 @@
 -- Laws of protection: which groups a set has, and when the protection in force changes.
-use Prim.Native.Nat.{ℕ, _+_, _-_, _*_, _≤_, _<_}
+use Prim.Native.Nat.{ℕ, zero, suc, _+_, _-_, _*_, _≤_, _<_}
 use mathlib.Core.Bool.{Bool, true, false, not}
 use mathlib.Core.List.{List, []}
 use mathlib.Core.Path.{_≡_, refl, sym, subst, _∙_}
+use native.Mathlib.Nat.{add-zero}
 use native.Mathlib.Omega.{arith}
 use borrow.Author.Tests.{leb-true, leb-false, eqb-true}
 use lib.Dec.{leb, eqb}
 use lib.ListN.{length, getD}
 use Rattle.basis.specs.Bits.{bit}
 use Rattle.basis.specs.Board.{groupSize}
-use Rattle.basis.specs.Choice.{pick, either}
+use Rattle.basis.specs.Choice.{pick, either, any}
 use Rattle.basis.specs.Laws.Bits.{bit-or}
-use Rattle.basis.specs.Laws.Choice.{decide, true-false, either-first, any-none}
+use Rattle.basis.specs.Laws.Choice.{decide, true-false, either-first, either-second, any-none}
 use Rattle.basis.specs.Laws.Refusals.{skip, stop, done, by-table}
 use Rattle.basis.specs.Refusals.{Answer, given, Rule, first}
 use Rattle.basis.specs.Units.{groupOf, pageGroupOf, pageOf, startOf}
@@ -26,6 +27,17 @@ use Rattle.loader.specs.declared.state.Condition.the-variants.{Left}
 use Rattle.loader.specs.declared.state.Loader.{Loader}
 use Rattle.packet.specs.Packet.{Parts, readOf}
 use Rattle.packet.specs.Table.{eraseByte, writeByte, verifyByte, protectByte}
+
+-- where one of n from a on passes, the search finds one
+any-some : (p : ℕ → Bool) (a n j : ℕ) → j < n → p (a + j) ≡ true → any p a n ≡ true
+unfolding any
+any-some p a zero j h t = absurd (omega arith)
+any-some p a (suc n) zero h t =
+    either-first (p a) _ (subst (λ (x : ℕ). p x ≡ true) (add-zero a) t)
+any-some p a (suc n) (suc j) h t =
+    let e : a + suc j ≡ a + 1 + j = omega arith in
+    either-second (p a) (any p (a + 1) n)
+    (any-some p (a + 1) n j (omega arith) (subst (λ (x : ℕ). p x ≡ true) e t))
 
 -- bytes and pages are free when each of their groups is
 module _ (p : Protection) where
@@ -51,6 +63,23 @@ module _ (p : Protection) where
       free-bytes (startOf i) (startOf j) (omega arith)
       (λ b u v. let e : pageGroupOf (pageOf b) ≡ groupOf b = omega arith in
       subst Unprotected e (free (pageOf b) (omega arith) (omega arith)))
+
+-- and one of them that is not tells for all
+module _ (p : Protection) where
+  pub held-bytes : (a e b : ℕ) → a ≤ b → b < e → bit (p .groups) (groupOf b) ≡ true
+      → protectedBytes p a e ≡ true
+  held-bytes a e b low high t =
+      any-some (bit (p .groups)) (groupOf a) (groupOf (e + (groupSize - 1)) - groupOf a) (groupOf b - groupOf a)
+      (omega arith)
+      (let u : groupOf b ≡ groupOf a + (groupOf b - groupOf a) = omega arith in
+      subst (λ (g : ℕ). bit (p .groups) g ≡ true) u t)
+
+  pub held-pages : (i j q : ℕ) → i ≤ q → q < j → bit (p .groups) (pageGroupOf q) ≡ true
+      → protectedPages p i j ≡ true
+  held-pages i j q low high t =
+      held-bytes (startOf i) (startOf j) (startOf q) (omega arith) (omega arith)
+      (let u : pageGroupOf q ≡ groupOf (startOf q) = omega arith in
+      subst (λ (g : ℕ). bit (p .groups) g ≡ true) u t)
 
 -- what a join protects
 join-groups : (p q : Protection) (g : ℕ)
