@@ -21,7 +21,7 @@ use Rattle.loader.specs.Commands.{Effect, effectAfter, massErase, eraseR
 use Rattle.loader.specs.Guard.{guardedByte, guardedPage, afterAddress, massErases, accepts}
 use Rattle.loader.specs.Laws.Commands.{either-way, erase-let, erase-protected, erasing-open, erasing-pages, write-let, write-protected, verify-let, obey-erase, obey-write, obey-verify}
 use Rattle.loader.specs.Laws.Host.{flash-kept}
-use Rattle.loader.specs.Laws.Protection.{held-bytes, held-pages}
+use Rattle.loader.specs.Laws.Protection.{held-bytes, held-pages, unmassed}
 use Rattle.loader.specs.Laws.Take.{take-heard, heard-serving, served-packet, any-input}
 use Rattle.loader.specs.State.{withCondition}
 use Rattle.loader.specs.Take.{waiting, unheard, serveOf, hearOf, takeOf, sentData}
@@ -140,11 +140,6 @@ module _ (board : ℕ) (l : Loader) (a : ℕ) (f : List ℕ) (b : ℕ) (g : guar
       (λ t. decide (eqb c writeByte)
       (λ u. rw (eqb-true c writeByte u, obey-write board l a d f) (writing-stays d))
       (λ u. rw (flash-kept board l c a d f (eqb-false c eraseByte t) (eqb-false c writeByte u))))
-
--- an input that is no mass erase, as a packet
-unmassed : (s : List ℕ) → massErases s ≡ false → (p : Parts) → readOf s ≡ given p → p .command ≡ eraseByte
-    → massErase (p .address) (afterAddress s p) ≡ false
-unmassed s h p r c = let t = rw (r, c) at h in t
 
 -- ---- a packet at the entry
 
