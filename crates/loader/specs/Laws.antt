@@ -4,5 +4,6 @@ pub mod Take
 pub mod Host
 pub mod Protection
 pub mod Guard
+pub mod Key
 pub mod Determined
 pub mod Cases
