@@ -60,3 +60,10 @@ courseOf board l f (input s room ∷ es) =
       loader = rest .loader;
       flash = rest .flash;
     }
+
+-- two series go alike: the same is brought to light, flash is the same at the end,
+-- and so are the loaders but for the key
+pub record CourseAlike (c d : Course) : Type 0 where
+  pub told-same : c .told ≡ d .told
+  pub flash-same : c .flash ≡ d .flash
+  pub loader-same : unkeyed (c .loader) ≡ unkeyed (d .loader)

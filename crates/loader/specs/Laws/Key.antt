@@ -14,8 +14,8 @@ use Rattle.loader.specs.Commands.{Effect, effectAfter, massErase, eraseR
 use Rattle.loader.specs.Guard.{closes}
 use Rattle.loader.specs.Laws.Protection.{unclosed}
 use Rattle.loader.specs.Protection.{none}
-use Rattle.loader.specs.Series.{unkeyed, unadded, TakenAlike}
-use Rattle.loader.specs.State.{withCondition, withAdded, joinedOf, clearedOf}
+use Rattle.loader.specs.Series.{unkeyed, unadded, TakenAlike, Event, input, reset, courseOf, CourseAlike}
+use Rattle.loader.specs.State.{resetOf, withCondition, withAdded, joinedOf, clearedOf}
 use Rattle.loader.specs.Take.{waiting, sentData, obeyed, serveOf, hearOf, takeOf, tellOf}
 use Rattle.loader.specs.declared.state.Condition.{Condition}
 use Rattle.loader.specs.declared.state.Condition.the-variants.{Left, Serving}
@@ -219,6 +219,26 @@ pub key-unseen : (board : ℕ) (l k : Loader) (s f : List ℕ) (room : ℕ) → 
 key-unseen board l k s f room q =
     taken-alike unkeyed unkeyed-view l k q board s f room
     (λ t a. ap (λ (m : Loader). unkeyed (joinedOf m a)) q)
+
+-- and so every series of inputs, and of resets between them
+pub key-unseen-series : (board : ℕ) (l k : Loader) (f : List ℕ) (es : List Event) → unkeyed l ≡ unkeyed k
+    → CourseAlike (courseOf board l f es) (courseOf board k f es)
+unfolding courseOf
+key-unseen-series board l k f [] q = record { told-same = refl; flash-same = refl; loader-same = q }
+key-unseen-series board l k f (reset ∷ es) q =
+    key-unseen-series board (resetOf l) (resetOf k) f es (ap resetOf q)
+key-unseen-series board l k f (input s room ∷ es) q =
+    let a = key-unseen board l k s f room q in
+    let m = effectAfter l f (takeOf board l s f room) in
+    let n = effectAfter k f (takeOf board k s f room) in
+    let rest = subst (λ (g : List ℕ). CourseAlike (courseOf board (m .loader) (m .flash) es)
+    (courseOf board (n .loader) g es)) (a .flash-same)
+    (key-unseen-series board (m .loader) (n .loader) (m .flash) es (a .loader-same)) in
+    record {
+      told-same = λ i. record { verdict = a .verdict-same i; answer = a .answer-same i } ∷ rest .told-same i;
+      flash-same = rest .flash-same;
+      loader-same = rest .loader-same;
+    }
 
 -- ---- what a sequence has added
 
