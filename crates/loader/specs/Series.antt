@@ -9,7 +9,7 @@ use Rattle.loader.specs.State.{resetOf}
 use Rattle.loader.specs.Take.{takeOf, answerBytes}
 use Rattle.loader.specs.declared.state.Loader.{Loader}
 
--- a loader but for its key: two that are alike so differ in the key at most
+-- a loader but for its key: two loaders that are equal so differ in the key at most
 abbrev pub unkeyed : Loader → Loader
 unkeyed l = record { condition = l .condition; sequence = l .sequence; protection = l .protection; key = 0 }
 
@@ -29,7 +29,8 @@ pub record TakenAlike (hide : Loader → Loader) (board : ℕ) (l k : Loader) (s
     : Type 0 where
   pub verdict-same : bare (takeOf board l s f room) ≡ bare (takeOf board k s f room)
   pub answer-same : answerBytes l (takeOf board l s f room) ≡ answerBytes k (takeOf board k s f room)
-  pub flash-same : effectAfter l f (takeOf board l s f room) .flash ≡ effectAfter k f (takeOf board k s f room) .flash
+  pub flash-same : effectAfter l f (takeOf board l s f room) .flash
+      ≡ effectAfter k f (takeOf board k s f room) .flash
   pub loader-same : hide (effectAfter l f (takeOf board l s f room) .loader)
       ≡ hide (effectAfter k f (takeOf board k s f room) .loader)
 

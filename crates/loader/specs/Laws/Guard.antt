@@ -12,11 +12,12 @@ use Rattle.basis.specs.Board.{pageSize, answerMost, openingByte}
 use Rattle.basis.specs.Choice.{pick, both}
 use Rattle.basis.specs.Laws.Choice.{decide, true-false, both-true, both-false}
 use Rattle.basis.specs.Laws.Lists.{stored-below, stored-above}
-use Rattle.basis.specs.Laws.Refusals.{apart, skip, stop, passed, done}
+use Rattle.basis.specs.Laws.Refusals.{apart, skip, stop, passed, done, by-table}
 use Rattle.basis.specs.Lists.{new}
 use Rattle.basis.specs.Refusals.{Answer, refused, given, first}
 use Rattle.basis.specs.Units.{groupOf, pageGroupOf, pageOf, startOf}
 use Rattle.image.specs.Flash.{eraseOf}
+use Rattle.image.specs.Laws.Flash.{length-erase, length-store}
 use Rattle.loader.specs.Commands.{Effect, effectAfter, massErase, eraseRows, erasing, writeRows, writing, verifyRows, running, keeping, obeyOf}
 use Rattle.loader.specs.Guard.{guardedByte, guardedPage, afterAddress, massErases, accepts}
 use Rattle.loader.specs.Laws.Commands.{either-way, erase-let, erase-protected, erasing-open, erasing-pages, write-let, write-protected, verify-let, obey-erase, obey-write, obey-verify}
@@ -81,14 +82,42 @@ module _ (board : ℕ) (l : Loader) (a : ℕ) (f : List ℕ) where
   obeying-open c d o h =
       rw (ne-eqb c protectByte h, o) (go (eqb c eraseByte) (eqb c writeByte) (eqb c verifyByte))
     where
-      go : (x y z : Bool)
-          → _≡_ {A = Answer Effect} (pick x (refused 9) (pick y (refused 9) (pick z (refused 9) (refused 9)))) (refused 9)
+      nine : Answer Effect
+      nine = refused 9
+
+      go : (x y z : Bool) → pick x nine (pick y nine (pick z nine nine)) ≡ nine
       go true y z = refl
       go false true z = refl
       go false false true = refl
       go false false false = refl
 
--- ---- what the commands leave of a protected byte
+-- ---- what the commands leave of flash
+
+module _ (board : ℕ) (l : Loader) (a : ℕ) (f : List ℕ) where
+  abbrev Long : Answer Effect → Type 0
+  Long x = length (effectAfter l f x .flash) ≡ length f
+
+  erasing-long : (n : ℕ) → Long (erasing board l a n f)
+  unfolding erasing
+  erasing-long n =
+      by-table Long _ _ (λ n. refl)
+      (decide (massErase a n)
+      (λ t. rw t (length-erase f 0 (length f)))
+      (λ t. rw t
+      (by-table Long (eraseRows board l a n) _ (λ n. refl)
+      (length-erase f (startOf (pageOf a)) (n * pageSize)))))
+
+  obeying-long : (c : ℕ) (d : List ℕ) → Long (obeyOf board l c a d f)
+  unfolding writing
+  obeying-long c d =
+      decide (eqb c eraseByte)
+      (λ t. rw (eqb-true c eraseByte t, obey-erase board l a d f) (erasing-long (getD d 0 0)))
+      (λ t. decide (eqb c writeByte)
+      (λ u. rw (eqb-true c writeByte u, obey-write board l a d f)
+      (by-table Long (writeRows board l a (length d)) _ (λ n. refl) (length-store f a d)))
+      (λ u. rw (flash-kept board l c a d f (eqb-false c eraseByte t) (eqb-false c writeByte u))))
+
+-- and of a protected byte
 
 module _ (board : ℕ) (l : Loader) (a : ℕ) (f : List ℕ) (b : ℕ) (g : guardedByte l b ≡ true) where
   abbrev Stays : Effect → Type 0
@@ -136,7 +165,8 @@ module _ (board : ℕ) (l : Loader) (a : ℕ) (f : List ℕ) (b : ℕ) (g : guar
       → Stays (effectAfter l f (obeyOf board l c a d f))
   obeying-stays c d m =
       decide (eqb c eraseByte)
-      (λ t. let e = eqb-true c eraseByte t in rw (e, obey-erase board l a d f) (erasing-stays (getD d 0 0) (m e)))
+      (λ t. let e = eqb-true c eraseByte t in
+      rw (e, obey-erase board l a d f) (erasing-stays (getD d 0 0) (m e)))
       (λ t. decide (eqb c writeByte)
       (λ u. rw (eqb-true c writeByte u, obey-write board l a d f) (writing-stays d))
       (λ u. rw (flash-kept board l c a d f (eqb-false c eraseByte t) (eqb-false c writeByte u))))
@@ -163,7 +193,8 @@ module _ (board : ℕ) (l : Loader) (s f : List ℕ) (room : ℕ) (p : Parts) (r
       go (l .condition) (u .0) (sym (done _) ∙ u .1)
     where
       go : (c : Condition) → unheard c s ≡ false
-          → pick (waiting c) (given (record { loader = withCondition l Serving; flash = f })) (serveOf board l s f)
+          → pick (waiting c) (given (record { loader = withCondition l Serving; flash = f }))
+          (serveOf board l s f)
           ≡ given e
           → obeys ≡ given e
       go Waiting h q =
@@ -225,7 +256,8 @@ module _ (board : ℕ) (l : Loader) (s f : List ℕ) (room : ℕ) (p : Parts) (r
         ∙ erasing-pages board l (p .address) (afterAddress s p) f o
         (no-mass board l (p .address) f (afterAddress s p) q low high)
         ∙ erase-protected board l (p .address) (afterAddress s p) _ (λ z. omega arith) (omega arith) h
-        (held-pages (l .protection) (pageOf (p .address)) (pageOf (p .address) + afterAddress s p) q low high g)
+        (held-pages (l .protection) (pageOf (p .address)) (pageOf (p .address) + afterAddress s p) q low high
+        g)
 
   -- ---- V under read protection
   module _ (w : p .command ≡ verifyByte) (g : l .protection .read ≡ true) where
@@ -257,6 +289,13 @@ module _ (board : ℕ) (l : Loader) (s f : List ℕ) (room : ℕ) (p : Parts) (r
       packet-taken size fits c ∙ obeying-open board l (p .address) f (p .command) (sentData s p) o h
 
 -- ---- what stays
+
+-- flash is as long as it was, whatever the input
+pub length-stays : (board : ℕ) (l : Loader) (s f : List ℕ) (room : ℕ)
+    → length (effectAfter l f (takeOf board l s f room) .flash) ≡ length f
+length-stays board l s f room =
+    any-input (λ (e : Effect). length (e .flash) ≡ length f) board l s f room refl refl
+    (λ p r. obeying-long board l (p .address) f (p .command) (sentData s p))
 
 -- under an open sequence no input changes flash
 pub open-stays : (board : ℕ) (l : Loader) (s f : List ℕ) (room : ℕ) → l .sequence .opened ≡ true

@@ -17,21 +17,24 @@ use Rattle.loader.specs.Protection.{none}
 use Rattle.loader.specs.Series.{unkeyed, unadded, TakenAlike, Event, input, reset, courseOf, CourseAlike}
 use Rattle.loader.specs.State.{resetOf, withCondition, withAdded, joinedOf, clearedOf}
 use Rattle.loader.specs.Take.{waiting, sentData, obeyed, serveOf, hearOf, takeOf, tellOf}
+use Rattle.loader.specs.declared.protection.Protection.{Protection}
 use Rattle.loader.specs.declared.state.Condition.{Condition}
 use Rattle.loader.specs.declared.state.Condition.the-variants.{Left, Serving}
 use Rattle.loader.specs.declared.state.Loader.{Loader}
 use Rattle.packet.specs.Packet.{Parts, readOf}
 use Rattle.packet.specs.Table.{eraseByte, writeByte, verifyByte, protectByte}
 
+-- what the entry's tests look at
+abbrev tested : Loader → Condition × Bool × Protection
+tested l = (l .condition, l .sequence .opened, l .protection)
+
 -- a view of the loader goes through a change: what it shows afterwards is told by what it shows before
 abbrev Through : (Loader → Loader) → (Loader → Loader) → Type 0
 Through hide op = (l : Loader) → hide (op l) ≡ hide (op (hide l))
 
--- a view that shows all that the entry tests, and goes through every change but the closing of a sequence
+-- a view that shows all that is tested, and goes through every change but the closing of a sequence
 record View (hide : Loader → Loader) : Type 0 where
-  condition-shown : (l : Loader) → hide l .condition ≡ l .condition
-  opened-shown : (l : Loader) → hide l .sequence .opened ≡ l .sequence .opened
-  protection-shown : (l : Loader) → hide l .protection ≡ l .protection
+  shown : (l : Loader) → tested (hide l) ≡ tested l
   set : (c : Condition) → Through hide (λ l. withCondition l c)
   cleared : Through hide clearedOf
   begun : Through hide (λ l. withAdded l none)
@@ -68,23 +71,24 @@ module _ (hide : Loader → Loader) where
       go (given w) = both-given f q
 
   -- one choice, of what looks alike
-  pick-alike : (t : Bool) {a b c d : Answer Effect} → (t ≡ true → Alike hide a b) → (t ≡ false → Alike hide c d)
+  pick-alike : (t : Bool) {a b c d : Answer Effect} → (t ≡ true → Alike hide a b)
+      → (t ≡ false → Alike hide c d)
       → Alike hide (pick t a c) (pick t b d)
   pick-alike true x y = x refl
   pick-alike false x y = y refl
 
 module _ (hide : Loader → Loader) (v : View hide) (l k : Loader) (q : hide l ≡ hide k) where
+  tested-same : tested l ≡ tested k
+  tested-same = sym (v .shown l) ∙ ap tested q ∙ v .shown k
+
   condition-same : l .condition ≡ k .condition
-  condition-same =
-      sym (v .condition-shown l) ∙ ap (λ (m : Loader). m .condition) q ∙ v .condition-shown k
+  condition-same = ap (λ (t : Condition × Bool × Protection). t .0) tested-same
 
   opened-same : l .sequence .opened ≡ k .sequence .opened
-  opened-same =
-      sym (v .opened-shown l) ∙ ap (λ (m : Loader). m .sequence .opened) q ∙ v .opened-shown k
+  opened-same = ap (λ (t : Condition × Bool × Protection). t .1) tested-same
 
   protection-same : l .protection ≡ k .protection
-  protection-same =
-      sym (v .protection-shown l) ∙ ap (λ (m : Loader). m .protection) q ∙ v .protection-shown k
+  protection-same = ap (λ (t : Condition × Bool × Protection). t .2) tested-same
 
   -- after a change that the view goes through the two look alike again
   through : (op : Loader → Loader) → Through hide op → hide (op l) ≡ hide (op k)
@@ -115,21 +119,21 @@ module _ (hide : Loader → Loader) (v : View hide) (l k : Loader) (q : hide l �
     running-alike =
         kept-alike hide f (rw opened-same) (through (λ m. withCondition m Left) (v .set Left))
 
-    -- the one change that a view need not go through: where it does not, no type may come that makes it
-    module _ (t : ℕ) (joins : either (eqb t 0x00) (eqb t 0x0F) ≡ false → hide (joinedOf l a) ≡ hide (joinedOf k a))
-        where
-      protecting-alike : Alike hide (keeping f (protecting board l a t)) (keeping f (protecting board k a t))
-      unfolding protecting opening adding closing
-      protecting-alike = go (eqb t 0x00) (eqb t 0x0F) joins
-        where
-          go : (o g : Bool) → (either o g ≡ false → hide (joinedOf l a) ≡ hide (joinedOf k a))
-              → Alike hide (keeping f (pick o (opening l) (pick g (adding board l a) (closing l a))))
-              (keeping f (pick o (opening k) (pick g (adding board k a) (closing k a))))
-          go true g j = kept-alike hide f (rw opened-same) (through (λ m. withAdded m none) (v .begun))
-          go false true j =
-              kept-alike hide f (rw opened-same)
-              (through (λ m. withAdded m (addedOf board (m .sequence .added) a)) (v .added board a))
-          go false false j = kept-alike hide f (rw opened-same) (j refl)
+    -- the closing of a sequence must look alike where a type comes that makes it
+    protecting-alike : (t : ℕ)
+        → (either (eqb t 0x00) (eqb t 0x0F) ≡ false → hide (joinedOf l a) ≡ hide (joinedOf k a))
+        → Alike hide (keeping f (protecting board l a t)) (keeping f (protecting board k a t))
+    unfolding protecting opening adding closing
+    protecting-alike t joins = go (eqb t 0x00) (eqb t 0x0F) joins
+      where
+        go : (o g : Bool) → (either o g ≡ false → hide (joinedOf l a) ≡ hide (joinedOf k a))
+            → Alike hide (keeping f (pick o (opening l) (pick g (adding board l a) (closing l a))))
+            (keeping f (pick o (opening k) (pick g (adding board k a) (closing k a))))
+        go true g j = kept-alike hide f (rw opened-same) (through (λ m. withAdded m none) (v .begun))
+        go false true j =
+            kept-alike hide f (rw opened-same)
+            (through (λ m. withAdded m (addedOf board (m .sequence .added) a)) (v .added board a))
+        go false false j = kept-alike hide f (rw opened-same) (j refl)
 
     obeying-alike : (c : ℕ) (d : List ℕ)
         → (c ≡ protectByte → either (eqb (getD d 0 0) 0x00) (eqb (getD d 0 0) 0x0F) ≡ false
@@ -190,7 +194,8 @@ module _ (hide : Loader → Loader) (v : View hide) (l k : Loader) (q : hide l �
         loader (both-refused n) = q
         loader (both-given g e) = e
 
-        go : Alike hide (takeOf board l s f room) (takeOf board k s f room) → TakenAlike hide board l k s f room
+        go : Alike hide (takeOf board l s f room) (takeOf board k s f room)
+            → TakenAlike hide board l k s f room
         go a =
             record {
               verdict-same = verdict a;
@@ -204,9 +209,7 @@ module _ (hide : Loader → Loader) (v : View hide) (l k : Loader) (q : hide l �
 unkeyed-view : View unkeyed
 unkeyed-view =
     record {
-      condition-shown = λ l. refl;
-      opened-shown = λ l. refl;
-      protection-shown = λ l. refl;
+      shown = λ l. refl;
       set = λ c l. refl;
       cleared = λ l. refl;
       begun = λ l. refl;
@@ -245,9 +248,7 @@ key-unseen-series board l k f (input s room ∷ es) q =
 unadded-view : View unadded
 unadded-view =
     record {
-      condition-shown = λ l. refl;
-      opened-shown = λ l. refl;
-      protection-shown = λ l. refl;
+      shown = λ l. refl;
       set = λ c l. refl;
       cleared = λ l. refl;
       begun = λ l. refl;

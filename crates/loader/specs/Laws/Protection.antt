@@ -1,4 +1,4 @@
--- Laws of protection: which groups a set has, and when the protection in force changes.
+-- Laws of protection: which groups a set has, and when the protection and the key in force change.
 use Prim.Native.Nat.{ℕ, zero, suc, _+_, _-_, _*_, _≤_, _<_}
 use mathlib.Core.Bool.{Bool, true, false, not}
 use mathlib.Core.List.{List, []}
@@ -67,12 +67,12 @@ module _ (p : Protection) where
       (λ b u v. let e : pageGroupOf (pageOf b) ≡ groupOf b = omega arith in
       subst Unprotected e (free (pageOf b) (omega arith) (omega arith)))
 
--- and one of them that is not tells for all
-module _ (p : Protection) where
+  -- one byte or page whose group is not free tells for all
   pub held-bytes : (a e b : ℕ) → a ≤ b → b < e → bit (p .groups) (groupOf b) ≡ true
       → protectedBytes p a e ≡ true
   held-bytes a e b low high t =
-      any-some (bit (p .groups)) (groupOf a) (groupOf (e + (groupSize - 1)) - groupOf a) (groupOf b - groupOf a)
+      any-some (bit (p .groups)) (groupOf a) (groupOf (e + (groupSize - 1)) - groupOf a)
+      (groupOf b - groupOf a)
       (omega arith)
       (let u : groupOf b ≡ groupOf a + (groupOf b - groupOf a) = omega arith in
       subst (λ (g : ℕ). bit (p .groups) g ≡ true) u t)
@@ -113,14 +113,14 @@ module _ (s : List ℕ) where
       let n : eqb (afterAddress s p) 0x01 ≡ false = rw (r, c) at h in
       rw (n, either-no) at u
 
--- ---- the protection in force
+-- ---- what is in force
 
 -- what a table guards and what it leaves agree on something, so the outcome does
 held : {X : Type 0} (see : Loader → X) (l m : Loader) (t : List Rule) → see m ≡ see l
     → see (loaderAfter l (first t (given m))) ≡ see l
 held see l m t e = by-table (λ (x : Answer Loader). see (loaderAfter l x) ≡ see l) t (given m) (λ n. refl) e
 
--- what is in force: the protection and the key
+-- the protection and the key
 abbrev force : Loader → Protection × ℕ
 force l = (l .protection, l .key)
 
