@@ -35,8 +35,7 @@ use Rattle.packet.specs.Table.{eraseByte, writeByte, verifyByte, protectByte, p
 any-some : (p : ℕ → Bool) (a n j : ℕ) → j < n → p (a + j) ≡ true → any p a n ≡ true
 unfolding any
 any-some p a zero j h t = absurd (omega arith)
-any-some p a (suc n) zero h t =
-    either-first (p a) _ (subst (λ (x : ℕ). p x ≡ true) (add-zero a) t)
+any-some p a (suc n) zero h t = either-first (p a) _ (subst (λ (x : ℕ). p x ≡ true) (add-zero a) t)
 any-some p a (suc n) (suc j) h t =
     let e : a + suc j ≡ a + 1 + j = omega arith in
     either-second (p a) (any p (a + 1) n)
@@ -168,7 +167,8 @@ pub force-by : (board : ℕ) (l : Loader) (s f : List ℕ) (room : ℕ) → mass
     → force (effectAfter l f (takeOf board l s f room) .loader) ≡ force l
 force-by board l s f room m n =
     any-input (λ (e : Effect). force (e .loader) ≡ force l) board l s f room refl refl
-    (λ p r. force-kept board l (p .address) (p .command) (sentData s p) f (unmassed s m p r) (unclosed s n p r))
+    (λ p r. force-kept board l (p .address) (p .command) (sentData s p) f (unmassed s m p r)
+    (unclosed s n p r))
 
 -- and by the latter it grows: no group and no read protection is lost
 pub close-grows : (l : Loader) (a g : ℕ) → bit (l .protection .groups) g ≡ true
