@@ -3,5 +3,7 @@ pub mod Verify
 pub mod Take
 pub mod Host
 pub mod Protection
+pub mod Guard
+pub mod Key
 pub mod Determined
 pub mod Cases

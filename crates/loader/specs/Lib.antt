@@ -4,5 +4,7 @@ pub mod State
 pub mod Verify
 pub mod Commands
 pub mod Take
+pub mod Guard
+pub mod Series
 pub mod Paper
 pub mod Laws

@@ -65,7 +65,7 @@ module _ (board : ℕ) (l : Loader) (f : List ℕ) (room : ℕ) (size : length f
 pub kept : (l : Loader) (f : List ℕ) (x : Answer Loader) → effectAfter l f (keeping f x) .flash ≡ f
 kept l f x = ap (λ (e : Effect). e .flash) (keeping-is l f x)
 
-flash-kept : (board : ℕ) (l : Loader) (c a : ℕ) (d f : List ℕ) → (c ≡ eraseByte → ⊥) → (c ≡ writeByte → ⊥)
+pub flash-kept : (board : ℕ) (l : Loader) (c a : ℕ) (d f : List ℕ) → (c ≡ eraseByte → ⊥) → (c ≡ writeByte → ⊥)
     → effectAfter l f (obeyOf board l c a d f) .flash ≡ f
 unfolding obeyOf
 flash-kept board l c a d f e w =

@@ -1,21 +1,24 @@
--- Laws of protection: which groups a set has, and when the protection in force changes.
-use Prim.Native.Nat.{ℕ, _+_, _-_, _*_, _≤_, _<_}
+-- Laws of protection: which groups a set has, and when the protection and the key in force change.
+use Prim.Native.Nat.{ℕ, zero, suc, _+_, _-_, _*_, _≤_, _<_}
 use mathlib.Core.Bool.{Bool, true, false, not}
 use mathlib.Core.List.{List, []}
-use mathlib.Core.Path.{_≡_, refl, sym, subst, _∙_}
+use mathlib.Core.Path.{_≡_, refl, sym, ap, subst, _∙_}
+use native.Mathlib.Nat.{add-zero}
 use native.Mathlib.Omega.{arith}
 use borrow.Author.Tests.{leb-true, leb-false, eqb-true}
 use lib.Dec.{leb, eqb}
-use lib.ListN.{length, getD}
+use lib.ListN.{length, getD, drop}
+use lib.Seq.{getD-take, getD-drop}
 use Rattle.basis.specs.Bits.{bit}
 use Rattle.basis.specs.Board.{groupSize}
-use Rattle.basis.specs.Choice.{pick, either}
+use Rattle.basis.specs.Choice.{pick, either, any}
 use Rattle.basis.specs.Laws.Bits.{bit-or}
-use Rattle.basis.specs.Laws.Choice.{decide, true-false, either-first, any-none}
+use Rattle.basis.specs.Laws.Choice.{decide, true-false, both-true, either-no, either-first, either-second, any-none}
 use Rattle.basis.specs.Laws.Refusals.{skip, stop, done, by-table}
 use Rattle.basis.specs.Refusals.{Answer, given, Rule, first}
 use Rattle.basis.specs.Units.{groupOf, pageGroupOf, pageOf, startOf}
 use Rattle.loader.specs.Commands.{Effect, protectedPages, protectedBytes, massErase, eraseRows, erasing, writeRows, writing, verifyRows, opening, addedOf, adding, closing, protecting, running, obeyOf, loaderAfter, effectAfter}
+use Rattle.loader.specs.Guard.{afterAddress, massErases, closes}
 use Rattle.loader.specs.Laws.Commands.{either-way, erasing-open, erasing-pages, keeping-is}
 use Rattle.loader.specs.Laws.Take.{any-input}
 use Rattle.loader.specs.Protection.{none, joinOf}
@@ -24,8 +27,19 @@ use Rattle.loader.specs.Take.{sentData, takeOf}
 use Rattle.loader.specs.declared.protection.Protection.{Protection}
 use Rattle.loader.specs.declared.state.Condition.the-variants.{Left}
 use Rattle.loader.specs.declared.state.Loader.{Loader}
-use Rattle.packet.specs.Packet.{Parts, readOf}
-use Rattle.packet.specs.Table.{eraseByte, writeByte, verifyByte, protectByte}
+use Rattle.packet.specs.Laws.Packet.{accepted}
+use Rattle.packet.specs.Packet.{count, command, kind, Parts, parts, readOf}
+use Rattle.packet.specs.Table.{eraseByte, writeByte, verifyByte, protectByte, protectType}
+
+-- where one of n from a on passes, the search finds one
+any-some : (p : ℕ → Bool) (a n j : ℕ) → j < n → p (a + j) ≡ true → any p a n ≡ true
+unfolding any
+any-some p a zero j h t = absurd (omega arith)
+any-some p a (suc n) zero h t = either-first (p a) _ (subst (λ (x : ℕ). p x ≡ true) (add-zero a) t)
+any-some p a (suc n) (suc j) h t =
+    let e : a + suc j ≡ a + 1 + j = omega arith in
+    either-second (p a) (any p (a + 1) n)
+    (any-some p (a + 1) n j (omega arith) (subst (λ (x : ℕ). p x ≡ true) e t))
 
 -- bytes and pages are free when each of their groups is
 module _ (p : Protection) where
@@ -52,20 +66,62 @@ module _ (p : Protection) where
       (λ b u v. let e : pageGroupOf (pageOf b) ≡ groupOf b = omega arith in
       subst Unprotected e (free (pageOf b) (omega arith) (omega arith)))
 
+  -- one byte or page whose group is not free tells for all
+  pub held-bytes : (a e b : ℕ) → a ≤ b → b < e → bit (p .groups) (groupOf b) ≡ true
+      → protectedBytes p a e ≡ true
+  held-bytes a e b low high t =
+      any-some (bit (p .groups)) (groupOf a) (groupOf (e + (groupSize - 1)) - groupOf a)
+      (groupOf b - groupOf a)
+      (omega arith)
+      (let u : groupOf b ≡ groupOf a + (groupOf b - groupOf a) = omega arith in
+      subst (λ (g : ℕ). bit (p .groups) g ≡ true) u t)
+
+  pub held-pages : (i j q : ℕ) → i ≤ q → q < j → bit (p .groups) (pageGroupOf q) ≡ true
+      → protectedPages p i j ≡ true
+  held-pages i j q low high t =
+      held-bytes (startOf i) (startOf j) (startOf q) (omega arith) (omega arith)
+      (let u : pageGroupOf q ≡ groupOf (startOf q) = omega arith in
+      subst (λ (g : ℕ). bit (p .groups) g ≡ true) u t)
+
 -- what a join protects
 join-groups : (p q : Protection) (g : ℕ)
     → bit (joinOf p q .groups) g ≡ either (bit (p .groups) g) (bit (q .groups) g)
 join-groups p q g = bit-or (p .groups) (q .groups) g
 
--- ---- the protection in force
+-- ---- an input that is no mass erase, or no P of type 0x01, as the packet that it is
+
+module _ (s : List ℕ) where
+  pub unmassed : massErases s ≡ false → (p : Parts) → readOf s ≡ given p → p .command ≡ eraseByte
+      → massErase (p .address) (afterAddress s p) ≡ false
+  unmassed h p r c = let t = rw (r, c) at h in t
+
+  -- the byte after the address is where the command table looked for P's type
+  type-sent : count s ≡ 6 → afterAddress s (parts s) ≡ kind s
+  type-sent e = getD-take (count s - 5) (drop 8 s) 0 0 (omega arith) ∙ getD-drop 8 s 0 0
+
+  -- the table has let no type through but 0x00, 0x0F and 0x01
+  pub unclosed : closes s ≡ false → (p : Parts) → readOf s ≡ given p → p .command ≡ protectByte
+      → either (eqb (afterAddress s p) 0x00) (eqb (afterAddress s p) 0x0F) ≡ true
+  unclosed h p r c =
+      let a = accepted s p r in
+      let b : command s ≡ protectByte = ap (λ (x : Parts). x .command) (a .says) ∙ c in
+      let t = both-true (eqb (count s) 6) (protectType (kind s)) (rw b at (a .shape)) in
+      let e : kind s ≡ afterAddress s p = sym (type-sent (eqb-true (count s) 6 (t .0))) ∙ ap (afterAddress s)
+      (a .says) in
+      let u : protectType (afterAddress s p) ≡ true = rw e at (t .1) in
+      let n : eqb (afterAddress s p) 0x01 ≡ false = rw (r, c) at h in
+      rw (n, either-no) at u
+
+-- ---- what is in force
 
 -- what a table guards and what it leaves agree on something, so the outcome does
 held : {X : Type 0} (see : Loader → X) (l m : Loader) (t : List Rule) → see m ≡ see l
     → see (loaderAfter l (first t (given m))) ≡ see l
 held see l m t e = by-table (λ (x : Answer Loader). see (loaderAfter l x) ≡ see l) t (given m) (λ n. refl) e
 
-abbrev force : Loader → Protection
-force l = l .protection
+-- the protection and the key
+abbrev force : Loader → Protection × ℕ
+force l = (l .protection, l .key)
 
 module _ (board : ℕ) (l : Loader) (a : ℕ) where
   erase-keeps : (n : ℕ) (f : List ℕ) → massErase a n ≡ false
@@ -106,16 +162,13 @@ module _ (board : ℕ) (l : Loader) (a : ℕ) where
       (protect-keeps (getD d 0 0) (p (eqb-true c protectByte w))))
       (λ w. rw (t, u, v, w, keeping-is l f (running l a)) (held force l (withCondition l Left) _ refl)))))
 
--- so of all inputs only a packet of these two changes it
-pub force-by : (board : ℕ) (l : Loader) (s f : List ℕ) (room : ℕ)
-    → ((p : Parts) → readOf s ≡ given p
-    → (p .command ≡ eraseByte → massErase (p .address) (getD (sentData s p) 0 0) ≡ false)
-    × (p .command ≡ protectByte
-    → either (eqb (getD (sentData s p) 0 0) 0x00) (eqb (getD (sentData s p) 0 0) 0x0F) ≡ true))
+-- so of all inputs only the mass erase and a P of type 0x01 change it
+pub force-by : (board : ℕ) (l : Loader) (s f : List ℕ) (room : ℕ) → massErases s ≡ false → closes s ≡ false
     → force (effectAfter l f (takeOf board l s f room) .loader) ≡ force l
-force-by board l s f room h =
+force-by board l s f room m n =
     any-input (λ (e : Effect). force (e .loader) ≡ force l) board l s f room refl refl
-    (λ p e. let q = h p e in force-kept board l (p .address) (p .command) (sentData s p) f (q .0) (q .1))
+    (λ p r. force-kept board l (p .address) (p .command) (sentData s p) f (unmassed s m p r)
+    (unclosed s n p r))
 
 -- and by the latter it grows: no group and no read protection is lost
 pub close-grows : (l : Loader) (a g : ℕ) → bit (l .protection .groups) g ≡ true
