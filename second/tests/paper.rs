@@ -666,23 +666,41 @@ fn marks_are_refused_over_a_foreign_map() {
     }
 }
 
+/// What an empty file would lead to if a start did not refuse it: R alone.
+fn sessions_over_nothing() -> Vec<Session> {
+    let over_nothing = |(phase, acknowledged)| Session {
+        run: Run::Reset,
+        phase,
+        acknowledged,
+        total: 1,
+        named: 0,
+    };
+    [
+        (Phase::Greeting, 0),
+        (Phase::Run, 0),
+        (Phase::Ended(Outcome::Valid), 1),
+        (Phase::Ended(Outcome::Silent), 0),
+        (Phase::Ended(Outcome::WrongGreeting), 0),
+    ]
+    .map(over_nothing)
+    .to_vec()
+}
+
 #[test]
 fn marks_are_refused_20_then_46() {
     let (reading, empty) = (plan_file(), Reading::new());
     let mut longer = reading.map.clone();
     longer.push(0);
-    let nobody = Session {
-        total: 1,
-        named: 0,
-        ..valid_end(&reading)
-    };
-    for session in whole_session(&reading).into_iter().chain([nobody]) {
-        for wrong in [&[][..], &reading.map[1..], &longer] {
+    let own = whole_session(&reading);
+    for session in own.into_iter().chain(sessions_over_nothing()) {
+        for wrong in [&[][..], &reading.map[1..], &empty.map[1..], &longer] {
             assert_eq!(session.proved(wrong, 0x200), Err(Refusal::Size));
         }
         assert_eq!(empty.mark(session, 0x200), Err(46));
     }
-    assert_eq!(reading.mark(nobody, 0x200), Err(46));
+    for session in sessions_over_nothing() {
+        assert_eq!(reading.mark(session, 0x200), Err(46));
+    }
 }
 
 #[test]
