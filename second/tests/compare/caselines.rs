@@ -104,6 +104,8 @@ fn wrongly_lent(
 
 fn file(random: &mut Random, lines: &mut Vec<String>) {
     lines.push("hex".to_string());
+    // the session before is over a file that is gone now
+    lines.push(format!("proved {:08X}", random.below(0xF900)));
     let first = files::encoded(random.below(0xF700) as u16, 0, &random.bytes(3));
     lines.push(format!("record {}", String::from_utf8_lossy(&first)));
     let records = random.within(1, 30);
@@ -161,6 +163,8 @@ fn session(random: &mut Random, lines: &mut Vec<String>) {
     }
     let buffer = random.pick(&[("image", FLASH_END), ("map", 7936), ("packet", 259)]);
     wrongly_lent(random, lines, buffer, "answer 06");
+    wrongly_lent(random, lines, ("map", 7936), "proved 00000000");
+    lines.push(format!("proved {:08X}", random.below(0xF900)));
     wrongly_lent(random, lines, ("log", 10), "log");
     lines.push("log".to_string());
     let mut record = vec![0, 8, 1, 0, 0, 4, 0, 4, 0, 2];
