@@ -583,7 +583,7 @@ fn three_pieces() -> Reading {
     Reading::of(&[&format!(":FF01FF00{zeros}01"), ":01F00000000F"])
 }
 
-/// Bytes of that file, each with the number of the V that holds it: the nine
+/// Bytes around these pieces, each with the number of the V that holds it: the nine
 /// packets are two E, three W, the V numbers 6 to 8, and R.
 const HELD_BY: [(u32, Option<u32>); 12] = [
     (0, None),
@@ -600,12 +600,22 @@ const HELD_BY: [(u32, Option<u32>); 12] = [
     (u32::MAX, None),
 ];
 
-fn full_file() -> Reading {
+/// The file of this map, all its bytes 0.
+fn mapped(map: u8) -> Reading {
     Reading {
         image: vec![0x00; FLASH_BYTES],
-        map: vec![0xFF; MAP_BYTES],
+        map: vec![map; MAP_BYTES],
         ..Reading::new()
     }
+}
+
+fn full_file() -> Reading {
+    mapped(0xFF)
+}
+
+/// Every second byte, so that no file has more pieces.
+fn most_pieces() -> Reading {
+    mapped(0x55)
 }
 
 /// The start and every state that expected answers lead to, the end last.
@@ -705,10 +715,11 @@ fn marks_are_refused_20_then_46() {
 
 #[test]
 fn marks_are_refused_of_an_end_that_no_event_brings() {
-    for reading in [plan_file(), three_pieces()] {
+    for reading in [plan_file(), three_pieces(), full_file(), most_pieces()] {
         let start = reading.session(Run::Reset);
         let total = start.total;
-        for acknowledged in (0..total + 2).chain([u32::MAX - 1, u32::MAX]) {
+        let counts = (0..12).chain(total - 2..total + 2).chain([u32::MAX]);
+        for acknowledged in counts {
             for (outcome, comes) in [
                 (Outcome::Valid, acknowledged == total),
                 (Outcome::Silent, acknowledged < total),
@@ -754,7 +765,7 @@ fn marks_are_refused_where_a_count_is_not_the_files() {
     }
 }
 
-/// The packets of that file, each with how many go before it.
+/// The packets of `three_pieces`, each with how many go before it.
 const SENT: [(Phase, u32); 9] = [
     (Phase::Erase(Page(0)), 0),
     (Phase::Erase(Page(120)), 1),
