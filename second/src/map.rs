@@ -1,5 +1,7 @@
 //! The map of named bytes, one bit an address, read a word at a time.
 
+use std::iter;
+
 use crate::packet::PIECE;
 use crate::refusal::Refusal;
 use crate::units::{ByteAddress, Page, FLASH_END, MAP_BYTES, PAGE_BYTES};
@@ -65,6 +67,13 @@ fn bit_in_word(address: u32, base: u32) -> Option<u64> {
     (address - base < WORD_BITS).then(|| 1 << (address - base))
 }
 
+/// The set bits of a word, ascending.
+fn bits(word: u64) -> impl Iterator<Item = u32> {
+    let words = iter::successors(Some(word), |rest| Some(rest & rest.wrapping_sub(1)));
+    let left = words.take_while(|rest| *rest != 0);
+    left.map(u64::trailing_zeros)
+}
+
 /// One bit for each page that holds a named byte.
 #[derive(Clone, Copy, Debug, Default, PartialEq, Eq)]
 pub struct Pages(u128);
@@ -83,6 +92,12 @@ impl Pages {
     pub fn run_index(self, first: Page) -> Option<u32> {
         let bit = 1u128.checked_shl(first.0)?;
         (self.starts() & bit != 0).then(|| (self.starts() & (bit - 1)).count_ones())
+    }
+
+    /// The first page of each run, ascending.
+    pub fn run_starts(self) -> impl Iterator<Item = Page> {
+        let lowest = (self.0 != 0).then(|| self.first());
+        iter::successors(lowest, move |first| self.run_after(*first))
     }
 
     /// The first page of the next run above.
@@ -153,20 +168,14 @@ impl<'a> Map<'a> {
         survey
     }
 
-    /// The index of the piece that holds a named byte.
-    pub fn piece_of(self, address: u32) -> Option<u32> {
-        if !self.names(address) {
-            return None;
-        }
-        let mut begun = 0;
+    /// Where each piece starts, ascending.
+    pub fn piece_starts(self) -> impl Iterator<Item = ByteAddress> + 'a {
         let mut sweep = Sweep::default();
-        for word in self.words().take((address / WORD_BITS) as usize) {
-            begun += sweep.piece_starts(word).count_ones();
-        }
-        let starts = sweep.piece_starts(self.word(address / WORD_BITS));
-        let up_to = u64::MAX >> (WORD_BITS - 1 - address % WORD_BITS);
-        begun += (starts & up_to).count_ones();
-        Some(begun - 1)
+        self.words().flat_map(move |word| {
+            let base = sweep.base;
+            let starts = bits(sweep.piece_starts(word));
+            starts.map(move |bit| ByteAddress(base + bit))
+        })
     }
 
     fn words(self) -> impl Iterator<Item = u64> + 'a {
@@ -288,6 +297,8 @@ mod tests {
         assert_eq!(survey.named, named);
         let first = expected.first().map_or(FLASH_END, |piece| piece.start);
         assert_eq!(survey.first, first);
+        let starts = expected.iter().map(|piece| ByteAddress(piece.start));
+        assert!(map.piece_starts().eq(starts));
         for (index, piece) in expected.iter().enumerate().step_by(stride) {
             let (start, last) = (piece.start, piece.start + piece.length - 1);
             let sought = |address| map.survey(Some(ByteAddress(address))).sought;
@@ -298,8 +309,6 @@ mod tests {
                 assert_eq!(sought(last), Sought { index: None, next });
             }
             assert_eq!(map.run_length(start, PIECE_BITS), piece.length);
-            assert_eq!(map.piece_of(start), index);
-            assert_eq!(map.piece_of(last), index);
         }
         assert_eq!(map.survey(Some(ByteAddress(u32::MAX))).sought.index, None);
     }
@@ -352,6 +361,8 @@ mod tests {
         let pages = Map::new(&bytes).unwrap().survey(None).pages;
         assert_eq!(pages.runs(), 3);
         assert_eq!(pages.first(), Page(0));
+        assert!(pages.run_starts().eq([0, 3, 123].map(Page)));
+        assert_eq!(Pages::default().run_starts().next(), None);
         let runs = [(0, 2, Some(3)), (3, 2, Some(123)), (123, 1, None)];
         for (index, (first, length, next)) in (0..).zip(runs) {
             assert_eq!(pages.run_index(Page(first)), Some(index));

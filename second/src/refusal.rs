@@ -44,7 +44,7 @@ pub enum Refusal {
     SessionEnded = 44,
     /// A session that has no log record.
     NoLog = 45,
-    /// A file that is not the session's.
+    /// A file that is not the session's, or a session that no start leads to.
     OtherFile = 46,
     LogShort = 50,
     LogLength = 51,

@@ -1,5 +1,7 @@
 //! The host session: from a file to packets, from answers to a verdict.
 
+use std::iter;
+
 use crate::hex::check_sizes;
 use crate::loader::{ACK, BACKSPACE, BEL, GREETING};
 use crate::map::{Map, Survey};
@@ -85,6 +87,9 @@ enum Heard {
     Ending(Outcome),
 }
 
+/// One event of each kind that ends a session wherever it waits.
+const UNEXPECTED: [Event; 3] = [Event::Silence, Event::Answer(&[BEL]), Event::Answer(&[])];
+
 /// The file a session is checked against, looked over for its phase.
 struct File<'a> {
     image: &'a [u8],
@@ -102,10 +107,13 @@ impl Session {
     ) -> Result<(Session, usize), Refusal> {
         check_lent(image, map, buffer)?;
         let survey = Map::new(map)?.survey(None);
-        if survey.named == 0 {
-            return Err(Refusal::NoData);
-        }
+        let session = Session::begun(run, &survey).ok_or(Refusal::NoData)?;
         buffer[0] = BACKSPACE;
+        Ok((session, 1))
+    }
+
+    /// The session at its start; none where nothing is named.
+    fn begun(run: Run, survey: &Survey) -> Option<Session> {
         let session = Session {
             run,
             phase: Phase::Greeting,
@@ -113,7 +121,7 @@ impl Session {
             total: survey.total(),
             named: survey.named,
         };
-        Ok((session, 1))
+        (survey.named > 0).then_some(session)
     }
 
     /// Takes one event and hands back the next state with the length of the
@@ -139,13 +147,68 @@ impl Session {
         }
     }
 
-    /// Whether V of this byte was acknowledged, counted over the map as lent.
+    /// Whether a byte is marked: the V that holds it is among the packets
+    /// acknowledged. The lent map must lead to this session; two maps that both
+    /// do are not told apart.
     pub fn proved(&self, map: &[u8], address: u32) -> Result<bool, Refusal> {
         let map = Map::new(map)?;
         let survey = map.survey(None);
-        let written = survey.erases() + survey.pieces;
-        let verified = self.acknowledged.saturating_sub(written);
-        Ok(map.piece_of(address).is_some_and(|piece| piece < verified))
+        let start = Session::begun(self.run, &survey).ok_or(Refusal::OtherFile)?;
+        let same_counts = (self.total, self.named) == (start.total, start.named);
+        if !same_counts || !self.turns_up_in(start.walk(map, &survey)) {
+            return Err(Refusal::OtherFile);
+        }
+        let mut walk = start.walk(map, &survey);
+        let held = walk.find(|sent| sent.verifies(map, address));
+        Ok(held.is_some_and(|sent| sent.acknowledged < self.acknowledged))
+    }
+
+    /// From this start on, each state that expected answers lead to, the valid
+    /// end last.
+    fn walk<'a>(self, map: Map<'a>, survey: &Survey) -> impl Iterator<Item = Session> + 'a {
+        let erases = survey.pages.run_starts().map(Phase::Erase);
+        let writes = map.piece_starts().map(Phase::Write);
+        let verifies = map.piece_starts().map(Phase::Verify);
+        let last = [Phase::Run, Phase::Ended(Outcome::Valid)];
+        let phases = erases.chain(writes).chain(verifies).chain(last);
+        let mut session = self;
+        let answered = phases.map(move |phase| {
+            session = session.answered(phase);
+            session
+        });
+        iter::once(self).chain(answered)
+    }
+
+    /// Whether a walk comes by here, or an event ends it here.
+    fn turns_up_in(&self, walk: impl Iterator<Item = Session>) -> bool {
+        // an unexpected event keeps the count
+        let mut near = walk.filter(|state| state.acknowledged == self.acknowledged);
+        near.any(|state| state == *self || state.ends().any(|end| end == *self))
+    }
+
+    /// The ends that unexpected events bring; after an end there is no event.
+    fn ends(self) -> impl Iterator<Item = Session> {
+        let events = match self.phase {
+            Phase::Ended(_) => &[],
+            _ => &UNEXPECTED[..],
+        };
+        events
+            .iter()
+            .filter_map(move |event| match self.hear(*event) {
+                Heard::Ending(outcome) => Some(self.ended(outcome)),
+                Heard::Expected => None,
+            })
+    }
+
+    /// Whether the packet that the session waits on is the V of this byte.
+    fn verifies(&self, map: Map, address: u32) -> bool {
+        let Phase::Verify(ByteAddress(start)) = self.phase else {
+            return false;
+        };
+        // a piece that cannot reach so far is not measured
+        let longest = packet::PIECE as u32;
+        let reached = (start..start + longest).contains(&address);
+        reached && address - start < map.run_length(start, longest)
     }
 
     /// Whether a start over such a file and acknowledgements lead here.
@@ -171,13 +234,18 @@ impl Session {
 
     fn go_on(self, file: &File, buffer: &mut [u8]) -> Result<(Session, usize), Refusal> {
         let phase = file.survey.after(self.phase);
+        let length = file.packet(phase, self.run, buffer)?;
+        Ok((self.answered(phase), length))
+    }
+
+    /// Goes on to the next phase; the greeting acknowledges no packet.
+    fn answered(self, phase: Phase) -> Session {
         let greeted = self.phase == Phase::Greeting;
-        let next = Session {
+        Session {
             phase,
             acknowledged: self.acknowledged + u32::from(!greeted),
             ..self
-        };
-        Ok((next, file.packet(phase, self.run, buffer)?))
+        }
     }
 
     fn ended(self, outcome: Outcome) -> Session {

@@ -290,6 +290,13 @@ impl Reading {
         }
     }
 
+    /// Whether a byte is marked, asked with this file's map.
+    fn mark(&self, session: Session, address: u32) -> Result<bool, u8> {
+        session
+            .proved(&self.map, address)
+            .map_err(|refusal| refusal.number())
+    }
+
     fn ending(&self, session: Session, event: Event) -> Phase {
         let (next, packet) = self.step(session, event).unwrap();
         assert!(packet.is_empty());
@@ -428,11 +435,7 @@ fn greeted(reading: &Reading, run: Run) -> Session {
 
 #[test]
 fn full_file_is_one_erase_and_254_pieces() {
-    let reading = Reading {
-        image: vec![0x00; FLASH_BYTES],
-        map: vec![0xFF; MAP_BYTES],
-        ..Reading::new()
-    };
+    let reading = full_file();
     let session = reading.session(Run::Reset);
     assert_eq!((session.total, session.named), (1 + 2 * 254 + 1, 63_488));
     let (_, erase) = reading.step(session, Event::Answer(GREETING)).unwrap();
@@ -497,13 +500,12 @@ fn jump_session_runs_at_0() {
     let mut session = greeted(&reading, Run::Jump);
     let mut last = Vec::new();
     for _ in 0..3 {
-        assert_eq!(session.proved(&reading.map, 0x200), Ok(false));
+        assert_eq!(reading.mark(session, 0x200), Ok(false));
         (session, last) = reading.step(session, ACK).unwrap();
     }
     assert_eq!(last, built(Command::Run, 0, &[]));
-    assert_eq!(session.proved(&reading.map, 0x201), Ok(true));
-    assert_eq!(session.proved(&reading.map, 0x202), Ok(false));
-    assert_eq!(session.proved(&reading.map[1..], 0x201), Err(Refusal::Size));
+    assert_eq!(reading.mark(session, 0x201), Ok(true));
+    assert_eq!(reading.mark(session, 0x202), Ok(false));
     assert_eq!(reading.ending(session, ACK), Phase::Ended(Outcome::Valid));
     assert_eq!(
         reading.ending(session, Event::Silence),
@@ -574,10 +576,262 @@ fn step_refuses_a_place_that_no_acknowledgements_lead_to() {
     assert_eq!(at(|_| Phase::Run, 0, 2), Err(46));
 }
 
+/// Two runs of pages and three pieces: 250 bytes from 0x1FF, 5 from 0x2F9 and
+/// one at 0xF000.
+fn three_pieces() -> Reading {
+    let zeros = "0".repeat(510);
+    Reading::of(&[&format!(":FF01FF00{zeros}01"), ":01F00000000F"])
+}
+
+/// Bytes around these pieces, each with the number of the V that holds it: the nine
+/// packets are two E, three W, the V numbers 6 to 8, and R.
+const HELD_BY: [(u32, Option<u32>); 12] = [
+    (0, None),
+    (0x1FE, None),
+    (0x1FF, Some(6)),
+    (0x2F8, Some(6)),
+    (0x2F9, Some(7)),
+    (0x2FD, Some(7)),
+    (0x2FE, None),
+    (0xEFFF, None),
+    (0xF000, Some(8)),
+    (0xF001, None),
+    (0xF800, None),
+    (u32::MAX, None),
+];
+
+/// The file of this map, all its bytes 0.
+fn mapped(map: u8) -> Reading {
+    Reading {
+        image: vec![0x00; FLASH_BYTES],
+        map: vec![map; MAP_BYTES],
+        ..Reading::new()
+    }
+}
+
+fn full_file() -> Reading {
+    mapped(0xFF)
+}
+
+/// Every second byte, so that no file has more pieces.
+fn most_pieces() -> Reading {
+    mapped(0x55)
+}
+
+/// The start and every state that expected answers lead to, the end last.
+fn whole_session(reading: &Reading) -> Vec<Session> {
+    let mut states = vec![reading.session(Run::Reset), greeted(reading, Run::Reset)];
+    while let Some(last) = states.last().copied() {
+        match last.phase {
+            Phase::Ended(_) => break,
+            _ => states.push(reading.step(last, ACK).unwrap().0),
+        }
+    }
+    states
+}
+
+/// How the whole session of a file ends.
+fn valid_end(reading: &Reading) -> Session {
+    let end = whole_session(reading).pop().unwrap();
+    assert_eq!(end.phase, Phase::Ended(Outcome::Valid));
+    end
+}
+
+fn check_marks(reading: &Reading, session: Session) {
+    for (address, held_by) in HELD_BY {
+        let proved = held_by.is_some_and(|number| number <= session.acknowledged);
+        assert_eq!(reading.mark(session, address), Ok(proved), "{session:?}");
+    }
+}
+
+#[test]
+fn marks_stand_in_every_state_and_after_every_ending() {
+    let reading = three_pieces();
+    let states = whole_session(&reading);
+    assert_eq!(states.len(), 1 + 9 + 1);
+    for state in states {
+        check_marks(&reading, state);
+        if state.phase == Phase::Ended(Outcome::Valid) {
+            continue;
+        }
+        for event in [Event::Silence, Event::Answer(&[7]), Event::Answer(&[])] {
+            let (ended, _) = reading.step(state, event).unwrap();
+            assert!(matches!(ended.phase, Phase::Ended(_)));
+            check_marks(&reading, ended);
+        }
+    }
+}
+
+#[test]
+fn marks_are_refused_over_a_foreign_map() {
+    let (large, small) = (full_file(), plan_file());
+    let ended = valid_end(&large);
+    for address in [0x200, 0x201, 0, 0xF800] {
+        assert_eq!(small.mark(ended, address), Err(46));
+    }
+    assert_eq!(large.mark(ended, 0xF7FF), Ok(true));
+    for state in whole_session(&small) {
+        assert_eq!(large.mark(state, 0x200), Err(46));
+        assert_eq!(three_pieces().mark(state, 0x200), Err(46));
+    }
+}
+
+/// What an empty file would lead to if a start did not refuse it: R alone.
+fn sessions_over_nothing() -> Vec<Session> {
+    let over_nothing = |(phase, acknowledged)| Session {
+        run: Run::Reset,
+        phase,
+        acknowledged,
+        total: 1,
+        named: 0,
+    };
+    [
+        (Phase::Greeting, 0),
+        (Phase::Run, 0),
+        (Phase::Ended(Outcome::Valid), 1),
+        (Phase::Ended(Outcome::Silent), 0),
+        (Phase::Ended(Outcome::WrongGreeting), 0),
+    ]
+    .map(over_nothing)
+    .to_vec()
+}
+
+#[test]
+fn marks_are_refused_20_then_46() {
+    let (reading, empty) = (plan_file(), Reading::new());
+    let mut longer = reading.map.clone();
+    longer.push(0);
+    let own = whole_session(&reading);
+    for session in own.into_iter().chain(sessions_over_nothing()) {
+        for wrong in [&[][..], &reading.map[1..], &empty.map[1..], &longer] {
+            assert_eq!(session.proved(wrong, 0x200), Err(Refusal::Size));
+        }
+        assert_eq!(empty.mark(session, 0x200), Err(46));
+    }
+    for session in sessions_over_nothing() {
+        assert_eq!(reading.mark(session, 0x200), Err(46));
+    }
+}
+
+#[test]
+fn marks_are_refused_of_an_end_that_no_event_brings() {
+    for reading in [plan_file(), three_pieces(), full_file(), most_pieces()] {
+        let start = reading.session(Run::Reset);
+        let total = start.total;
+        let counts = (0..12).chain(total - 2..total + 2).chain([u32::MAX]);
+        for acknowledged in counts {
+            for (outcome, comes) in [
+                (Outcome::Valid, acknowledged == total),
+                (Outcome::Silent, acknowledged < total),
+                (Outcome::Refused, acknowledged < total),
+                (Outcome::WrongGreeting, acknowledged == 0),
+                (Outcome::WrongAnswer, acknowledged < total),
+            ] {
+                let ended = Session {
+                    phase: Phase::Ended(outcome),
+                    acknowledged,
+                    ..start
+                };
+                let told = reading.mark(ended, 0).map(|_| ());
+                assert_eq!(told, if comes { Ok(()) } else { Err(46) }, "{ended:?}");
+            }
+        }
+    }
+}
+
+#[test]
+fn marks_are_refused_where_a_count_is_not_the_files() {
+    let reading = three_pieces();
+    let mut states = whole_session(&reading);
+    for state in states.clone() {
+        if state.phase != Phase::Ended(Outcome::Valid) {
+            states.push(reading.step(state, Event::Silence).unwrap().0);
+        }
+    }
+    for state in states {
+        let changes: [fn(&mut Session); 6] = [
+            |s| s.total += 1,
+            |s| s.total -= 1,
+            |s| s.total = u32::MAX,
+            |s| s.named += 1,
+            |s| s.named -= 1,
+            |s| s.named = u32::MAX,
+        ];
+        for change in changes {
+            let mut made_up = state;
+            change(&mut made_up);
+            assert_eq!(reading.mark(made_up, 0x1FF), Err(46), "{made_up:?}");
+        }
+    }
+}
+
+/// The packets of `three_pieces`, each with how many go before it.
+const SENT: [(Phase, u32); 9] = [
+    (Phase::Erase(Page(0)), 0),
+    (Phase::Erase(Page(120)), 1),
+    (Phase::Write(ByteAddress(0x1FF)), 2),
+    (Phase::Write(ByteAddress(0x2F9)), 3),
+    (Phase::Write(ByteAddress(0xF000)), 4),
+    (Phase::Verify(ByteAddress(0x1FF)), 5),
+    (Phase::Verify(ByteAddress(0x2F9)), 6),
+    (Phase::Verify(ByteAddress(0xF000)), 7),
+    (Phase::Run, 8),
+];
+
+/// Open phases of all kinds, among them pages and addresses past the last.
+fn open_phases() -> Vec<Phase> {
+    let mut phases = vec![Phase::Greeting, Phase::Run];
+    let pages = (0..130).chain([u32::MAX]);
+    phases.extend(pages.map(|page| Phase::Erase(Page(page))));
+    let near = [0x1FF, 0x2F9, 0xF000].map(|start| start - 1..start + 2);
+    let places = near.into_iter().flatten();
+    for place in places.chain([0, 0x2F8, 0x2FE, 0xF800, u32::MAX]) {
+        phases.push(Phase::Write(ByteAddress(place)));
+        phases.push(Phase::Verify(ByteAddress(place)));
+    }
+    phases
+}
+
+#[test]
+fn marks_are_refused_of_open_sessions_where_steps_are() {
+    let reading = three_pieces();
+    let start = reading.session(Run::Jump);
+    for phase in open_phases() {
+        for acknowledged in (0..11).chain([u32::MAX]) {
+            let session = Session {
+                phase,
+                acknowledged,
+                ..start
+            };
+            let comes = session == start || SENT.contains(&(phase, acknowledged));
+            let expected = if comes { Ok(()) } else { Err(46) };
+            assert_eq!(reading.mark(session, 0).map(|_| ()), expected);
+            assert_eq!(reading.step(session, ACK).map(|_| ()), expected);
+        }
+    }
+}
+
+/// A record holds counts and no bytes: what another file with the same counts
+/// would have led to as well cannot be refused, and its map then decides.
+#[test]
+fn files_with_equal_counts_are_not_told_apart() {
+    let reading = plan_file();
+    let other = Reading::of(&[":020400001234B4", ":00000001FF"]);
+    let ended = valid_end(&reading);
+    assert_eq!(ended, valid_end(&other));
+    assert_eq!(reading.mark(ended, 0x200), Ok(true));
+    assert_eq!(other.mark(ended, 0x400), Ok(true));
+    assert_eq!(other.mark(ended, 0x200), Ok(false));
+    // the place of a packet tells them apart
+    let sent = whole_session(&reading);
+    for state in &sent[1..4] {
+        assert_eq!(other.mark(*state, 0x400), Err(46));
+    }
+}
+
 #[test]
 fn verdict_comes_within_the_packets_and_one_event() {
-    let zeros = "0".repeat(510);
-    let reading = Reading::of(&[&format!(":FF01FF00{zeros}01"), ":01F00000000F"]);
+    let reading = three_pieces();
     let mut session = greeted(&reading, Run::Reset);
     assert_eq!(session.total, 2 + 2 * 3 + 1);
     assert_eq!(session.named, 256);

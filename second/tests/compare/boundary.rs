@@ -2,8 +2,11 @@
 
 use second::hex::Reader;
 use second::loader::{Condition, Loader, Protection};
-use second::session::{Outcome, Phase, Run, Session};
-use second::units::{ByteAddress, Page};
+use second::map;
+use second::packet::LONGEST;
+use second::session::{Event, Outcome, Phase, Run, Session};
+use second::units::{ByteAddress, Page, FLASH_BYTES, MAP_BYTES};
+use second::Refusal;
 
 /// What a phase, a place or an outcome that no session has counts as: a page
 /// that no board has.
@@ -175,5 +178,39 @@ fn outcome(number: u32) -> Option<Outcome> {
         42 => Some(Outcome::WrongGreeting),
         43 => Some(Outcome::WrongAnswer),
         _ => None,
+    }
+}
+
+/// Neither a step nor a mark is given of a record that no call hands out.
+#[test]
+fn what_means_no_session_is_refused() {
+    let mut map = vec![0; MAP_BYTES];
+    map::name(&mut map, 0);
+    let image = vec![0; FLASH_BYTES];
+    for (phase, place) in [
+        (0, 1),
+        (4, 1),
+        (5, 1),
+        (5, 39),
+        (5, 44),
+        (5, u32::MAX),
+        (6, 0),
+        (u32::MAX, 0),
+    ] {
+        for acknowledged in [0, 1, 2, 3, 4, u32::MAX] {
+            let state = SessionState {
+                run: 1,
+                phase,
+                place,
+                acknowledged,
+                total: 4,
+                named: 1,
+            };
+            let session = state.meaning();
+            let stepped = session.step(Event::Silence, &image, &map, &mut [0; LONGEST]);
+            assert_eq!(stepped, Err(Refusal::OtherFile), "{state:?}");
+            let proved = session.proved(&map, 0);
+            assert_eq!(proved, Err(Refusal::OtherFile), "{state:?}");
+        }
     }
 }

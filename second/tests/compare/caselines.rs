@@ -52,8 +52,8 @@ fn script(random: &mut Random) -> String {
     }
     for _ in 0..EPISODES {
         bytes_and_packets(random, &mut lines);
-        file(random, &mut lines);
-        session(random, &mut lines);
+        let named = file(random, &mut lines);
+        session(random, &mut lines, named);
         loader(random, &mut lines);
         rehearsals(random, &mut lines);
     }
@@ -102,9 +102,13 @@ fn wrongly_lent(
     lines.push(format!("lend {buffer} {whole}"));
 }
 
-fn file(random: &mut Random, lines: &mut Vec<String>) {
+/// Reads a file and gives the address of a byte that it names.
+fn file(random: &mut Random, lines: &mut Vec<String>) -> u32 {
     lines.push("hex".to_string());
-    let first = files::encoded(random.below(0xF700) as u16, 0, &random.bytes(3));
+    // the session before has lost its file
+    lines.push(format!("proved {:08X}", random.below(0xF900)));
+    let named = random.below(0xF700);
+    let first = files::encoded(named as u16, 0, &random.bytes(3));
     lines.push(format!("record {}", String::from_utf8_lossy(&first)));
     let records = random.within(1, 30);
     for _ in 0..records {
@@ -131,9 +135,10 @@ fn file(random: &mut Random, lines: &mut Vec<String>) {
         ));
         lines.push(format!("map {} {}", random.below(7900), random.below(30)));
     }
+    named
 }
 
-fn session(random: &mut Random, lines: &mut Vec<String>) {
+fn session(random: &mut Random, lines: &mut Vec<String>, named: u32) {
     lines.push(format!("start {}", random.pick(&["reset", "jump"])));
     let greeting = hex_digits(GREETING);
     let wrong = greeting.replace("2D3632", "2D3633");
@@ -156,11 +161,15 @@ fn session(random: &mut Random, lines: &mut Vec<String>) {
         };
         lines.push(line.to_string());
         if random.once_in(8) {
-            lines.push(format!("proved {:08X}", random.below(0xF900)));
+            let any = random.below(0xF900);
+            lines.push(format!("proved {:08X}", random.pick(&[named, any])));
         }
     }
     let buffer = random.pick(&[("image", FLASH_END), ("map", 7936), ("packet", 259)]);
     wrongly_lent(random, lines, buffer, "answer 06");
+    let proved = format!("proved {named:08X}");
+    wrongly_lent(random, lines, ("map", 7936), &proved);
+    lines.push(proved);
     wrongly_lent(random, lines, ("log", 10), "log");
     lines.push("log".to_string());
     let mut record = vec![0, 8, 1, 0, 0, 4, 0, 4, 0, 2];

@@ -20,6 +20,27 @@ const ANY_MAP: Part = Part::new(4, 20_000, MAP_BYTES as u32);
 /// So many states of a file are looked at.
 const STATES: u32 = 60;
 
+/// Phases with their places: each end, those that have no place, and records
+/// next to them that mean no session.
+const ENDS_AND_PLACELESS: [(u32, u32); 16] = [
+    (5, 0),
+    (5, 40),
+    (5, 41),
+    (5, 42),
+    (5, 43),
+    (5, 1),
+    (5, 39),
+    (5, 44),
+    (5, u32::MAX),
+    (0, 0),
+    (0, 1),
+    (4, 0),
+    (4, 1),
+    (6, 0),
+    (6, 40),
+    (u32::MAX, 0),
+];
+
 pub fn compare(pair: &mut Pair) {
     let mut random = Random::new(4);
     for buffer in 0..5 {
@@ -39,6 +60,7 @@ pub fn compare(pair: &mut Pair) {
     for _ in 0..100 {
         let told = run(&mut random);
         pair.session_start(told, IMAGE, MAP, PACKET);
+        refused_over_an_empty_map(pair, &mut random);
     }
 }
 
@@ -86,6 +108,7 @@ fn file(pair: &mut Pair, random: &mut Random) {
         refused_over_an_empty_map(pair, random);
         return;
     }
+    bounds(pair, random, start);
     let states = states(pair, start);
     if states.len() <= STATES as usize {
         for state in &states {
@@ -104,17 +127,46 @@ fn file(pair: &mut Pair, random: &mut Random) {
 
 /// No start leads to a session over an empty map.
 fn refused_over_an_empty_map(pair: &mut Pair, random: &mut Random) {
-    for phase in 0..5 {
+    for phase in 0..7 {
         for total in [0, 1, 3, 4] {
             let state = SessionState {
                 run: 1,
                 phase,
-                place: 0,
-                acknowledged: random.below(2),
+                place: random.pick(&[0, 0, 0, 40, 42]),
+                acknowledged: random.pick(&[0, 1, total]),
                 total,
                 named: 0,
             };
             step_right(pair, state);
+            pair.session_proved(state, MAP, random.below(FLASH_END));
+        }
+    }
+}
+
+/// Marks of records on both sides of each bound, over the file's own map.
+fn bounds(pair: &mut Pair, random: &mut Random, start: SessionState) {
+    let SessionState { total, named, .. } = start;
+    let counts = [
+        (total, named),
+        (total + 1, named),
+        (total - 1, named),
+        (total, named + 1),
+        (total, named - 1),
+    ];
+    for (phase, place) in ENDS_AND_PLACELESS {
+        for acknowledged in [0, 1, total - 1, total, total + 1, u32::MAX] {
+            for (total, named) in counts {
+                let state = SessionState {
+                    run: start.run,
+                    phase,
+                    place,
+                    acknowledged,
+                    total,
+                    named,
+                };
+                let address = maps::named_from(pair.look(MAP), random.below(FLASH_END));
+                pair.session_proved(state, MAP, address);
+            }
         }
     }
 }
@@ -172,6 +224,10 @@ fn look_at(pair: &mut Pair, random: &mut Random, state: SessionState) {
     let made_up = made_up(random, state);
     step_any(pair, random, made_up);
     marks(pair, random, made_up);
+    let ended = said_to_have_ended(random, state);
+    step_any(pair, random, ended);
+    pair.session_outcome(ended);
+    marks(pair, random, ended);
     let file = (IMAGE, OTHER_MAP);
     let part = heard(pair, answer(state));
     pair.session_step(state, 0, part, file, PACKET);
@@ -260,7 +316,22 @@ fn made_up(random: &mut Random, state: SessionState) -> SessionState {
     made_up
 }
 
-/// Marks of bytes of every kind, over the session's own map and over others.
+/// A record of an end, its counts mostly the file's and else next to them.
+fn said_to_have_ended(random: &mut Random, state: SessionState) -> SessionState {
+    let SessionState { total, named, .. } = state;
+    let reached = state.acknowledged;
+    SessionState {
+        phase: 5,
+        place: random.pick(&[0, 0, 40, 41, 42, 43, 44]),
+        acknowledged: random.pick(&[0, 1, reached, reached, total - 1, total, total + 1]),
+        total: random.pick(&[total, total, total, total, total + 1, total - 1]),
+        named: random.pick(&[named, named, named, named, named + 1, named - 1]),
+        ..state
+    }
+}
+
+/// Marks of bytes of every kind, over the session's own map and over others,
+/// which are refused unless they lead to the session too.
 fn marks(pair: &mut Pair, random: &mut Random, state: SessionState) {
     for _ in 0..6 {
         let map = random.pick(&[MAP, MAP, OTHER_MAP, ANY_MAP]);
@@ -273,7 +344,8 @@ fn marks(pair: &mut Pair, random: &mut Random, state: SessionState) {
         let address = random.pick(&[any, inside, near, sent, before, named, named]);
         let lent = match random.below(24) {
             0 => map.with_length(map.length() - 1),
-            1 => Part::NULL,
+            1 => map.with_length(map.length() + 1),
+            2 => Part::NULL,
             _ => map,
         };
         pair.session_proved(state, lent, address);
