@@ -131,8 +131,8 @@ fn mark_answer(answer: Mark) -> SessionMark
             number: 0,
             proved: 0,
         },
-        Mark::Size => SessionMark {
-            number: 20,
+        Mark::Refused(why) => SessionMark {
+            number: why.number(),
             proved: 0,
         },
     }

@@ -149,7 +149,8 @@ impl Session {
         if map.len() != MAP {
             return Mark::Refused(Refusal::Size);
         }
-        if !self.fits(map) {
+        let fits = self.fits(map);
+        if !fits {
             return Mark::Refused(Refusal::Foreign);
         }
         if marked(map, self.acknowledged, address) {
