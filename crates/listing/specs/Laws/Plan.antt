@@ -37,7 +37,7 @@ module _ (board : ℕ) (m : List ℕ) (long : length m ≡ mapBytes board) (some
       → tookOf board m (stateAt board m RunKind.Reset n) Event.Ack .phase
       ≡ afterOf board m (phaseAt board m n)
   unfolding tookOf
-  took-phase n = rw (phase-later board m n Event.Ack)
+  took-phase n = rw (phase-later board m n)
 
   phase-after : (n : ℕ) → n < total board m → afterOf board m (phaseAt board m n) ≡ phaseAfter board m (n + 1)
   phase-after n h =
