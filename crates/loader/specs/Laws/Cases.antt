@@ -14,7 +14,7 @@ use Rattle.basis.specs.Bits.{bit}
 use Rattle.basis.specs.Board.{pages, pageSize, flashSize, answerMost, ackByte, belByte}
 use Rattle.basis.specs.Laws.Choice.{both-second}
 use Rattle.basis.specs.Laws.Lists.{copy-overlay}
-use Rattle.basis.specs.Laws.Refusals.{skip, stop, done}
+use Rattle.basis.specs.Laws.Refusals.{skip, stop}
 use Rattle.basis.specs.Lists.{stored}
 use Rattle.basis.specs.Refusals.{Answer, refused, given, first}
 use Rattle.basis.specs.Sums.{plainSum, sumOf}
