@@ -1,11 +1,11 @@
-// The loader: packets to answers, flash and protection.
-pub mod erase;
-pub mod obey;
-pub mod protect;
+// The loader: packets to answers, flash and protection. Its commands are reached by its entry alone.
+mod erase;
+mod obey;
+mod protect;
 pub mod protection;
-pub mod run;
+mod run;
 pub mod state;
 pub mod take;
 pub mod verdict;
-pub mod verify;
-pub mod write;
+mod verify;
+mod write;
