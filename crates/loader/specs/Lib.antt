@@ -5,6 +5,6 @@ pub mod Verify
 pub mod Commands
 pub mod Take
 pub mod Guard
-pub mod Series
+pub mod Alike
 pub mod Paper
 pub mod Laws

@@ -28,6 +28,10 @@ pub both-no : (t : Bool) → both t false ≡ false
 both-no true = refl
 both-no false = refl
 
+pub both-yes : (t : Bool) → both t true ≡ t
+both-yes true = refl
+both-yes false = refl
+
 pub either-no : (t : Bool) → either t false ≡ t
 either-no true = refl
 either-no false = refl
@@ -63,6 +67,16 @@ any-none p a (suc n) h =
     (any-none p (a + 1) n
     (λ j l. let e : a + suc j ≡ a + 1 + j = omega arith in
     subst (λ (x : ℕ). p x ≡ false) e (h (suc j) (omega arith))))
+
+-- where one of n from a on passes, one is found
+pub any-some : (p : ℕ → Bool) (a n j : ℕ) → j < n → p (a + j) ≡ true → any p a n ≡ true
+unfolding any
+any-some p a zero j h t = absurd (omega arith)
+any-some p a (suc n) zero h t = either-first (p a) _ (subst (λ (x : ℕ). p x ≡ true) (add-zero a) t)
+any-some p a (suc n) (suc j) h t =
+    let e : a + suc j ≡ a + 1 + j = omega arith in
+    either-second (p a) (any p (a + 1) n)
+    (any-some p (a + 1) n j (omega arith) (subst (λ (x : ℕ). p x ≡ true) e t))
 
 -- going through them up to an end: here one passes, or it is the rest that tells, until there is none left
 module _ (p : ℕ → Bool) (a end : ℕ) where

@@ -9,7 +9,7 @@ use lib.Dec.{ltb}
 use lib.ListN.{length, getD}
 use Rattle.basis.specs.Board.{openingByte}
 use Rattle.basis.specs.Choice.{pick}
-use Rattle.basis.specs.Laws.Choice.{decide, true-false}
+use Rattle.basis.specs.Laws.Choice.{decide}
 use Rattle.basis.specs.Lists.{Bytes}
 use Rattle.basis.specs.Refusals.{Answer, given, first}
 use Rattle.basis.specs.Units.{startOf, mapBytes}

@@ -10,7 +10,7 @@ use lib.Dec.{ltb, eqb}
 use lib.ListN.{length, getD, replicate, length-take, length-drop, length-replicate}
 use Rattle.basis.specs.Board.{pageSize, answerMost, openingByte}
 use Rattle.basis.specs.Choice.{pick, both}
-use Rattle.basis.specs.Laws.Choice.{decide, true-false, both-true, both-false}
+use Rattle.basis.specs.Laws.Choice.{decide, true-false, both-true, both-false, both-yes}
 use Rattle.basis.specs.Laws.Lists.{stored-below, stored-above}
 use Rattle.basis.specs.Laws.Refusals.{apart, skip, stop, passed, done, by-table}
 use Rattle.basis.specs.Lists.{new}
@@ -172,10 +172,6 @@ module _ (board : ℕ) (l : Loader) (a : ℕ) (f : List ℕ) (b : ℕ) (g : guar
       (λ u. rw (flash-kept board l c a d f (eqb-false c eraseByte t) (eqb-false c writeByte u))))
 
 -- ---- a packet at the entry
-
-both-yes : (t : Bool) → both t true ≡ t
-both-yes true = refl
-both-yes false = refl
 
 -- a packet is not the opening byte
 packet-long : (s : List ℕ) (p : Parts) → readOf s ≡ given p → length s ≡ 1 → ⊥

@@ -14,7 +14,7 @@ use Rattle.loader.specs.Commands.{Effect, effectAfter, massErase, eraseR
 use Rattle.loader.specs.Guard.{closes}
 use Rattle.loader.specs.Laws.Protection.{unclosed}
 use Rattle.loader.specs.Protection.{none}
-use Rattle.loader.specs.Series.{unkeyed, unadded, TakenAlike, Event, input, reset, courseOf, CourseAlike}
+use Rattle.loader.specs.Alike.{unkeyed, unadded, TakenAlike, Arrival, input, reset, courseOf, CourseAlike}
 use Rattle.loader.specs.State.{resetOf, withCondition, withAdded, joinedOf, clearedOf}
 use Rattle.loader.specs.Take.{waiting, sentData, obeyed, serveOf, hearOf, takeOf, tellOf}
 use Rattle.loader.specs.declared.protection.Protection.{Protection}
@@ -224,7 +224,7 @@ key-unseen board l k s f room q =
     (λ t a. ap (λ (m : Loader). unkeyed (joinedOf m a)) q)
 
 -- and so every series of inputs, and of resets between them
-pub key-unseen-series : (board : ℕ) (l k : Loader) (f : List ℕ) (es : List Event) → unkeyed l ≡ unkeyed k
+pub key-unseen-series : (board : ℕ) (l k : Loader) (f : List ℕ) (es : List Arrival) → unkeyed l ≡ unkeyed k
     → CourseAlike (courseOf board l f es) (courseOf board k f es)
 unfolding courseOf
 key-unseen-series board l k f [] q = record { told-same = refl; flash-same = refl; loader-same = q }

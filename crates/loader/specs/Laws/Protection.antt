@@ -1,9 +1,8 @@
 -- Laws of protection: which groups a set has, and when the protection and the key in force change.
-use Prim.Native.Nat.{ℕ, zero, suc, _+_, _-_, _*_, _≤_, _<_}
+use Prim.Native.Nat.{ℕ, _+_, _-_, _*_, _≤_, _<_}
 use mathlib.Core.Bool.{Bool, true, false, not}
 use mathlib.Core.List.{List, []}
 use mathlib.Core.Path.{_≡_, refl, sym, ap, subst, _∙_}
-use native.Mathlib.Nat.{add-zero}
 use native.Mathlib.Omega.{arith}
 use borrow.Author.Tests.{leb-true, leb-false, eqb-true}
 use lib.Dec.{leb, eqb}
@@ -11,9 +10,9 @@ use lib.ListN.{length, getD, drop}
 use lib.Seq.{getD-take, getD-drop}
 use Rattle.basis.specs.Bits.{bit}
 use Rattle.basis.specs.Board.{groupSize}
-use Rattle.basis.specs.Choice.{pick, either, any}
+use Rattle.basis.specs.Choice.{pick, either}
 use Rattle.basis.specs.Laws.Bits.{bit-or}
-use Rattle.basis.specs.Laws.Choice.{decide, true-false, both-true, either-no, either-first, either-second, any-none}
+use Rattle.basis.specs.Laws.Choice.{decide, true-false, both-true, either-no, either-first, any-none, any-some}
 use Rattle.basis.specs.Laws.Refusals.{skip, stop, done, by-table}
 use Rattle.basis.specs.Refusals.{Answer, given, Rule, first}
 use Rattle.basis.specs.Units.{groupOf, pageGroupOf, pageOf, startOf}
@@ -30,16 +29,6 @@ use Rattle.loader.specs.declared.state.Loader.{Loader}
 use Rattle.packet.specs.Laws.Packet.{accepted}
 use Rattle.packet.specs.Packet.{count, command, kind, Parts, parts, readOf}
 use Rattle.packet.specs.Table.{eraseByte, writeByte, verifyByte, protectByte, protectType}
-
--- where one of n from a on passes, the search finds one
-any-some : (p : ℕ → Bool) (a n j : ℕ) → j < n → p (a + j) ≡ true → any p a n ≡ true
-unfolding any
-any-some p a zero j h t = absurd (omega arith)
-any-some p a (suc n) zero h t = either-first (p a) _ (subst (λ (x : ℕ). p x ≡ true) (add-zero a) t)
-any-some p a (suc n) (suc j) h t =
-    let e : a + suc j ≡ a + 1 + j = omega arith in
-    either-second (p a) (any p (a + 1) n)
-    (any-some p (a + 1) n j (omega arith) (subst (λ (x : ℕ). p x ≡ true) e t))
 
 -- bytes and pages are free when each of their groups is
 module _ (p : Protection) where

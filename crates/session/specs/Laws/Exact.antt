@@ -1,13 +1,13 @@
 -- 46 is exact: a session fits a file exactly where a start and events over that file lead to it. So `proved` says
 -- yes only where such events have acknowledged the V that holds the byte.
 use Prim.Native.Nat.{ℕ, zero, suc, _+_, _≤_, _<_}
-use mathlib.Core.Bool.{true, false, not}
+use mathlib.Core.Bool.{true, false}
 use mathlib.Core.List.{List, [], _∷_, _++_}
 use mathlib.Core.Path.{_≡_, refl, sym, ap, subst, _∙_}
 use native.Mathlib.Nat.{add-zero}
 use native.Mathlib.Omega.{arith}
-use borrow.Author.Tests.{eq-eqb, eqb-true, eqb-false, ltb-true, ltb-false, not-false}
-use lib.Dec.{eqb, ltb}
+use borrow.Author.Tests.{eq-eqb, eqb-true, eqb-false, not-false}
+use lib.Dec.{eqb}
 use lib.ListN.{length, replicate}
 use Rattle.basis.specs.Laws.Choice.{decide, true-false}
 use Rattle.basis.specs.Laws.Refusals.{passed, given-one}
@@ -20,11 +20,11 @@ use Rattle.session.specs.Laws.Endings.{ends-by, fails-ends}
 use Rattle.session.specs.Laws.Fits.{Fitting, fitting, fits-by, came-open, came-ended}
 use Rattle.session.specs.Laws.Marks.{marked-held, proved-is}
 use Rattle.session.specs.Laws.Phases.{greeted, stands-below, stands-at}
-use Rattle.session.specs.Laws.Series.{came, acks-state, acks-valid, event-taken, series-nil, series-ended, series-ack, series-last, series-first, series-fails, first-fails, ack-or, greeting-or}
+use Rattle.session.specs.Laws.Series.{came, acks-state, acks-valid, event-taken, series-nil, series-ack, series-last, series-first, series-fails, first-fails, ack-or, greeting-or}
 use Rattle.session.specs.Laws.States.{stands-greeting, phase-open, phase-later, ack-next, greeting-state, waiting-fits, state-fits}
-use Rattle.session.specs.Phases.{ended, phaseAt, standsAt}
+use Rattle.session.specs.Phases.{ended, phaseAt}
 use Rattle.session.specs.Plan.{total, beforeR}
-use Rattle.session.specs.Session.{sessionWith, atGreeting, stateAt, valid, tookOf, cameAt, fitsOf, series, marked, provedOf, Came, waits, stands, fails, ends, Acknowledged, Shown}
+use Rattle.session.specs.Session.{sessionWith, atGreeting, stateAt, tookOf, cameAt, fitsOf, series, marked, provedOf, Came, waits, stands, fails, ends, Acknowledged, Shown}
 use Rattle.session.specs.declared.event.Event.{Event}
 use Rattle.session.specs.declared.phase.Outcome.{Outcome}
 use Rattle.session.specs.declared.phase.Phase.{Phase}

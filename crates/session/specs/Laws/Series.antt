@@ -25,7 +25,7 @@ use Rattle.session.specs.declared.phase.RunKind.{RunKind}
 use Rattle.session.specs.declared.session.Session.{Session}
 
 -- after the end nothing changes
-pub series-ended : (board : ℕ) (m : List ℕ) (s : Session) (es : List Event) → ended (s .phase) ≡ true
+series-ended : (board : ℕ) (m : List ℕ) (s : Session) (es : List Event) → ended (s .phase) ≡ true
     → series board m s es ≡ s
 unfolding series
 series-ended board m s [] h = refl

@@ -15,7 +15,7 @@ use Rattle.basis.specs.Units.{startOf, mapBytes}
 use Rattle.runs.specs.Pieces.{runCount, namedCount}
 use Rattle.session.specs.Endings.{awaitedOf}
 use Rattle.session.specs.Laws.Fits.{fits-by, came-open}
-use Rattle.session.specs.Laws.Phases.{greeted, stands-below, stands-at, at-stands, greeting-stands, erase-stands, write-stands, verify-stands}
+use Rattle.session.specs.Laws.Phases.{greeted, stands-at, at-stands, greeting-stands, erase-stands, write-stands, verify-stands}
 use Rattle.session.specs.Laws.Plan.{plan-at}
 use Rattle.session.specs.Laws.Steps.{step-taken}
 use Rattle.session.specs.Phases.{ended, packetOut, eraseAt, writeAt, verifyAt, phaseAt, nextRun, nextPiece, afterOf, standsAt}

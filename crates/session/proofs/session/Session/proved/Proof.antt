@@ -1,7 +1,6 @@
 -- `proved` meets its contract: 20, 46, and else the mark.
 use mathlib.Core.Bool.{true}
 use mathlib.Core.Path.{_≡_, sym, _∙_}
-use borrow.Author.Needs.{needs}
 use borrow.Author.Tests.{not-true, not-false}
 use lib.ListN.{length}
 use Rattle.basis.specs.Board.{mapSize, pages}

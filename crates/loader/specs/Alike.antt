@@ -35,9 +35,9 @@ pub record TakenAlike (hide : Loader → Loader) (board : ℕ) (l k : Loader) (s
       ≡ hide (effectAfter k f (takeOf board k s f room) .loader)
 
 -- what reaches a loader: an input, with so much room for its answer, or a reset
-pub data Event : Type 0 where
-  input : List ℕ → ℕ → Event
-  reset : Event
+pub data Arrival : Type 0 where
+  input : List ℕ → ℕ → Arrival
+  reset : Arrival
 
 -- what an input brings to light
 pub record Told : Type 0 where
@@ -50,7 +50,7 @@ pub record Course : Type 0 where
   pub loader : Loader
   pub flash : List ℕ
 
-unfoldable pub courseOf : ℕ → Loader → List ℕ → List Event → Course
+unfoldable pub courseOf : ℕ → Loader → List ℕ → List Arrival → Course
 courseOf board l f [] = record { told = []; loader = l; flash = f }
 courseOf board l f (reset ∷ es) = courseOf board (resetOf l) f es
 courseOf board l f (input s room ∷ es) =
