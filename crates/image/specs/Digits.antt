@@ -17,8 +17,9 @@ unfoldable pub allDigits : List ℕ → Bool
 allDigits [] = true
 allDigits (c ∷ s) = both (ltb (digitOf c) 16) (allDigits s)
 
--- the bytes that the characters spell, two characters a byte, the higher digit first
+-- the bytes that the characters spell, two digits a byte, the higher first, as far as all are digits
 unfoldable pub decoded : List ℕ → List ℕ
 decoded [] = []
 decoded (c ∷ []) = []
-decoded (c ∷ d ∷ s) = (16 * digitOf c + digitOf d) ∷ decoded s
+decoded (c ∷ d ∷ s) =
+    pick (both (ltb (digitOf c) 16) (ltb (digitOf d) 16)) ((16 * digitOf c + digitOf d) ∷ decoded s) []

@@ -2,6 +2,7 @@
 use Prim.Native.Nat.{ℕ, _+_, _*_, _/_}
 use mathlib.Core.List.{List, [], _∷_, _++_}
 use mathlib.Core.Bool.{Bool, true, false, not}
+use mathlib.Core.Path.{_≡_}
 use lib.Dec.{eqb, ltb}
 use lib.ListN.{length, drop, replicate}
 use Rattle.basis.specs.Choice.{pick, both, either}
@@ -74,6 +75,13 @@ pastBoard size h b = both (ltb 0 (count b)) (ltb size (place h b + count b))
 -- a place named before
 abbrev pub namedBefore : Hex → List ℕ → List ℕ → Bool
 namedBefore h b map = anyNamed map (place h b) (count b)
+
+-- the bytes s from place a on go into image and map, unless one of the places is named before; r says whether
+abbrev pub Puts : List ℕ → List ℕ → ℕ → List ℕ → Bool → List ℕ → List ℕ → Type 0
+Puts image map a s r image′ map′ =
+    let free = not (anyNamed map a (length s)) in
+    (r ≡ free) × (image′ ≡ pick free (copyOf image a s) image)
+    × (map′ ≡ pick free (nameAllOf map a (length s)) map)
 
 -- what a data record does
 abbrev pub placed : Hex → List ℕ → List ℕ → List ℕ → File

@@ -8,7 +8,7 @@ use Rattle.basis.specs.Choice.{pick, either}
 use Rattle.basis.specs.Lists.{pairAt}
 use Rattle.basis.specs.Refusals.{Answer, given, Rule, _when_, first}
 use Rattle.basis.specs.Sums.{sumOf}
-use Rattle.image.specs.Digits.{allDigits}
+use Rattle.image.specs.Digits.{allDigits, decoded}
 
 -- ---- the parts of a record, of its bytes
 
@@ -83,6 +83,10 @@ characterRows line = 22 when noColon line ∷ 23 when lengthWrong line ∷ 24 wh
 
 unfoldable pub charactersOf : List ℕ → Answer Unit
 charactersOf line = first (characterRows line) (given tt)
+
+-- the bytes that are decoded by then: none where 22 or 23 came
+abbrev pub bytesOf : List ℕ → List ℕ
+bytesOf line = pick (either (noColon line) (lengthWrong line)) [] (decoded (drop 1 line))
 
 -- 25 and 26, of the bytes of a record of n characters
 abbrev pub byteRows : ℕ → List ℕ → List Rule

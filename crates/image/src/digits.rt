@@ -1,8 +1,8 @@
 // The characters of a hex file: a byte is two digits, the higher first.
 ghost use mathlib.Core.Path.{_≡_};
-ghost use mathlib.Core.Bool.{true};
-ghost use Prim.Native.Nat.{_*_, _/_, _%_, _≤_};
-ghost use lib.ListN.{length, take, drop};
+ghost use Prim.Native.Nat.{_/_, _%_, _≤_};
+ghost use lib.ListN.{length, drop};
+ghost use Rattle.basis.specs.Lists.{copyOf};
 ghost use Rattle.image.specs.Digits.{digitOf, allDigits, decoded};
 
 // The value of a digit in either case; 16 for a character that is none.
@@ -21,9 +21,8 @@ pub fn digit(c: u8) -> u8
 pub fn decode(line: &[u8], bytes: &mut [u8]) -> bool
     requires { ⌜ (length (now line) % 2 ≡ 1) × (length (now line) / 2 ≤ length (now bytes)) ⌝ }
     ensures digits { λ r. ⌜ r ≡ allDigits (drop 1 (now (line .entry))) ⌝ }
-    ensures bytes { λ r. ⌜
-        (r ≡ true
-        → take (length (now (line .entry)) / 2) (now (bytes .exit)) ≡ decoded (drop 1 (now (line .entry))))
+    ensures bytes { λ _. ⌜
+        now (bytes .exit) ≡ copyOf (now (bytes .entry)) 0 (decoded (drop 1 (now (line .entry))))
         ⌝ }
 {
     let n = line.len() / 2;

@@ -7,7 +7,7 @@ ghost use Rattle.basis.specs.Refusals.{given};
 ghost use Rattle.basis.specs.Board.{flashSize, mapSize};
 ghost use Rattle.image.specs.Record.{count, kind, shapeOf};
 ghost use Rattle.image.specs.Paper.{paperRead, Reads};
-ghost use Rattle.image.specs.Hex.{startIn, recordIn, applyIn, dataIn, otherOf, closeOf};
+ghost use Rattle.image.specs.Hex.{startIn, recordIn, applyIn, dataIn, Puts, otherOf, closeOf};
 use crate::record::Check;
 use crate::record::Refusal;
 use crate::record::characters;
@@ -148,14 +148,10 @@ impl Hex {
         if (END as u64) < place + count as u64 {
             return Read::Refused(Refusal::Place);
         }
-        let at = place as usize;
-        let from = Address(at as u32);
-        if any_named(map, from, count as u32) {
+        let end = 4 + count;
+        if !put(image, map, Address(place as u32), &bytes[4..end]) {
             return Read::Refused(Refusal::Twice);
         }
-        let end = 4 + count;
-        copy(image, at, &bytes[4..end]);
-        name_all(map, from, count as u32);
         Read::Taken(Hex {
             linear: self.linear,
             segment: self.segment,
@@ -201,6 +197,27 @@ impl Hex {
         }
         Read::Taken(self)
     }
+}
+
+// The bytes from a place on, into image and map; false, and nothing, where one of the places is named.
+fn put(image: &mut [u8], map: &mut [u8], from: Address, bytes: &[u8]) -> bool
+    requires { ⌜
+        (from .0 + length (now bytes) ≤ flashSize)
+        × (length (now image) ≡ flashSize) × (length (now map) ≡ mapSize)
+        ⌝ }
+    ensures { λ r. ⌜
+        Puts (now (image .entry)) (now (map .entry)) (from .0) (now (bytes .entry)) r
+        (now (image .exit)) (now (map .exit))
+        ⌝ }
+{
+    let at = from.0 as usize;
+    let count = bytes.len() as u32;
+    if any_named(map, from, count) {
+        return false;
+    }
+    copy(image, at, bytes);
+    name_all(map, from, count);
+    true
 }
 
 fn fill(bytes: &mut [u8], x: u8)

@@ -1,11 +1,10 @@
 // A record by itself, judged in the order of the paper: its characters, its bytes, its type and shape.
 ghost use mathlib.Core.Path.{_≡_};
-ghost use Prim.Native.Nat.{_/_, _≤_};
-ghost use lib.ListN.{length, take, drop};
-ghost use Rattle.basis.specs.Refusals.{given};
-ghost use Rattle.image.specs.Digits.{decoded};
+ghost use Prim.Native.Nat.{_≤_};
+ghost use lib.ListN.{length};
+ghost use Rattle.basis.specs.Lists.{copyOf};
 ghost use Rattle.image.specs.Paper.{paperRefusal, paperCheck};
-ghost use Rattle.image.specs.Record.{count, charactersOf, framingOf, shapeOf};
+ghost use Rattle.image.specs.Record.{charactersOf, bytesOf, framingOf, shapeOf};
 use crate::digits::decode;
 use basis::buffers::pair_at;
 use basis::sums::sum;
@@ -61,14 +60,11 @@ pub enum Check {
     Refused(Refusal),
 }
 
-// 22, 23 and 24. Where they pass, the record's bytes are the first of `bytes`.
+// 22, 23 and 24. The record's bytes come to the front of `bytes`.
 pub fn characters(line: &[u8], bytes: &mut [u8]) -> Check
     requires { ⌜ 260 ≤ length (now bytes) ⌝ }
     ensures answer { λ r. ⌜ paperCheck r ≡ charactersOf (now (line .entry)) ⌝ }
-    ensures bytes { λ r. ⌜
-        (paperCheck r ≡ given tt
-        → take (length (now (line .entry)) / 2) (now (bytes .exit)) ≡ decoded (drop 1 (now (line .entry))))
-        ⌝ }
+    ensures bytes { λ _. ⌜ now (bytes .exit) ≡ copyOf (now (bytes .entry)) 0 (bytesOf (now (line .entry))) ⌝ }
 {
     let n = line.len();
     if n == 0 {

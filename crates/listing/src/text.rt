@@ -66,7 +66,13 @@ impl Reading {
     }
 
     // The next bytes of the text, as many as came. After a refusal they count for nothing.
-    pub fn feed(self, bytes: &[u8], line: &mut [u8], image: &mut [u8], map: &mut [u8]) -> Reading
+    pub fn feed(
+        self,
+        bytes: &[u8],
+        line: &mut [u8; LINE],
+        image: &mut [u8],
+        map: &mut [u8],
+    ) -> Reading
         ensures { λ r. ⌜
             state (paperReading r) (now (line .exit)) (now (image .exit)) (now (map .exit))
             ≡ feedIn flashSize
@@ -115,7 +121,7 @@ impl Reading {
     }
 
     // The text has ended: what stands after the last 0A is a line as it stands, and the reader is closed.
-    pub fn close(self, line: &[u8], image: &mut [u8], map: &mut [u8]) -> Reading
+    pub fn close(self, line: &[u8; LINE], image: &mut [u8], map: &mut [u8]) -> Reading
         ensures { λ r. ⌜
             state (paperReading r) (now (line .entry)) (now (image .exit)) (now (map .exit))
             ≡ closeIn flashSize

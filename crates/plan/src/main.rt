@@ -32,7 +32,7 @@ fn main() {
     run(&mut buffer, &mut line, &mut image, &mut map);
 }
 
-fn run(buffer: &mut [u8], line: &mut [u8], image: &mut [u8], map: &mut [u8])
+fn run(buffer: &mut [u8], line: &mut [u8; LINE], image: &mut [u8], map: &mut [u8])
     requires { ⌜ longestLine ≤ length (now buffer) ⌝ }
 {
     let started = Reading::start(image, map);
@@ -49,7 +49,7 @@ fn run(buffer: &mut [u8], line: &mut [u8], image: &mut [u8], map: &mut [u8])
 fn read_all(
     start: Reading,
     buffer: &mut [u8],
-    line: &mut [u8],
+    line: &mut [u8; LINE],
     image: &mut [u8],
     map: &mut [u8],
 ) -> Chunk {
@@ -72,7 +72,7 @@ fn read_all(
 fn read_chunk(
     reading: Reading,
     buffer: &mut [u8],
-    line: &mut [u8],
+    line: &mut [u8; LINE],
     image: &mut [u8],
     map: &mut [u8],
 ) -> Chunk {

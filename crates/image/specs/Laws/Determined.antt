@@ -8,11 +8,13 @@ use Rattle.basis.specs.Laws.Refusals.{apart, given-one, refused-one, back-one, 
 use Rattle.basis.specs.Lists.{overlay}
 use Rattle.basis.specs.Refusals.{Answer}
 use Rattle.image.specs.Hex.{Settled, settledAs}
-use Rattle.image.specs.Paper.{paperRefusal, paperRead, paperWritten}
+use Rattle.image.specs.Paper.{paperRefusal, paperCheck, paperRead, paperWritten}
 use Rattle.image.specs.Writer.{Step, measured, textBytes}
 use Rattle.image.specs.declared.hex.Hex.{Hex}
 use Rattle.image.specs.declared.hex.Read.{Read}
 use Rattle.image.specs.declared.hex.Read.the-variants.{Taken, Refused}
+use Rattle.image.specs.declared.record.Check.{Check}
+use Rattle.image.specs.declared.record.Check.the-variants as check
 use Rattle.image.specs.declared.record.Refusal.{Refusal}
 use Rattle.image.specs.declared.record.Refusal.the-variants.{Size, Ended, Colon, Length, Digit, Count, Checksum, Kind, Shape, Place, Twice, NoEnd, NoData, Short}
 use Rattle.image.specs.declared.writer.Written.{Written}
@@ -54,6 +56,16 @@ refusal-back Short = refl
 
 pub refusal-one : (x y : Refusal) → paperRefusal x ≡ paperRefusal y → x ≡ y
 refusal-one = back-one paperRefusal refusalBy refusal-back
+
+-- a check of a record
+check-one : (r s : Check) → paperCheck r ≡ paperCheck s → r ≡ s
+check-one check.Passed check.Passed e = refl
+check-one check.Passed (check.Refused y) e = absurd (apart (sym e))
+check-one (check.Refused x) check.Passed e = absurd (apart e)
+check-one (check.Refused x) (check.Refused y) e = ap check.Refused (refusal-one x y (refused-one e))
+
+pub check-determined : {a : Answer Unit} (r s : Check) → paperCheck r ≡ a → paperCheck s ≡ a → r ≡ s
+check-determined = determined paperCheck check-one
 
 -- reading
 read-one : (r s : Read) → paperRead r ≡ paperRead s → r ≡ s

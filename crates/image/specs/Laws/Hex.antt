@@ -1,23 +1,25 @@
 -- Laws of the reader: what the checks of a record tell, and how the cuts make up the one table.
-use Prim.Native.Nat.{ℕ, _+_, _*_, _%_, _<_, _≤_}
+use Prim.Native.Nat.{ℕ, _+_, _*_, _/_, _%_, _<_, _≤_}
 use mathlib.Core.Path.{_≡_, refl, ap, _∙_}
 use mathlib.Core.Bool.{Bool, true, false, not}
 use mathlib.Core.List.{List, [], _∷_}
 use native.Mathlib.Omega.{arith}
 use lib.Dec.{eqb, ltb}
-use lib.ListN.{length, getD, drop}
+use lib.ListN.{length, getD, take, drop, length-drop}
+use lib.Seq.{take-at}
 use borrow.Author.Tests.{eq-eqb, ne-eqb, le-ltb, eqb-true, eqb-false, ltb-false, not-false}
 use Rattle.basis.specs.Units.{rightSizesIn}
-use Rattle.basis.specs.Choice.{pick, either}
+use Rattle.basis.specs.Choice.{pick, both, either}
 use Rattle.basis.specs.Refusals.{given, first, andThen}
 use Rattle.basis.specs.Laws.Refusals.{passed, first-then}
-use Rattle.basis.specs.Lists.{Bytes}
+use Rattle.basis.specs.Lists.{Bytes, copyOf}
+use Rattle.basis.specs.Laws.Lists.{copy-overlay}
 use Rattle.basis.specs.Sums.{plainSum, sumOf}
 use Rattle.image.specs.Digits.{digitOf, allDigits, decoded}
 use Rattle.image.specs.Writer.{letterOf, spelt, line}
 use Rattle.image.specs.Laws.Writer.{length-spelt, spelt-digits, spelt-bytes}
-use Rattle.basis.specs.Laws.Choice.{pick-second, both-no, either-none}
-use Rattle.image.specs.Record.{count, kind, address, recordLeast, recordMost, noColon, lengthWrong, countWrong, isData, kindWrong, shapeWrong, characterRows, byteRows, shapeRows, charactersOf, framingOf, shapeOf}
+use Rattle.basis.specs.Laws.Choice.{pick-second, both-true, both-no, either-none}
+use Rattle.image.specs.Record.{count, kind, address, recordLeast, recordMost, noColon, lengthWrong, notDigits, countWrong, isData, kindWrong, shapeWrong, characterRows, byteRows, shapeRows, charactersOf, bytesOf, framingOf, shapeOf}
 use Rattle.image.specs.Hex.{hex, file, place, placeRows, namedBefore, placed, otherOf, recordIn, applyIn, dataIn}
 use Rattle.image.specs.declared.hex.Hex.{Hex}
 
@@ -54,6 +56,29 @@ characters-length line e =
   where
     one : (x : ℕ) → (x ≡ 0 → ⊥) → x < 2 → x ≡ 1
     one x z l = omega arith
+
+-- digits only: each two are a byte
+decoded-length : (s : List ℕ) → allDigits s ≡ true → length (decoded s) ≡ length s / 2
+unfolding allDigits decoded
+decoded-length [] e = refl
+decoded-length (c ∷ []) e = refl
+decoded-length (c ∷ d ∷ s) e =
+    let p = both-true (ltb (digitOf c) 16) (both (ltb (digitOf d) 16) (allDigits s)) e in
+    let q = both-true (ltb (digitOf d) 16) (allDigits s) (p .1) in
+    rw (p .0, q .0) (omega (arith, decoded-length s (q .1)))
+
+-- where the characters pass, the record's bytes stand at the front
+pub characters-bytes : (line old : List ℕ) → charactersOf line ≡ given tt → length line / 2 ≤ length old
+    → take (length line / 2) (copyOf old 0 (bytesOf line)) ≡ decoded (drop 1 line)
+unfolding charactersOf
+characters-bytes line old e room =
+    let p = passed 22 (noColon line) _ _ e in
+    let q = passed 23 (lengthWrong line) _ _ (p .1) in
+    let d = not-false (allDigits (drop 1 line)) (passed 24 (notDigits line) _ _ (q .1) .0) in
+    let b = decoded (drop 1 line) in
+    let n : length b ≡ length line / 2 =
+    omega (arith, decoded-length (drop 1 line) d, length-drop 1 line, characters-length line e .odd) in
+    rw (p .0, q .0, copy-overlay [] old b 0 refl (omega arith)) (take-at b (drop (length b) old) _ n)
 
 module _ (size : ℕ) (h : Hex) (image map : List ℕ) where
   -- the table after 20 and 21: the characters, then the bytes

@@ -30,6 +30,9 @@ module _ (x : ℕ) (h : x < 256) where
   digit-high : digitOf (letterOf (x / 16)) ≡ x / 16
   digit-high = digit-letter (x / 16) (omega arith)
 
+  high-below : x / 16 < 16
+  high-below = omega arith
+
   digit-low : digitOf (letterOf (x % 16)) ≡ x % 16
   digit-low = digit-letter (x % 16) (omega arith)
 
@@ -40,18 +43,22 @@ spelt-digits [] h = refl
 spelt-digits (x ∷ s) h =
     rw (
       digit-high x (h 0),
-      lt-ltb (x / 16) 16 (below (h 0)),
+      lt-ltb (x / 16) 16 (high-below x (h 0)),
       digit-low x (h 0),
       lt-ltb (x % 16) 16 (omega arith),
     )
     (spelt-digits s (λ k. h (suc k)))
-  where
-    below : x < 256 → x / 16 < 16
-    below l = omega arith
 
 pub spelt-bytes : (s : List ℕ) → Bytes s → decoded (spelt s) ≡ s
 unfolding spelt decoded
 spelt-bytes [] h = refl
 spelt-bytes (x ∷ s) h =
     let e : 16 * (x / 16) + x % 16 ≡ x = omega arith in
-    rw (digit-high x (h 0), digit-low x (h 0), e, spelt-bytes s (λ k. h (suc k)))
+    rw (
+      digit-high x (h 0),
+      digit-low x (h 0),
+      lt-ltb (x / 16) 16 (high-below x (h 0)),
+      lt-ltb (x % 16) 16 (omega arith),
+      e,
+      spelt-bytes s (λ k. h (suc k)),
+    )

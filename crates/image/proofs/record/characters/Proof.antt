@@ -1,124 +1,105 @@
 -- `characters` meets its contract: its tests are those of the table, in its order.
-use mathlib.Core.Path.{sym, _∙_}
+use Prim.Native.Nat.{ℕ}
+use mathlib.Core.Bool.{Bool, true, false}
+use mathlib.Core.List.{List}
+use mathlib.Core.Path.{_≡_, sym, _∙_}
+use lib.ListN.{drop}
 use borrow.Author.Tests.{lt-ltb, le-ltb, eq-eqb, ne-eqb, not-true, not-false}
-use Rattle.basis.specs.Refusals.{first}
-use Rattle.basis.specs.Laws.Refusals.{apart}
-use Rattle.image.specs.Record.{charactersOf}
+use Rattle.basis.specs.Lists.{stored, copyOf}
+use Rattle.basis.specs.Refusals.{Answer, refused, given, first}
+use Rattle.image.specs.Digits.{allDigits, decoded}
+use Rattle.image.specs.Record.{noColon, lengthWrong, charactersOf, bytesOf}
 use borrow.Author.Needs.{needs}
 use Rattle.image.proofs.record.characters.Statement.{statement}
 use Rattle.image.proofs.record.characters.Tie as tie
 
-returns : tie.Need-returns
-unfolding first charactersOf
-returns c = (simp (eq-eqb _ _ (c .if1 .taken)), λ e. absurd (apart e))
+-- the ways out, each by the table
+module _ (line old : List ℕ) where
+  abbrev Says : Answer Unit → List ℕ → Type 0
+  Says a b = (a ≡ charactersOf line) × (b ≡ copyOf old 0 (bytesOf line))
 
-shared-slice-read-if2 : tie.Need-shared-slice-read-if2
-shared-slice-read-if2 c = search needs
+  no-colon : noColon line ≡ true → Says (refused 22) old
+  unfolding first charactersOf stored
+  no-colon e = (rw e, rw e)
+
+  module _ (colon : noColon line ≡ false) where
+    no-length : lengthWrong line ≡ true → Says (refused 23) old
+    unfolding first charactersOf stored
+    no-length e = (rw (colon, e), rw (colon, e))
+
+    module _ (l : lengthWrong line ≡ false) (b : List ℕ) (e : b ≡ copyOf old 0 (decoded (drop 1 line))) where
+      no-digit : allDigits (drop 1 line) ≡ false → Says (refused 24) b
+      unfolding first charactersOf
+      no-digit d = (rw (colon, l, d), rw (colon, l) e)
+
+      all-digits : allDigits (drop 1 line) ≡ true → Says (given tt) b
+      unfolding first charactersOf
+      all-digits d = (rw (colon, l, d), rw (colon, l) e)
+
+-- the places behind the colon and behind the length, and what is known there
+abbrev entry : tie.Else2 → tie.Start
+entry c = c .before .before .before .before .before
+
+abbrev colon-at : tie.Else5 → tie.Else2
+colon-at c = c .before .before .before
+
+colon : (c : tie.Else2) → noColon (entry c .args .line .now) ≡ false
+colon c = simp (ne-eqb _ _ (c .before .before .if1 .left), eq-eqb _ _ (c .if2 .left))
+
+long : (c : tie.Else5) → lengthWrong (entry (colon-at c) .args .line .now) ≡ false
+long c =
+    simp (
+      le-ltb _ _ (c .before .before .if3 .left),
+      le-ltb _ _ (c .before .if4 .left),
+      ne-eqb _ _ (c .if5 .left),
+    )
+
+returns : tie.Need-returns
+returns c = no-colon _ _ (simp (eq-eqb _ _ (c .if1 .taken)))
 
 returns-2 : tie.Need-returns-2
-unfolding first charactersOf
-returns-2 c =
-    (simp (ne-eqb _ _ (c .before .before .if1 .left), ne-eqb _ _ (c .if2 .taken)), λ e. absurd (apart e))
+returns-2 c = no-colon _ _ (simp (ne-eqb _ _ (c .before .before .if1 .left), ne-eqb _ _ (c .if2 .taken)))
 
 returns-3 : tie.Need-returns-3
-unfolding first charactersOf
-returns-3 c = (
-  simp (
-    ne-eqb _ _ (c .before .before .before .if1 .left),
-    eq-eqb _ _ (c .before .if2 .left),
-    lt-ltb _ _ (c .if3 .taken),
-  ),
-  λ e. absurd (apart e),
-)
+returns-3 c = no-length _ _ (colon (c .before)) (simp (lt-ltb _ _ (c .if3 .taken)))
 
 returns-4 : tie.Need-returns-4
-unfolding first charactersOf
-returns-4 c = (
-  simp (
-    ne-eqb _ _ (c .before .before .before .before .if1 .left),
-    eq-eqb _ _ (c .before .before .if2 .left),
-    le-ltb _ _ (c .before .if3 .left),
-    lt-ltb _ _ (c .if4 .taken),
-  ),
-  λ e. absurd (apart e),
-)
+returns-4 c =
+    no-length _ _ (colon (c .before .before))
+    (simp (le-ltb _ _ (c .before .if3 .left), lt-ltb _ _ (c .if4 .taken)))
 
 returns-5 : tie.Need-returns-5
-unfolding first charactersOf
-returns-5 c = (
-  simp (
-    ne-eqb _ _ (c .before .before .before .before .before .if1 .left),
-    eq-eqb _ _ (c .before .before .before .if2 .left),
-    le-ltb _ _ (c .before .before .if3 .left),
-    le-ltb _ _ (c .before .if4 .left),
-    eq-eqb _ _ (c .if5 .taken),
-  ),
-  λ e. absurd (apart e),
-)
-
-decode-requires : tie.Need-decode-requires
-decode-requires c κs = search needs
-
-same-length : tie.Need-same-length
-same-length c = search needs
+returns-5 c =
+    let if3 = c .before .before .if3 in
+    no-length _ _ (colon (c .before .before .before))
+    (simp (le-ltb _ _ (if3 .left), le-ltb _ _ (c .before .if4 .left), eq-eqb _ _ (c .if5 .taken)))
 
 returns-6 : tie.Need-returns-6
-unfolding first charactersOf
 returns-6 c =
     let decode = c .before .before .before .decode in
-    let if4 = c .before .before .before .before .before .before .if4 in
-    let if3 = c .before .before .before .before .before .before .before .if3 in
-    let if2 = c .before .before .before .before .before .before .before .before .if2 in
-    let p = c .before .before .before .before .before .before .before .before .before .before in
-    let if1 = p .if1 in
-    let d = sym (decode .ensures .0) ∙ not-true (decode .result) (c .if6 .taken) in (
-      simp (
-        ne-eqb _ _ (if1 .left),
-        eq-eqb _ _ (if2 .left),
-        le-ltb _ _ (if3 .left),
-        le-ltb _ _ (if4 .left),
-        ne-eqb _ _ (c .before .before .before .before .before .if5 .left),
-        d,
-      ),
-      λ e. absurd (apart e),
-    )
-
-same-length-2 : tie.Need-same-length-2
-same-length-2 c = search needs
+    let at = c .before .before .before .before .before in
+    no-digit _ _ (colon (colon-at at)) (long at) _ (decode .ensures .1)
+    (sym (decode .ensures .0) ∙ not-true (decode .result) (c .if6 .taken))
 
 returns-7 : tie.Need-returns-7
-unfolding first charactersOf
 returns-7 c =
     let decode = c .before .before .before .decode in
-    let if4 = c .before .before .before .before .before .before .if4 in
-    let if3 = c .before .before .before .before .before .before .before .if3 in
-    let if2 = c .before .before .before .before .before .before .before .before .if2 in
-    let p = c .before .before .before .before .before .before .before .before .before .before in
-    let if1 = p .if1 in
-    let d = not-false (decode .result) (c .if6 .left) in (
-      simp (
-        ne-eqb _ _ (if1 .left),
-        eq-eqb _ _ (if2 .left),
-        le-ltb _ _ (if3 .left),
-        le-ltb _ _ (if4 .left),
-        ne-eqb _ _ (c .before .before .before .before .before .if5 .left),
-        sym (decode .ensures .0) ∙ d,
-      ),
-      λ _. decode .ensures .1 d,
-    )
+    let at = c .before .before .before .before .before in
+    all-digits _ _ (colon (colon-at at)) (long at) _ (decode .ensures .1)
+    (sym (decode .ensures .0) ∙ not-false (decode .result) (c .if6 .left))
 
 pub characters-spec : {M : Type 1} → statement M
 characters-spec =
     tie.close
     (tie.spec
     returns
-    shared-slice-read-if2
+    (λ c. search needs)
     returns-2
     returns-3
     returns-4
     returns-5
-    decode-requires
-    same-length
+    (λ c κs. search needs)
+    (λ c. search needs)
     returns-6
-    same-length-2
+    (λ c. search needs)
     returns-7)

@@ -1,62 +1,57 @@
 -- `framing` meets its contract: its tests are those of the table, in its order.
-use Prim.Native.Nat.{_+_, _*_}
-use mathlib.Core.Path.{sym, _∙_}
+use Prim.Native.Nat.{ℕ, _+_, _*_}
+use mathlib.Core.List.{List}
+use mathlib.Core.Path.{_≡_}
 use native.Mathlib.Omega.{arith}
 use borrow.Author.Tests.{eq-eqb, ne-eqb}
-use Rattle.basis.specs.Refusals.{first}
+use Rattle.basis.specs.Refusals.{refused, given, first}
+use Rattle.basis.specs.Sums.{sumOf}
 use Rattle.image.specs.Record.{count, recordLeast, framingOf}
 use borrow.Author.Needs.{needs}
 use Rattle.image.proofs.record.framing.Statement.{statement}
 use Rattle.image.proofs.record.framing.Tie as tie
 
-shared-slice-read-wide : tie.Need-shared-slice-read-wide
-shared-slice-read-wide c = search needs
+-- the ways out, each by the table
+module _ (n : ℕ) (b : List ℕ) where
+  wrong-count : (n ≡ recordLeast + 2 * count b → ⊥) → refused 25 ≡ framingOf n b
+  unfolding first framingOf
+  wrong-count w = simp (ne-eqb _ _ w)
 
-wide-requires : tie.Need-wide-requires
-wide-requires c κs = search needs
+  module _ (e : n ≡ recordLeast + 2 * count b) where
+    wrong-sum : (sumOf b ≡ 0 → ⊥) → refused 26 ≡ framingOf n b
+    unfolding first framingOf
+    wrong-sum w = simp (eq-eqb _ _ e, ne-eqb _ _ w)
 
-mul-if1 : tie.Need-mul-if1
-mul-if1 c = search needs
+    right : sumOf b ≡ 0 → given tt ≡ framingOf n b
+    unfolding first framingOf
+    right s = simp (eq-eqb _ _ e, eq-eqb _ _ s)
 
-add-if1 : tie.Need-add-if1
-add-if1 c = search needs
+abbrev entry : tie.After-wide → tie.Start
+entry c = c .before .before .before
+
+-- the length is as the count says
+counted : (c : tie.Else1) → let a = entry (c .before) .args in a .n ≡ recordLeast + 2 * count (a .bytes .now)
+counted c = omega (arith, c .before .wide .ensures .0)
 
 returns : tie.Need-returns
-unfolding first framingOf
-returns c = let b = c .before .before .before .before .args .bytes .now in
-    simp (ne-eqb (c .before .before .before .before .args .n) (recordLeast + 2 * count b)
-    (λ e. c .if1 .taken (omega (arith, c .before .wide .ensures .0))))
-
-sum-requires : tie.Need-sum-requires
-sum-requires c κs = search needs
+returns c = wrong-count _ _ (λ e. c .if1 .taken (omega (arith, c .before .wide .ensures .0)))
 
 returns-2 : tie.Need-returns-2
-unfolding first framingOf
-returns-2 c = let b = c .before .before .before .before .before .before .args .bytes .now in
-    simp (
-      eq-eqb (c .before .before .before .before .before .before .args .n) (recordLeast + 2 * count b)
-          (omega (arith, c .before .before .before .wide .ensures .0)),
-      ne-eqb _ _ (λ e. c .if2 .taken (c .before .sum .ensures ∙ e)),
-    )
+returns-2 c =
+    wrong-sum _ _ (counted (c .before .before)) (λ e. c .if2 .taken (omega (arith, c .before .sum .ensures)))
 
 returns-3 : tie.Need-returns-3
-unfolding first framingOf
-returns-3 c = let b = c .before .before .before .before .before .before .args .bytes .now in
-    simp (
-      eq-eqb (c .before .before .before .before .before .before .args .n) (recordLeast + 2 * count b)
-          (omega (arith, c .before .before .before .wide .ensures .0)),
-      eq-eqb _ _ (sym (c .before .sum .ensures) ∙ c .if2 .left),
-    )
+returns-3 c = right _ _ (counted (c .before .before)) (omega (arith, c .before .sum .ensures))
 
 pub framing-spec : {M : Type 1} → statement M
 framing-spec =
     tie.close
     (tie.spec
-    shared-slice-read-wide
-    wide-requires
-    mul-if1
-    add-if1
+    (λ c. search needs)
+    (λ c κs. search needs)
+    (λ c. search needs)
+    (λ c. search needs)
     returns
-    sum-requires
+    (λ c κs. search needs)
     returns-2
     returns-3)

@@ -26,51 +26,35 @@ module _ (size : ℕ) (text line image map : List ℕ) (room : lineRoom ≤ leng
       ∙ ap fedResult (g ∙ ap (closeIn size) (f ∙ ap (λ (x : Fed). feedIn size x text) e))
       ∙ text-reads size text line image map room few
 
-start-requires : tie.Need-start-requires
-start-requires c κs = search needs
+-- the calls' places, the last first, and the entry
+abbrev close-at : tie.After-ended → tie.After-close
+close-at c = c .before .before .before .before .before
 
-slice-aggregate-feed : tie.Need-slice-aggregate-feed
-slice-aggregate-feed c = search needs
+abbrev feed-at : tie.After-close → tie.After-feed
+feed-at c = c .before .before .before .before .before .before .before .before
 
-feed-requires : tie.Need-feed-requires
-feed-requires c κs = search needs
+abbrev start-at : tie.After-feed → tie.After-start
+start-at c = c .before .before .before .before .before .before .before .before
 
-slice-aggregate-close : tie.Need-slice-aggregate-close
-slice-aggregate-close c = search needs
-
-close-requires : tie.Need-close-requires
-close-requires c κs = search needs
-
-ended-requires : tie.Need-ended-requires
-ended-requires c κs = search needs
-
-same-length : tie.Need-same-length
-same-length c = search needs
-
-same-length-2 : tie.Need-same-length-2
-same-length-2 c = search needs
+abbrev entry : tie.After-start → tie.Start
+entry c = c .before .before .before .before .before .before
 
 returns : tie.Need-returns
 returns c =
-    read-by _ _ _ _ _ (omega arith)
-    (omega (
-      arith,
-      c .before .before .before .before .before .before .before .before .before .before .before .before .before .before .before .before .before .before .before .before .before .before .before .before .before .before .before .before .good .0 .1,
-    )) _ _ _ _ _ _ _ _ _ _
-    (c .before .before .before .before .before .before .before .before .before .before .before .before .before .before .before .before .before .before .before .before .before .before .start .ensures)
-    (c .before .before .before .before .before .before .before .before .before .before .before .before .before .before .feed .ensures)
-    (c .before .before .before .before .before .close .ensures) _ (c .ended .ensures)
+    let closed = close-at c in
+    let fed = feed-at closed in
+    let started = start-at fed in
+    read-by _ _ _ _ _ (omega arith) (omega (arith, entry started .good .0 .1)) _ _ _ _ _ _ _ _ _ _
+    (started .start .ensures) (fed .feed .ensures) (closed .close .ensures) _ (c .ended .ensures)
 
 pub read-spec : {M : Type 1} → statement M
 read-spec =
     tie.close
     (tie.spec
-    start-requires
-    slice-aggregate-feed
-    feed-requires
-    slice-aggregate-close
-    close-requires
-    ended-requires
-    same-length
-    same-length-2
+    (λ c κs. search needs)
+    (λ c κs. search needs)
+    (λ c κs. search needs)
+    (λ c κs. search needs)
+    (λ c. search needs)
+    (λ c. search needs)
     returns)

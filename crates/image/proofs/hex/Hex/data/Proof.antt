@@ -1,15 +1,17 @@
 -- `data` meets its contract: one lemma for each way out.
-use Prim.Native.Nat.{ℕ, _+_, _<_, _≤_, _-_}
-use mathlib.Core.Path.{_≡_, sym, _∙_}
-use mathlib.Core.Bool.{true, false}
+use Prim.Native.Nat.{ℕ, _+_, _-_, _<_, _≤_}
+use mathlib.Core.Path.{_≡_, sym, ap, _∙_}
+use mathlib.Core.Bool.{Bool, true, false}
 use mathlib.Core.List.{List}
-use borrow.Author.Tests.{lt-ltb, le-ltb}
+use lib.ListN.{length, take, drop, length-drop}
+use lib.Seq.{length-take-le}
+use borrow.Author.Tests.{lt-ltb, le-ltb, not-true, not-false}
 use Rattle.basis.specs.Refusals.{refused, given, first}
 use Rattle.image.specs.Record.{count, payload}
-use Rattle.basis.specs.Lists.{stored, copyOf}
-use Rattle.runs.specs.Map.{nameAllOf}
+use Rattle.basis.specs.Lists.{stored}
+use Rattle.runs.specs.Map.{anyNamed, nameAllOf}
 use Rattle.basis.specs.Choice.{any}
-use Rattle.image.specs.Hex.{hex, settledAs, settled, place, namedBefore, dataIn}
+use Rattle.image.specs.Hex.{Settled, hex, settledAs, settled, place, Puts, dataIn}
 use Rattle.image.specs.declared.hex.Hex.{Hex}
 use native.Mathlib.Omega.{arith}
 use borrow.Author.Needs.{needs}
@@ -19,171 +21,122 @@ use Rattle.image.proofs.hex.Hex.data.Tie as tie
 
 -- the ways out, each by the table
 module _ (size : ℕ) (h : Hex) (b image map : List ℕ) where
-  data-none : count b ≡ 0 → settledAs (given h) image map ≡ settled (dataIn size h b image map) image map
+  abbrev told : Settled
+  told = settled (dataIn size h b image map) image map
+
+  data-none : count b ≡ 0 → settledAs (given h) image map ≡ told
   unfolding first dataIn any nameAllOf stored
   data-none e = rw e
 
   module _ (some : 0 < count b) where
-    data-high : size < place h b + count b
-        → settledAs (refused 29) image map ≡ settled (dataIn size h b image map) image map
+    data-high : size < place h b + count b → settledAs (refused 29) image map ≡ told
     unfolding first dataIn
     data-high e = simp (lt-ltb _ _ some, lt-ltb _ _ e)
 
-    module _ (fits : place h b + count b ≤ size) where
-      data-twice : namedBefore h b map ≡ true
-          → settledAs (refused 30) image map ≡ settled (dataIn size h b image map) image map
+    -- the payload is put at its place, or not
+    module _ (fits : place h b + count b ≤ size) (i m : List ℕ) where
+      data-twice : Puts image map (place h b) (payload b) false i m → length (payload b) ≡ count b
+          → settledAs (refused 30) i m ≡ told
       unfolding first dataIn
-      data-twice e = simp (lt-ltb _ _ some, le-ltb _ _ fits, e)
+      data-twice p l =
+          let e : anyNamed map (place h b) (count b) ≡ true = rw (← l) (not-false _ (sym (p .0))) in
+          rw (lt-ltb _ _ some, le-ltb _ _ fits, e, p .1, p .2, l, e)
 
-      data-given : (i m : List ℕ) → namedBefore h b map ≡ false → i ≡ copyOf image (place h b) (payload b)
-          → m ≡ nameAllOf map (place h b) (count b)
-          → settledAs (given (hex (h .linear) (h .segment) (h .ended) true)) i m
-          ≡ settled (dataIn size h b image map) image map
+      data-given : Puts image map (place h b) (payload b) true i m → length (payload b) ≡ count b
+          → settledAs (given (hex (h .linear) (h .segment) (h .ended) true)) i m ≡ told
       unfolding first dataIn
-      data-given i m e ei em = simp (lt-ltb _ _ some, le-ltb _ _ fits, e, ei, em)
+      data-given p l =
+          let e : anyNamed map (place h b) (count b) ≡ false = rw (← l) (not-true _ (sym (p .0))) in
+          rw (lt-ltb _ _ some, le-ltb _ _ fits, e, p .1, p .2, l, e)
 
-shared-slice-read-wide : tie.Need-shared-slice-read-wide
-shared-slice-read-wide c = search needs
+payload-long : (b : List ℕ) → length b ≡ 5 + count b → length (payload b) ≡ count b
+payload-long b e = length-take-le (count b) (drop 4 b) (omega (arith, length-drop 4 b))
 
-wide-requires : tie.Need-wide-requires
-wide-requires c κs = search needs
+-- what was lent is the payload, at its place
+lent : (image map i m : List ℕ) (a d : ℕ) (b : List ℕ) (n : ℕ) (r t : Bool) → a ≡ d → n ≡ count b → r ≡ t
+    → Puts image map a (take n (drop 4 b)) r i m → Puts image map d (payload b) t i m
+lent image map i m a d b n r t ea en er p = rw (← ea, ← en, ← er) p
+
+-- the places behind the tests of the count and of the end, and what is known there
+abbrev count-at : tie.After-pair-at → tie.Else1
+count-at c = c .before .before .before
+
+abbrev entry : tie.Else1 → tie.Start
+entry c = c .before .before .before .before .before .before
+
+abbrev bytes-at : tie.Else1 → List ℕ
+bytes-at c = entry c .args .bytes .now
+
+some : (c : tie.Else1) → 0 < count (bytes-at c)
+some c = omega (arith, c .before .wide .ensures .0, c .if1 .left)
+
+fits : (c : tie.Else2) → let at = count-at (c .before) in
+    place (entry at .args .self) (bytes-at at) + count (bytes-at at) ≤ flashSize
+fits c =
+    omega (arith, count-at (c .before) .before .wide .ensures .0, c .before .pair-at .ensures, c .if2 .left)
+
+abbrev end-at : tie.After-put → tie.Else2
+end-at c = c .before .before .before .before
+
+putting : (c : tie.After-put) (t : Bool) → c .put .result ≡ t → let at = count-at (end-at c .before) in
+    Puts (entry at .args .image .now) (entry at .args .map .now) (place (entry at .args .self) (bytes-at at))
+    (payload (bytes-at at)) t (c .put .last .0) (c .put .last .1 .0)
+putting c t e =
+    let pair = end-at c .before .pair-at in
+    let at = count-at (end-at c .before) in
+    let self = entry at .args .self in
+    lent _ _ _ _ (self .linear + self .segment + pair .result) _ (bytes-at at)
+    (4 + at .before .wide .result - 4) _ t (omega (arith, pair .ensures))
+    (omega (arith, at .before .wide .ensures .0)) e (c .put .ensures)
 
 returns : tie.Need-returns
 returns c = data-none flashSize _ _ _ _ (sym (c .before .wide .ensures .0) ∙ c .if1 .taken)
 
-cast-place : tie.Need-cast-place
-cast-place c = search needs
-
-cast-place-2 : tie.Need-cast-place-2
-cast-place-2 c = search needs
-
-add-place : tie.Need-add-place
-add-place c = search needs
-
-pair-at-requires : tie.Need-pair-at-requires
-pair-at-requires c κs = search needs
-
-cast-place-3 : tie.Need-cast-place-3
-cast-place-3 c = search needs
-
-add-place-2 : tie.Need-add-place-2
-add-place-2 c = search needs
-
-cast-if2 : tie.Need-cast-if2
-cast-if2 c = search needs
-
-add-if2 : tie.Need-add-if2
-add-if2 c = search needs
-
 returns-2 : tie.Need-returns-2
 returns-2 c =
-    let if1 = c .before .before .before .before .if1 in
-    let wide = c .before .before .before .before .before .wide in
-    let p = c .before .before .before .before .before .before .before .before .before .before in
-    let args = p .args in
-    let b = args .bytes .now in
-    data-high flashSize _ b _ _ (omega (arith, wide .ensures .0, if1 .left))
-    (omega (arith, wide .ensures .0, c .before .pair-at .ensures, c .if2 .taken))
-
-cast-any-named : tie.Need-cast-any-named
-cast-any-named c = search needs
-
-cast-any-named-2 : tie.Need-cast-any-named-2
-cast-any-named-2 c = search needs
-
-any-named-requires : tie.Need-any-named-requires
-any-named-requires c κs = search needs
-
-same-length : tie.Need-same-length
-same-length c = search needs
+    let at = count-at (c .before) in
+    data-high flashSize _ (bytes-at at) _ _ (some at)
+    (omega (arith, at .before .wide .ensures .0, c .before .pair-at .ensures, c .if2 .taken))
 
 returns-3 : tie.Need-returns-3
 returns-3 c =
-    let pair = c .before .before .before .before .pair-at in
-    let p = c .before .before .before .before .before .before .before in
-    let if1 = p .if1 in
-    let wide = p .before .wide in
-    let args = p .before .before .before .before .before .before .args in
-    let b = args .bytes .now in
-    data-twice flashSize _ b _ _ (omega (arith, wide .ensures .0, if1 .left))
-    (omega (arith, wide .ensures .0, pair .ensures, c .before .before .before .if2 .left))
-    (rw (← wide .ensures .0, ← pair .ensures) (sym (c .before .any-named .ensures) ∙ c .if3 .taken))
-
-add-end : tie.Need-add-end
-add-end c = search needs
-
-sub-copy : tie.Need-sub-copy
-sub-copy c = search needs
-
-part-copy-start : tie.Need-part-copy-start
-part-copy-start c = search needs
-
-part-copy-end : tie.Need-part-copy-end
-part-copy-end c = search needs
-
-copy-requires : tie.Need-copy-requires
-copy-requires c κs = search needs
-
-cast-name-all : tie.Need-cast-name-all
-cast-name-all c = search needs
-
-name-all-requires : tie.Need-name-all-requires
-name-all-requires c κs = search needs
-
-same-length-2 : tie.Need-same-length-2
-same-length-2 c = search needs
-
-same-length-3 : tie.Need-same-length-3
-same-length-3 c = search needs
+    let put-at = c .before .before .before .before .before in
+    let at = count-at (end-at put-at .before) in
+    data-twice flashSize _ (bytes-at at) _ _ (some at) (fits (end-at put-at)) _ _
+    (putting put-at false (not-true _ (c .if3 .taken))) (payload-long (bytes-at at) (entry at .pre .0))
 
 returns-4 : tie.Need-returns-4
 returns-4 c =
-    let copy = c .before .before .before .before .before .before .copy in
-    let p = c .before .before .before .before .before .before .before .before .before in
-    let if3 = p .if3 in
-    let any-named = p .before .any-named in
-    let if2 = p .before .before .before .if2 in
-    let pair = p .before .before .before .before .pair-at in
-    let q = p .before .before .before .before .before .before .before in
-    let if1 = q .if1 in
-    let wide = q .before .wide in
-    let args = q .before .before .before .before .before .before .args in
-    let b = args .bytes .now in
-    let size : 4 + wide .result - 4 ≡ count b = omega (arith, wide .ensures .0) in
-    data-given flashSize _ b _ _ (omega (arith, wide .ensures .0, if1 .left))
-    (omega (arith, wide .ensures .0, pair .ensures, if2 .left)) _ _
-    (rw (← wide .ensures .0, ← pair .ensures) (sym (any-named .ensures) ∙ if3 .left))
-    (copy .ensures ∙ rw (size, pair .ensures))
-    (c .before .before .name-all .ensures ∙ rw (wide .ensures .0, pair .ensures))
+    let put-at = c .before .before .before .before .before in
+    let at = count-at (end-at put-at .before) in
+    data-given flashSize _ (bytes-at at) _ _ (some at) (fits (end-at put-at)) _ _
+    (putting put-at true (not-false _ (c .if3 .left))) (payload-long (bytes-at at) (entry at .pre .0))
 
 pub data-spec : {M : Type 1} → statement M
 data-spec =
     tie.close
     (tie.spec
-    shared-slice-read-wide
-    wide-requires
+    (λ c. search needs)
+    (λ c κs. search needs)
     returns
-    cast-place
-    cast-place-2
-    add-place
-    pair-at-requires
-    cast-place-3
-    add-place-2
-    cast-if2
-    add-if2
+    (λ c. search needs)
+    (λ c. search needs)
+    (λ c. search needs)
+    (λ c κs. search needs)
+    (λ c. search needs)
+    (λ c. search needs)
+    (λ c. search needs)
+    (λ c. search needs)
     returns-2
-    cast-any-named
-    cast-any-named-2
-    any-named-requires
-    same-length
+    (λ c. search needs)
+    (λ c. search needs)
+    (λ c. search needs)
+    (λ c. search needs)
+    (λ c. search needs)
+    (λ c κs. search needs)
+    (λ c. search needs)
+    (λ c. search needs)
     returns-3
-    add-end
-    sub-copy
-    part-copy-start
-    part-copy-end
-    copy-requires
-    cast-name-all
-    name-all-requires
-    same-length-2
-    same-length-3
+    (λ c. search needs)
+    (λ c. search needs)
     returns-4)

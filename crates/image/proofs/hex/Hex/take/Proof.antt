@@ -1,16 +1,16 @@
 -- `take` meets its contract: what the characters spell is handed on.
-use Prim.Native.Nat.{ℕ, _/_}
+use Prim.Native.Nat.{ℕ, _/_, _≤_}
 use mathlib.Core.Path.{_≡_, sym, ap, _∙_}
 use mathlib.Core.Bool.{false}
 use mathlib.Core.List.{List}
-use lib.ListN.{length, drop}
+use lib.ListN.{length, take, drop}
 use Rattle.basis.specs.Laws.Units.{right-sizes}
 use Rattle.basis.specs.Refusals.{refused, given}
 use Rattle.image.specs.Digits.{decoded}
 use Rattle.image.specs.Record.{charactersOf}
 use Rattle.image.specs.Hex.{settledAs, settled, recordIn, applyIn}
 use Rattle.image.specs.declared.hex.Hex.{Hex}
-use Rattle.image.specs.Laws.Hex.{record-cut, characters-length}
+use Rattle.image.specs.Laws.Hex.{record-cut, characters-length, characters-bytes}
 use lib.Seq.{length-take-le}
 use native.Mathlib.Omega.{arith}
 use denote.Ref.{now}
@@ -31,96 +31,69 @@ module _ (size : ℕ) (h : Hex) (line image map : List ℕ) (p : length image �
       → applyIn size h (length line) b image map ≡ recordIn size h line image map
   take-applied b e s = rw (record-cut size h image map line (right-sizes size _ _ p q) going, e, s)
 
-characters-requires : tie.Need-characters-requires
-characters-requires c κs = search needs
+-- the entry, and what is known where the characters passed
+abbrev entry : tie.After-characters → tie.Start
+entry c = c .before .before .before .before .before .before
 
-enum-known-checked : tie.Need-enum-known-checked
-enum-known-checked c = search needs
+abbrev checked-at : tie.After-enum-told → tie.After-characters
+checked-at c = c .before .before .before .before
 
-same-length : tie.Need-same-length
-same-length c = search needs
+abbrev line-at : tie.After-enum-told → List ℕ
+line-at c = entry (checked-at c) .args .line .now
+
+passed : (c : tie.After-enum-told) → charactersOf (line-at c) ≡ given tt
+passed c = sym (checked-at c .characters .ensures .0) ∙ ap paperCheck (c .enum-told .given .1)
+
+fits : (c : tie.After-enum-told) → length (line-at c) / 2 ≤ length (checked-at c .characters .last .1 .0)
+fits c =
+    let checked = checked-at c in
+    let long = characters-length (line-at c) (passed c) in
+    omega (arith, long .most, checked .characters .kept .1 .0, entry checked .pre .0)
+
+bytes-long : (c : tie.After-enum-told)
+    → length (take (length (line-at c) / 2) (checked-at c .characters .last .1 .0)) ≡ length (line-at c) / 2
+bytes-long c = length-take-le _ _ (fits c)
 
 returns : tie.Need-returns
 returns c =
-    let p = c .before .before .before .before .before .before .before .before .before .before .before in
-    let pre = p .pre in
+    let checked = c .before .before .before .before .before in
+    let pre = entry checked .pre in
     take-refused flashSize _ _ _ _ (pre .1) (pre .2) (pre .3) _
-    (sym (c .before .before .before .before .before .characters .ensures .0)
-    ∙ ap paperCheck (c .before .checked .given .1))
-
-enum-told : tie.Need-enum-told
-enum-told c = search needs
-
-slice-reshare-prefix-apply : tie.Need-slice-reshare-prefix-apply
-slice-reshare-prefix-apply c =
-    let characters = c .before .before .before .before .characters in
-    let p = c .before .before .before .before .before .before .before .before .before .before in
-    let args = p .args in
-    let pre = p .pre in
-    let l = characters-length (args .line .now)
-    (sym (characters .ensures .0) ∙ ap paperCheck (c .enum-told .given .1)) in
-    omega (arith, l .most, characters .kept .1 .0, pre .0)
-
-slice-aggregate-apply : tie.Need-slice-aggregate-apply
-slice-aggregate-apply c =
-    let characters = c .before .before .before .before .before .characters in
-    let p = c .before .before .before .before .before .before .before .before .before .before .before in
-    let args = p .args in
-    let pre = p .pre in
-    let line = args .line .now in
-    let l = characters-length line
-    (sym (characters .ensures .0) ∙ ap paperCheck (c .before .enum-told .given .1)) in
-    sym (length-take-le (length line / 2) (characters .last .1 .0)
-    (omega (arith, l .most, characters .kept .1 .0, pre .0)))
+    (sym (checked .characters .ensures .0) ∙ ap paperCheck (c .before .checked .given .1))
 
 apply-requires : tie.Need-apply-requires
 apply-requires c κs =
-    let characters = c .before .before .before .before .before .before .before .characters in
-    let p = c .before .before .before .before .before .before .before .before .before .before .before .before .before in
-    let args = p .args in
-    let pre = p .pre in
-    let line = args .line .now in
-    let l = characters-length line
-    (sym (characters .ensures .0) ∙ ap paperCheck (c .before .before .before .enum-told .given .1)) in
-    let t = length-take-le (length line / 2) (characters .last .1 .0)
-    (omega (arith, l .most, characters .kept .1 .0, pre .0)) in
-    (omega (arith, t, l .odd), omega (arith, t, l .least), pre .1, pre .2)
-
-same-length-2 : tie.Need-same-length-2
-same-length-2 c = search needs
-
-same-length-3 : tie.Need-same-length-3
-same-length-3 c = search needs
-
-same-length-4 : tie.Need-same-length-4
-same-length-4 c = search needs
+    let told = c .before .before .before in
+    let pre = entry (checked-at told) .pre in
+    let long = characters-length (line-at told) (passed told) in
+    (omega (arith, bytes-long told, long .odd), omega (arith, bytes-long told, long .least), pre .1, pre .2)
 
 returns-2 : tie.Need-returns-2
 returns-2 c =
-    let enum-told = c .before .before .before .before .before .before .before .before .enum-told in
-    let p = c .before .before .before .before .before .before .before .before .before .before .before .before in
-    let characters = p .characters in
-    let pre = p .before .before .before .before .before .before .pre in
-    let a = p .before .before .before .before .before .before .args in
-    let passed = ap paperCheck (enum-told .given .1) in
+    let told = c .before .before .before .before .before .before .before .before in
+    let start = entry (checked-at told) in
+    let pre = start .pre in
+    let characters = checked-at told .characters in
     c .before .before .before .before .apply .ensures
-    ∙ ap (λ x. settled x (now (a .image)) (now (a .map)))
-    (take-applied flashSize _ _ _ _ (pre .1) (pre .2) (pre .3) _ (sym (characters .ensures .0) ∙ passed)
-    (characters .ensures .1 passed))
+    ∙ ap (λ x. settled x (now (start .args .image)) (now (start .args .map)))
+    (take-applied flashSize _ _ _ _ (pre .1) (pre .2) (pre .3) _ (passed told)
+    (ap (take (length (line-at told) / 2)) (characters .ensures .1)
+    ∙ characters-bytes (line-at told) (start .args .bytes .now) (passed told)
+    (omega (arith, characters-length (line-at told) (passed told) .most, pre .0))))
 
 pub take-spec : {M : Type 1} → statement M
 take-spec =
     tie.close
     (tie.spec
-    characters-requires
-    enum-known-checked
-    same-length
+    (λ c κs. search needs)
+    (λ c. search needs)
+    (λ c. search needs)
     returns
-    enum-told
-    slice-reshare-prefix-apply
-    slice-aggregate-apply
+    (λ c. search needs)
+    (λ c. fits c)
+    (λ c. sym (bytes-long (c .before)))
     apply-requires
-    same-length-2
-    same-length-3
-    same-length-4
+    (λ c. search needs)
+    (λ c. search needs)
+    (λ c. search needs)
     returns-2)

@@ -23,29 +23,16 @@ module _ (size : ℕ) (r : Reading) (line image map : List ℕ) where
       → state (stopped (paperBlame b)) line image map ≡ progressClosed size (paperReading r) line image map
   close-refused b e = rw e
 
-enum-known-self : tie.Need-enum-known-self
-enum-known-self c = search needs
+abbrev last-at : tie.After-shut → tie.After-last
+last-at c = c .before .before .before .before .before
 
-last-requires : tie.Need-last-requires
-last-requires c κs = search needs
-
-shut-requires : tie.Need-shut-requires
-shut-requires c κs = search needs
-
-enum-known-self-2 : tie.Need-enum-known-self-2
-enum-known-self-2 c = search needs
-
-same-length : tie.Need-same-length
-same-length c = search needs
-
-same-length-2 : tie.Need-same-length-2
-same-length-2 c = search needs
+abbrev open-at : tie.After-last → tie.After-self
+open-at c = c .before .before .before .before .before
 
 returns : tie.Need-returns
 returns c =
-    close-open _ _ _ _ _ _ _ _ _ _
-    (c .before .before .before .before .before .before .before .before .before .self .given .1)
-    (c .shut .ensures) (c .before .before .before .before .before .last .ensures)
+    close-open _ _ _ _ _ _ _ _ _ _ (open-at (last-at c) .self .given .1) (c .shut .ensures)
+    (last-at c .last .ensures)
 
 returns-2 : tie.Need-returns-2
 returns-2 c = close-refused _ _ _ _ _ _ (c .before .self2 .given .1)
@@ -54,11 +41,11 @@ pub close-spec : {M : Type 1} → statement M
 close-spec =
     tie.close
     (tie.spec
-    enum-known-self
-    last-requires
-    shut-requires
-    enum-known-self-2
-    same-length
-    same-length-2
+    (λ c. search needs)
+    (λ c κs. search needs)
+    (λ c κs. search needs)
+    (λ c. search needs)
+    (λ c. search needs)
+    (λ c. search needs)
     returns
     returns-2)

@@ -47,70 +47,40 @@ module _ (size : ℕ) where
 
 abbrev Inv-loop : tie.InvT-loop
 Inv-loop bytes line₀ image₀ map₀ reading₀ i₀ line image map reading i =
-    (i ≤ length bytes) × (length line ≡ length line₀) × (length image ≡ length image₀) ×
-    (length map ≡ length map₀) ×
+    (i ≤ length bytes) × (length image ≡ length image₀) × (length map ≡ length map₀) ×
     (feedIn flashSize (state (paperReading reading) line image map) (drop i bytes) ≡ feedIn flashSize
     (state (paperReading reading₀) line₀ image₀ map₀) bytes)
 
 abbrev μ-loop : tie.MeasureT-loop
 μ-loop bytes line₀ image₀ map₀ reading₀ i₀ line image map reading i = length bytes - i
 
-loop-holds : tie.Need-loop-holds Inv-loop μ-loop
-loop-holds c = (search needs, refl, refl, refl, refl)
+-- a turn's places, the last first: the byte's, the stretch's, the test's; and the entry
+abbrev stretch-at : tie.After-byte Inv-loop μ-loop → tie.After-keep Inv-loop μ-loop
+stretch-at c = c .before .before .before .before .before .before
 
-sub-keep : tie.Need-sub-keep Inv-loop μ-loop
-sub-keep c = search needs
+abbrev test-at : tie.After-keep Inv-loop μ-loop → tie.In-loop Inv-loop μ-loop
+test-at c = c .before .before .before
 
-part-keep-start : tie.Need-part-keep-start Inv-loop μ-loop
-part-keep-start c = search needs
-
-part-keep-end : tie.Need-part-keep-end Inv-loop μ-loop
-part-keep-end c = search needs
-
-keep-requires : tie.Need-keep-requires Inv-loop μ-loop
-keep-requires c κs = search needs
-
-add-i : tie.Need-add-i Inv-loop μ-loop
-add-i c = search needs
-
-shared-slice-read-byte : tie.Need-shared-slice-read-byte Inv-loop μ-loop
-shared-slice-read-byte c = search needs
-
-byte-requires : tie.Need-byte-requires Inv-loop μ-loop
-byte-requires c κs = search needs
-
-add-i-2 : tie.Need-add-i-2 Inv-loop μ-loop
-add-i-2 c = search needs
-
-loop-less : tie.Need-loop-less Inv-loop μ-loop
-loop-less c = search needs
+abbrev entry : tie.At-loop Inv-loop μ-loop → tie.Start Inv-loop μ-loop
+entry c = c .before .before .before .before
 
 loop-again : tie.Need-loop-again Inv-loop μ-loop
 loop-again c = (
   search needs,
   search needs,
   search needs,
-  search needs,
-  feed-next flashSize _ _ _ _ _ _ _
-      (c .before .before .before .before .before .before .before .before .before .before .before .before .before .before .before .before .before .loop-test .taken)
-      (rest-lent (c .before .before .before .before .before .before .before .before .before .before .before .before .before .before .before .before .before .before .before .before .before .before .before .args .bytes .now) (c .before .before .before .before .before .before .before .before .before .before .before .before .before .before .before .before .before .before .loop .i))
-      (c .before .before .before .before .before .before .before .before .before .before .before .before .before .before .keep .ensures .0)
-      (c .before .before .before .before .before .before .before .before .before .before .before .before .before .before .keep .ensures .1 _ _)
-      (c .before .before .before .before .before .before .byte .ensures)
-      ∙ c .before .before .before .before .before .before .before .before .before .before .before .before .before .before .before .before .before .before .loop .inv .4,
+  (let byte-at = c .before .before .before .before in
+      let keep = stretch-at byte-at .keep in
+      let test = test-at (stretch-at byte-at) in
+      let turn = test .before in
+      feed-next flashSize _ _ _ _ _ _ _ (test .loop-test .taken)
+      (rest-lent (entry turn .args .bytes .now) (turn .loop .i)) (keep .ensures .0) (keep .ensures .1 _ _)
+      (byte-at .byte .ensures)
+      ∙ turn .loop .inv .3),
 )
 
-same-length : tie.Need-same-length Inv-loop μ-loop
-same-length c = search needs
-
-same-length-2 : tie.Need-same-length-2 Inv-loop μ-loop
-same-length-2 c = search needs
-
-same-length-3 : tie.Need-same-length-3 Inv-loop μ-loop
-same-length-3 c = search needs
-
 returns : tie.Need-returns Inv-loop μ-loop
-returns c = sym (feed-end flashSize _ _ _ (c .loop-test .left)) ∙ c .before .loop .inv .4
+returns c = sym (feed-end flashSize _ _ _ (c .loop-test .left)) ∙ c .before .loop .inv .3
 
 pub feed-spec : {M : Type 1} → statement M
 feed-spec =
@@ -118,18 +88,17 @@ feed-spec =
     (tie.spec
     Inv-loop
     μ-loop
-    loop-holds
-    sub-keep
-    part-keep-start
-    part-keep-end
-    keep-requires
-    add-i
-    shared-slice-read-byte
-    byte-requires
-    add-i-2
-    loop-less
+    (λ c. (search needs, refl, refl, refl))
+    (λ c. search needs)
+    (λ c. search needs)
+    (λ c. search needs)
+    (λ c κs. search needs)
+    (λ c. search needs)
+    (λ c. search needs)
+    (λ c κs. search needs)
+    (λ c. search needs)
+    (λ c. search needs)
     loop-again
-    same-length
-    same-length-2
-    same-length-3
+    (λ c. search needs)
+    (λ c. search needs)
     returns)
