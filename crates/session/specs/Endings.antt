@@ -58,7 +58,7 @@ endingOf Awaited.Ack Event.Bel = Outcome.Bel
 endingOf Awaited.Ack Event.Other = Outcome.Other
 endingOf Awaited.Ack Event.Silence = Outcome.Silence
 
--- the ending that was asked for
+-- the ending that was asked for: ACK to R ends valid, whatever the run kind
 abbrev pub asked : RunKind → Outcome
 asked kind = Outcome.Valid
 

@@ -77,10 +77,11 @@ movedOf s phase n =
       named = s .named;
     }
 
--- the event awaited goes on along the file, and all else ends the session
+-- the session ends by an event that was not awaited
 abbrev pub overOf : Session → Awaited → Event → Session
 overOf s w e = movedOf s (Phase.Ended (endingOf w e)) 0
 
+-- the event awaited goes on along the file, and all else ends the session
 abbrev pub heardOf : ℕ → List ℕ → Session → Awaited → Event → Session
 heardOf board m s w e =
     pick (goesOn w e) (movedOf s (afterOf board m (s .phase)) (acknowledges w)) (overOf s w e)
@@ -96,7 +97,8 @@ sentOf board image m s e =
       packet = packetOut board image m (s .kind) (tookOf board m s e .phase);
     }
 
--- a phase to which they lead, with k packets acknowledged
+-- a start and events over the file lead to such a phase, with k packets acknowledged:
+-- one that is open stands in the file, one that has ended is an ending that k acknowledgements allow
 unfoldable pub cameAt : ℕ → List ℕ → RunKind → Phase → ℕ → Bool
 cameAt board m kind Phase.Greeting k = standsAt board m Phase.Greeting k
 cameAt board m kind (Phase.Erase p) k = standsAt board m (Phase.Erase p) k
@@ -105,8 +107,7 @@ cameAt board m kind (Phase.Verify a) k = standsAt board m (Phase.Verify a) k
 cameAt board m kind Phase.Run k = standsAt board m Phase.Run k
 cameAt board m kind (Phase.Ended o) k = endsAt (asked kind) (total board m) o k
 
--- some start and events over this file lead to such a session:
--- its counts are the file's, and its phase is one to which they lead
+-- a start and events over the file lead to such a session: it names a byte, and its counts and phase are theirs
 unfoldable pub fitsOf : ℕ → List ℕ → Session → Bool
 fitsOf board m s =
     both (ltb 0 (namedCount board m))
