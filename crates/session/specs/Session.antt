@@ -107,7 +107,8 @@ cameAt board m kind (Phase.Verify a) k = standsAt board m (Phase.Verify a) k
 cameAt board m kind Phase.Run k = standsAt board m Phase.Run k
 cameAt board m kind (Phase.Ended o) k = endsAt (asked kind) (total board m) o k
 
--- a start and events over the file lead to such a session: it names a byte, and its counts and phase are theirs
+-- a start and events over the file lead to such a session:
+-- the file names a byte, the counts are the file's, and the phase is one to which they lead
 unfoldable pub fitsOf : ℕ → List ℕ → Session → Bool
 fitsOf board m s =
     both (ltb 0 (namedCount board m))

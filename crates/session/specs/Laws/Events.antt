@@ -1,6 +1,6 @@
 -- Laws of events: what the answers of a board are.
 use Prim.Native.Nat.{ℕ}
-use mathlib.Core.Bool.{true, false}
+use mathlib.Core.Bool.{Bool, true, false}
 use mathlib.Core.List.{List, [], _∷_}
 use mathlib.Core.Path.{_≡_, refl}
 use Rattle.basis.specs.Board.{greeting, ackByte, belByte}
@@ -22,3 +22,15 @@ bel-heard = refl
 pub silence-heard : (b : List ℕ) → classifyOf true b ≡ Event.Silence
 unfolding classifyOf
 silence-heard b = refl
+
+pub none-heard : classifyOf false [] ≡ Event.Other
+unfolding classifyOf greetsOf sameOf
+none-heard = refl
+
+-- each event is brought about by some answer, or by silence
+pub event-comes : (e : Event) → (silent : Bool) × (b : List ℕ) × (classifyOf silent b ≡ e)
+event-comes Event.Greeting = (false, greeting, greeting-heard)
+event-comes Event.Ack = (false, ackByte ∷ [], ack-heard)
+event-comes Event.Bel = (false, belByte ∷ [], bel-heard)
+event-comes Event.Other = (false, [], none-heard)
+event-comes Event.Silence = (true, [], silence-heard [])

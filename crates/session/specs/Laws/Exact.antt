@@ -22,9 +22,10 @@ use Rattle.session.specs.Laws.Marks.{marked-held, proved-is}
 use Rattle.session.specs.Laws.Phases.{greeted, stands-below, stands-at}
 use Rattle.session.specs.Laws.Series.{came, acks-state, acks-valid, event-taken, series-nil, series-ack, series-last, series-first, series-fails, first-fails, ack-or, greeting-or}
 use Rattle.session.specs.Laws.States.{stands-greeting, phase-open, phase-later, ack-next, greeting-state, waiting-fits, state-fits}
+use Rattle.session.specs.Laws.Steps.{step-taken}
 use Rattle.session.specs.Phases.{ended, phaseAt}
 use Rattle.session.specs.Plan.{total, beforeR}
-use Rattle.session.specs.Session.{sessionWith, atGreeting, stateAt, tookOf, cameAt, fitsOf, series, marked, provedOf, Came, waits, stands, fails, ends, Acknowledged, Shown}
+use Rattle.session.specs.Session.{sessionWith, atGreeting, stateAt, rightSizes, tookOf, sentOf, cameAt, fitsOf, stepOf, series, marked, provedOf, Came, waits, stands, fails, ends, Acknowledged, Shown}
 use Rattle.session.specs.declared.event.Event.{Event}
 use Rattle.session.specs.declared.phase.Outcome.{Outcome}
 use Rattle.session.specs.declared.phase.Phase.{Phase}
@@ -51,6 +52,14 @@ module _ (board : ℕ) (m : List ℕ) (long : length m ≡ mapBytes board) (some
 
   pub series-fits : (es : List Event) → fitsOf board m (series board m (atGreeting board m kind) es) ≡ true
   series-fits es = came-fits _ (came board m long some kind es)
+
+  -- so along a series each event is a step that is not refused
+  pub series-steps : (image : List ℕ) (room : ℕ) (es : List Event) (e : Event)
+      → rightSizes board (length image) (length m) room ≡ true
+      → (let s = series board m (atGreeting board m kind) es in ended (s .phase) ≡ false
+      → stepOf board image m room s e ≡ given (sentOf board image m s e))
+  series-steps image room es e right goes-on =
+      step-taken board image m room _ e right goes-on (series-fits es)
 
 -- ---- and nothing else does
 
