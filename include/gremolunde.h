@@ -70,7 +70,7 @@ enum {
 enum { GREMOLUNDE_JUMP = 0, GREMOLUNDE_RESET = 1 };
 
 /* A session, without its file. One with a phase or an outcome that is not listed, or with a place where its phase has
- * none, came from no start: a step gives 46 and so does asking what is proved, its outcome and its log record are
+ * none, came from no start: a step gives 46 and so does asking what is proved; its outcome and its log record are
  * 45. */
 typedef struct gremolunde_session {
     uint32_t run;          /* 0 jump; any other value is reset */
@@ -199,9 +199,9 @@ gremolunde_session_stepped gremolunde_session_step(gremolunde_session session, u
                                                    size_t map_length, uint8_t *buffer, size_t buffer_length);
 
 /* Whether the byte at an address is marked proved: the V that holds it was acknowledged. 20 map of another size, 46 no
- * start and events over this map lead to such a session. A record keeps counts and a place, not the file: two files
- * with the same number of packets and of named bytes are not told apart after an end, at the greeting or at R, and at
- * E, W and V only by the place. So ask with the map that the session was started over. */
+ * start and events over this map lead to such a session. A record keeps counts and a place, no map and no bytes: two
+ * files with one map are never told apart, and two maps with the same number of packets and of named bytes only at E,
+ * W and V, by the place. So ask with the map that the session was started over. */
 gremolunde_session_mark gremolunde_session_proved(gremolunde_session session, const uint8_t *map, size_t map_length,
                                                   uint32_t address);
 

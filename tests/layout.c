@@ -336,6 +336,12 @@ static void starts(void) {
     map[0x40] = 3;
 }
 
+/* What is proved is not told of such a session: 46. */
+static int unasked(gremolunde_session session) {
+    gremolunde_session_mark mark = gremolunde_session_proved(session, map, sizeof map, 0x200);
+    return mark.number == 46 && mark.proved == 0;
+}
+
 /* Sessions that came from no start. */
 static void made_up(void) {
     static const gremolunde_session none = {0, 0, 0, 0, 0, 0};
@@ -346,6 +352,17 @@ static void made_up(void) {
     odd.place = 39;
     HOLD(step(odd, 0, ack, 1).number == 46 && gremolunde_session_outcome(odd) == 45);
     HOLD(step(none, 0, greeting, 24).number == 46 && gremolunde_session_outcome(none) == 45);
+    HOLD(unasked(none));
+    odd.phase = 9;
+    odd.place = 0;
+    odd.acknowledged = 0xFFFFFFFF;
+    HOLD(unasked(odd));
+    odd.phase = GREMOLUNDE_ENDED;
+    HOLD(unasked(odd));
+    odd.acknowledged = 3;
+    HOLD(unasked(odd));
+    odd.place = 40;
+    HOLD(!unasked(odd));
 }
 
 static void records(void) {

@@ -10,7 +10,7 @@ use Rattle.loader.specs.declared.state.Condition.the-variants.{Waiting, Serving
 use Rattle.loader.specs.declared.state.Loader.{Loader}
 use Rattle.session.specs.Paper.{paperOutcome}
 use Rattle.session.specs.Phases.{eraseAt, writeAt, verifyAt}
-use Rattle.session.specs.declared.phase.Outcome.{Outcome}
+use Rattle.session.specs.declared.ending.Outcome.{Outcome}
 use Rattle.session.specs.declared.phase.Phase.{Phase}
 use Rattle.session.specs.declared.phase.RunKind.{RunKind}
 use Rattle.session.specs.declared.session.Session.{Session}

@@ -9,7 +9,7 @@ use loader::protection::Protection;
 use loader::state::Condition;
 use loader::state::Loader;
 use loader::state::Sequence;
-use session::phase::Outcome;
+use session::ending::Outcome;
 use session::phase::Phase;
 use session::phase::RunKind;
 use session::session::Session;
@@ -186,7 +186,7 @@ fn end_meant(outcome: u32) -> Phase
     }
 }
 
-// A phase that no file has: its page lies past every board, so a step is 46 and there is no outcome.
+// A phase that no file has: its page lies past every board, so a step and a mark are 46 and there is no outcome.
 fn nowhere() -> Phase
     ensures { λ r. ⌜ r ≡ nowhere ⌝ }
 {

@@ -85,8 +85,8 @@ unfoldable pub charactersOf : List ℕ → Answer Unit
 charactersOf line = first (characterRows line) (given tt)
 
 -- the bytes that are decoded by then: none where 22 or 23 came
-abbrev pub bytesOf : List ℕ → List ℕ
-bytesOf line = pick (either (noColon line) (lengthWrong line)) [] (decoded (drop 1 line))
+abbrev pub decodedBytes : List ℕ → List ℕ
+decodedBytes line = pick (either (noColon line) (lengthWrong line)) [] (decoded (drop 1 line))
 
 -- 25 and 26, of the bytes of a record of n characters
 abbrev pub byteRows : ℕ → List ℕ → List Rule

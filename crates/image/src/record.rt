@@ -4,7 +4,7 @@ ghost use Prim.Native.Nat.{_≤_};
 ghost use lib.ListN.{length};
 ghost use Rattle.basis.specs.Lists.{copyOf};
 ghost use Rattle.image.specs.Paper.{paperRefusal, paperCheck};
-ghost use Rattle.image.specs.Record.{charactersOf, bytesOf, framingOf, shapeOf};
+ghost use Rattle.image.specs.Record.{charactersOf, decodedBytes, framingOf, shapeOf};
 use crate::digits::decode;
 use basis::buffers::pair_at;
 use basis::sums::sum;
@@ -60,11 +60,11 @@ pub enum Check {
     Refused(Refusal),
 }
 
-// 22, 23 and 24. The record's bytes come to the front of `bytes`.
+// 22, 23 and 24. The bytes that are decoded by then come to the front of `bytes`.
 pub fn characters(line: &[u8], bytes: &mut [u8]) -> Check
     requires { ⌜ 260 ≤ length (now bytes) ⌝ }
     ensures answer { λ r. ⌜ paperCheck r ≡ charactersOf (now (line .entry)) ⌝ }
-    ensures bytes { λ _. ⌜ now (bytes .exit) ≡ copyOf (now (bytes .entry)) 0 (bytesOf (now (line .entry))) ⌝ }
+    ensures bytes { λ _. ⌜ now (bytes .exit) ≡ copyOf (now (bytes .entry)) 0 (decodedBytes (now (line .entry))) ⌝ }
 {
     let n = line.len();
     if n == 0 {

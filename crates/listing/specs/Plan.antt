@@ -9,7 +9,7 @@ use Rattle.basis.specs.Refusals.{Answer, refused, given}
 use Rattle.session.specs.Phases.{packetAt, phaseAt}
 use Rattle.session.specs.Plan.{plan, total}
 use Rattle.session.specs.Session.{Sent, Loadable}
-use Rattle.session.specs.declared.phase.Outcome.{Outcome}
+use Rattle.session.specs.declared.ending.Outcome.{Outcome}
 use Rattle.session.specs.declared.phase.Phase.{Phase}
 use Rattle.session.specs.declared.phase.RunKind.{RunKind}
 use Rattle.listing.specs.Lines.{headLine, stepLine, totalLine}

@@ -9,7 +9,7 @@ use Rattle.loader.specs.State.{resetOf}
 use Rattle.loader.specs.Take.{takeOf, answerBytes}
 use Rattle.loader.specs.declared.state.Loader.{Loader}
 
--- a loader but for its key: two loaders that are equal so differ in the key at most
+-- a loader but for its key: two loaders whose `unkeyed` are equal differ in the key at most
 abbrev pub unkeyed : Loader → Loader
 unkeyed l = record { condition = l .condition; sequence = l .sequence; protection = l .protection; key = 0 }
 
@@ -50,12 +50,12 @@ pub record Course : Type 0 where
   pub loader : Loader
   pub flash : List ℕ
 
-unfoldable pub courseOf : ℕ → Loader → List ℕ → List Arrival → Course
-courseOf board l f [] = record { told = []; loader = l; flash = f }
-courseOf board l f (reset ∷ es) = courseOf board (resetOf l) f es
-courseOf board l f (input s room ∷ es) =
+unfoldable pub courseFrom : ℕ → Loader → List ℕ → List Arrival → Course
+courseFrom board l f [] = record { told = []; loader = l; flash = f }
+courseFrom board l f (reset ∷ es) = courseFrom board (resetOf l) f es
+courseFrom board l f (input s room ∷ es) =
     let x = takeOf board l s f room in
-    let rest = courseOf board (effectAfter l f x .loader) (effectAfter l f x .flash) es in
+    let rest = courseFrom board (effectAfter l f x .loader) (effectAfter l f x .flash) es in
     record {
       told = record { verdict = bare x; answer = answerBytes l x } ∷ rest .told;
       loader = rest .loader;

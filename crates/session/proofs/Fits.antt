@@ -19,8 +19,8 @@ use Rattle.runs.specs.Pages.{touched}
 use Rattle.runs.specs.Pieces.{pieceMost, namedCount}
 use Rattle.runs.specs.Survey.{surveyOf}
 use Rattle.runs.specs.declared.survey.Surveyed.{Surveyed}
-use Rattle.session.specs.Endings.{asked, endsAt}
-use Rattle.session.specs.Phases.{placeOf, standsAt}
+use Rattle.session.specs.Endings.{endsAt}
+use Rattle.session.specs.Phases.{placeOf, standsAt, asked}
 use Rattle.session.specs.Plan.{total}
 use Rattle.session.specs.Session.{cameAt, fitsOf}
 use Rattle.session.specs.declared.phase.Phase.{Phase}

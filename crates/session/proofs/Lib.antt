@@ -1,7 +1,7 @@
 -- Lemmas that serve the proofs of this crate's functions.
 pub mod Turns
 pub mod Surveys
-pub mod Judging
+pub mod Events
 pub mod Fits
 pub mod Marks
 pub mod Handing

@@ -6,19 +6,7 @@ use Rattle.basis.specs.Choice.{pick, both}
 use Rattle.session.specs.Paper.{paperOutcome}
 use Rattle.session.specs.declared.ending.Awaited.{Awaited}
 use Rattle.session.specs.declared.event.Event.{Event}
-use Rattle.session.specs.declared.phase.Outcome.{Outcome}
-use Rattle.session.specs.declared.phase.Phase.{Phase}
-use Rattle.session.specs.declared.phase.RunKind.{RunKind}
-
--- first the greeting is awaited, later the single byte 06
-abbrev pub awaitedOf : Phase → Awaited
-awaitedOf Phase.Greeting = Awaited.Greeting
-awaitedOf (Phase.Erase p) = Awaited.Ack
-awaitedOf (Phase.Write a) = Awaited.Ack
-awaitedOf (Phase.Verify a) = Awaited.Ack
-awaitedOf Phase.Run = Awaited.Ack
--- never asked: 44 comes first
-awaitedOf (Phase.Ended o) = Awaited.Ack
+use Rattle.session.specs.declared.ending.Outcome.{Outcome}
 
 abbrev pub isGreeting : Event → Bool
 isGreeting Event.Greeting = true
@@ -58,11 +46,7 @@ endingOf Awaited.Ack Event.Bel = Outcome.Bel
 endingOf Awaited.Ack Event.Other = Outcome.Other
 endingOf Awaited.Ack Event.Silence = Outcome.Silence
 
--- the ending that was asked for: ACK to R ends valid, whatever the run kind
-abbrev pub asked : RunKind → Outcome
-asked kind = Outcome.Valid
-
--- an ending other than that one, with k packets acknowledged: 42 only before the first packet
+-- an ending other than the one that was asked for, with k packets acknowledged: 42 only before the first packet
 abbrev pub failing : Outcome → ℕ → Bool
 failing Outcome.Valid k = false
 failing Outcome.Silence k = true

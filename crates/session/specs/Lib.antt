@@ -2,7 +2,7 @@
 pub mod Plan
 pub mod Events
 pub mod Paper
-pub mod Phases
 pub mod Endings
+pub mod Phases
 pub mod Session
 pub mod Laws

@@ -2,7 +2,7 @@
 use Prim.Native.Nat.{ℕ}
 use mathlib.Core.Bool.{Bool, true, false}
 use Rattle.basis.specs.Refusals.{Answer, refused, given}
-use Rattle.session.specs.declared.phase.Outcome.{Outcome}
+use Rattle.session.specs.declared.ending.Outcome.{Outcome}
 use Rattle.session.specs.declared.session.Mark.{Mark}
 use Rattle.session.specs.declared.session.Next.{Next}
 use Rattle.session.specs.declared.session.Refusal.{Refusal}

@@ -10,7 +10,8 @@ use Rattle.runs.specs.Pages.{touched}
 use Rattle.runs.specs.Pieces.{pieceMost, pieceStarts, runStarts, runCount}
 use Rattle.runs.specs.Runs.{count, next, select, follow}
 use Rattle.session.specs.Plan.{erasePacket, writePacket, verifyPacket, runPacket, beforeR, beforeVerify}
-use Rattle.session.specs.declared.phase.Outcome.{Outcome}
+use Rattle.session.specs.declared.ending.Awaited.{Awaited}
+use Rattle.session.specs.declared.ending.Outcome.{Outcome}
 use Rattle.session.specs.declared.phase.Phase.{Phase}
 use Rattle.session.specs.declared.phase.RunKind.{RunKind}
 
@@ -21,6 +22,20 @@ ended (Phase.Write a) = false
 ended (Phase.Verify a) = false
 ended Phase.Run = false
 ended (Phase.Ended o) = true
+
+-- first the greeting is awaited, later the single byte 06
+abbrev pub awaitsOf : Phase → Awaited
+awaitsOf Phase.Greeting = Awaited.Greeting
+awaitsOf (Phase.Erase p) = Awaited.Ack
+awaitsOf (Phase.Write a) = Awaited.Ack
+awaitsOf (Phase.Verify a) = Awaited.Ack
+awaitsOf Phase.Run = Awaited.Ack
+-- never asked: 44 comes first
+awaitsOf (Phase.Ended o) = Awaited.Ack
+
+-- the ending that was asked for: ACK to R ends valid, whatever the run kind
+abbrev pub asked : RunKind → Outcome
+asked kind = Outcome.Valid
 
 -- the packet that is out for its answer; an ending has none
 abbrev pub packetOut : ℕ → List ℕ → List ℕ → RunKind → Phase → List ℕ

@@ -13,12 +13,12 @@ use Rattle.packet.specs.Packet.{packetMost}
 use Rattle.runs.specs.Map.{named}
 use Rattle.runs.specs.Pieces.{pieceStarts, namedCount, pieceLen}
 use Rattle.runs.specs.Runs.{count}
-use Rattle.session.specs.Endings.{awaitedOf, goesOn, acknowledges, endingOf, asked, failing, endsAt}
-use Rattle.session.specs.Phases.{ended, packetOut, phaseAt, afterOf, standsAt, verifyAt}
+use Rattle.session.specs.Endings.{goesOn, acknowledges, endingOf, failing, endsAt}
+use Rattle.session.specs.Phases.{ended, packetOut, phaseAt, afterOf, standsAt, verifyAt, awaitsOf, asked}
 use Rattle.session.specs.Plan.{total, beforeVerify}
 use Rattle.session.specs.declared.ending.Awaited.{Awaited}
 use Rattle.session.specs.declared.event.Event.{Event}
-use Rattle.session.specs.declared.phase.Outcome.{Outcome}
+use Rattle.session.specs.declared.ending.Outcome.{Outcome}
 use Rattle.session.specs.declared.phase.Phase.{Phase}
 use Rattle.session.specs.declared.phase.RunKind.{RunKind}
 use Rattle.session.specs.declared.session.Next.{Next}
@@ -37,7 +37,7 @@ abbrev pub stateAt : ℕ → List ℕ → RunKind → ℕ → Session
 stateAt board m kind k = sessionWith board m kind (phaseAt board m k) k
 
 abbrev pub valid : ℕ → List ℕ → RunKind → Session
-valid board m kind = sessionWith board m kind (Phase.Ended Outcome.Valid) (total board m)
+valid board m kind = sessionWith board m kind (Phase.Ended (asked kind)) (total board m)
 
 -- a session, and the packet that it sends
 pub record Sent : Type 0 where
@@ -82,13 +82,13 @@ abbrev pub overOf : Session → Awaited → Event → Session
 overOf s w e = movedOf s (Phase.Ended (endingOf w e)) 0
 
 -- the event awaited goes on along the file, and all else ends the session
-abbrev pub heardOf : ℕ → List ℕ → Session → Awaited → Event → Session
-heardOf board m s w e =
+abbrev pub heardBy : ℕ → List ℕ → Session → Awaited → Event → Session
+heardBy board m s w e =
     pick (goesOn w e) (movedOf s (afterOf board m (s .phase)) (acknowledges w)) (overOf s w e)
 
 -- the session after an event, and with the packet that it sends
 unfoldable pub tookOf : ℕ → List ℕ → Session → Event → Session
-tookOf board m s e = heardOf board m s (awaitedOf (s .phase)) e
+tookOf board m s e = heardBy board m s (awaitsOf (s .phase)) e
 
 abbrev pub sentOf : ℕ → List ℕ → List ℕ → Session → Event → Sent
 sentOf board image m s e =

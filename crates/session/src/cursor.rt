@@ -6,7 +6,7 @@ ghost use lib.ListN.{length};
 ghost use Rattle.basis.specs.Board.{pages, flashSize, mapSize};
 ghost use Rattle.session.specs.Phases.{atStart, lowestRun, lowestPiece, nextRun, nextPiece, afterOf, placeOf};
 ghost use Rattle.session.specs.declared.phase.Phase.{Phase};
-use crate::phase::Outcome;
+use crate::ending::Outcome;
 use crate::phase::Phase;
 use basis::board::END;
 use basis::board::PAGES;

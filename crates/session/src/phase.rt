@@ -1,9 +1,8 @@
 // Where a session stands: what it waits for, with the cursor in the file, or how it ended.
 ghost use mathlib.Core.Path.{_≡_};
-ghost use Rattle.session.specs.Endings.{awaitedOf, asked, failing, endsAt};
-ghost use Rattle.session.specs.Paper.{paperOutcome};
-ghost use Rattle.session.specs.Phases.{ended};
+ghost use Rattle.session.specs.Phases.{asked, ended, awaitsOf};
 use crate::ending::Awaited;
+use crate::ending::Outcome;
 use basis::units::Address;
 use basis::units::Page;
 
@@ -25,14 +24,6 @@ impl RunKind {
     }
 }
 
-pub enum Outcome {
-    Valid,
-    Silence,
-    Bel,
-    NoGreeting,
-    Other,
-}
-
 // What a session waits for: the greeting, or the answer to E for the run at a page,
 // to W or V for the piece at an address, to R.
 pub enum Phase {
@@ -42,47 +33,6 @@ pub enum Phase {
     Verify(Address),
     Run,
     Ended(Outcome),
-}
-
-impl Outcome {
-    // As the service log says it.
-    pub fn number(self) -> u8
-        ensures { λ r. ⌜ r ≡ paperOutcome self ⌝ }
-    {
-        match self {
-            Outcome::Valid => 0,
-            Outcome::Silence => 40,
-            Outcome::Bel => 41,
-            Outcome::NoGreeting => 42,
-            Outcome::Other => 43,
-        }
-    }
-
-    // Whether events lead to this ending with `k` of `total` packets acknowledged.
-    pub fn follows(self, asked: Outcome, total: u32, k: u32) -> bool
-        ensures { λ r. ⌜ r ≡ endsAt asked total self k ⌝ }
-    {
-        if self.number() == asked.number() {
-            return k == total;
-        }
-        if total <= k {
-            return false;
-        }
-        self.fails(k)
-    }
-
-    // No greeting is an ending only before the first packet.
-    fn fails(self, k: u32) -> bool
-        ensures { λ r. ⌜ r ≡ failing self k ⌝ }
-    {
-        match self {
-            Outcome::Valid => false,
-            Outcome::Silence => true,
-            Outcome::Bel => true,
-            Outcome::NoGreeting => k == 0,
-            Outcome::Other => true,
-        }
-    }
 }
 
 impl Phase {
@@ -98,9 +48,10 @@ impl Phase {
             Phase::Ended(_) => true,
         }
     }
+
     // First the greeting, later an acknowledgement.
     pub fn awaits(self) -> Awaited
-        ensures { λ r. ⌜ r ≡ awaitedOf self ⌝ }
+        ensures { λ r. ⌜ r ≡ awaitsOf self ⌝ }
     {
         match self {
             Phase::Greeting => Awaited::Greeting,

@@ -9,18 +9,18 @@ ghost use Rattle.basis.specs.Choice.{pick, both};
 ghost use Rattle.basis.specs.Lists.{overlay};
 ghost use Rattle.packet.specs.Packet.{packetMost};
 ghost use Rattle.session.specs.Events.{classifyOf};
-ghost use Rattle.session.specs.Endings.{asked, endsAt};
+ghost use Rattle.session.specs.Endings.{endsAt};
 ghost use Rattle.session.specs.Paper.{paperRefusal, paperStepped, paperMark};
-ghost use Rattle.session.specs.Phases.{atStart};
-ghost use Rattle.session.specs.Session.{measured, sentBytes, rightSizes, started, movedOf, overOf, heardOf, tookOf, sentOf, fitsOf, stepOf, marked, provedOf};
+ghost use Rattle.session.specs.Phases.{atStart, asked};
+ghost use Rattle.session.specs.Session.{measured, sentBytes, rightSizes, started, movedOf, overOf, heardBy, tookOf, sentOf, fitsOf, stepOf, marked, provedOf};
 ghost use Rattle.session.specs.declared.ending.Awaited.{Awaited};
 use crate::cursor::after;
 use crate::cursor::place;
 use crate::ending::Awaited;
+use crate::ending::Outcome;
 use crate::ending::ending;
 use crate::event::Event;
 use crate::event::classify;
-use crate::phase::Outcome;
 use crate::phase::Phase;
 use crate::phase::RunKind;
 use crate::sending::send;
@@ -54,7 +54,7 @@ pub enum Refusal {
     // The map names nothing.
     Empty,
     Ended,
-    // The file is not the one that the session came from.
+    // No start and events over the file lead to such a session.
     Foreign,
 }
 
@@ -239,7 +239,7 @@ impl Session {
             (length (now map) ≡ mapSize) × (atStart pages (now map) (self .phase) ≡ true)
             × (self .acknowledged < 2 ^ 31)
             ⌝ }
-        ensures { λ r. ⌜ r ≡ heardOf pages (now (map .entry)) self Awaited.Greeting event ⌝ }
+        ensures { λ r. ⌜ r ≡ heardBy pages (now (map .entry)) self Awaited.Greeting event ⌝ }
     {
         let phase = self.phase;
         let Event::Greeting = event else {
@@ -253,7 +253,7 @@ impl Session {
             (length (now map) ≡ mapSize) × (atStart pages (now map) (self .phase) ≡ true)
             × (self .acknowledged < 2 ^ 31)
             ⌝ }
-        ensures { λ r. ⌜ r ≡ heardOf pages (now (map .entry)) self Awaited.Ack event ⌝ }
+        ensures { λ r. ⌜ r ≡ heardBy pages (now (map .entry)) self Awaited.Ack event ⌝ }
     {
         let phase = self.phase;
         let Event::Ack = event else {

@@ -19,7 +19,7 @@ use Rattle.image.specs.Digits.{digitOf, allDigits, decoded}
 use Rattle.image.specs.Writer.{letterOf, spelt, line}
 use Rattle.image.specs.Laws.Writer.{length-spelt, spelt-digits, spelt-bytes}
 use Rattle.basis.specs.Laws.Choice.{pick-second, both-true, both-no, either-none}
-use Rattle.image.specs.Record.{count, kind, address, recordLeast, recordMost, noColon, lengthWrong, notDigits, countWrong, isData, kindWrong, shapeWrong, characterRows, byteRows, shapeRows, charactersOf, bytesOf, framingOf, shapeOf}
+use Rattle.image.specs.Record.{count, kind, address, recordLeast, recordMost, noColon, lengthWrong, notDigits, countWrong, isData, kindWrong, shapeWrong, characterRows, byteRows, shapeRows, charactersOf, decodedBytes, framingOf, shapeOf}
 use Rattle.image.specs.Hex.{hex, file, place, placeRows, namedBefore, placed, otherOf, recordIn, applyIn, dataIn}
 use Rattle.image.specs.declared.hex.Hex.{Hex}
 
@@ -69,7 +69,7 @@ decoded-length (c ∷ d ∷ s) e =
 
 -- where the characters pass, the record's bytes stand at the front
 pub characters-bytes : (line old : List ℕ) → charactersOf line ≡ given tt → length line / 2 ≤ length old
-    → take (length line / 2) (copyOf old 0 (bytesOf line)) ≡ decoded (drop 1 line)
+    → take (length line / 2) (copyOf old 0 (decodedBytes line)) ≡ decoded (drop 1 line)
 unfolding charactersOf
 characters-bytes line old e room =
     let p = passed 22 (noColon line) _ _ e in

@@ -23,7 +23,7 @@ use Rattle.runs.specs.Map.{named}
 use Rattle.session.specs.Phases.{ended}
 use Rattle.session.specs.Plan.{total}
 use Rattle.session.specs.Session.{Loadable}
-use Rattle.session.specs.declared.phase.Outcome.{Outcome}
+use Rattle.session.specs.declared.ending.Outcome.{Outcome}
 use Rattle.session.specs.declared.phase.Phase.{Phase}
 use Rattle.session.specs.declared.phase.RunKind.{RunKind}
 

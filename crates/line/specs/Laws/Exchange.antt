@@ -25,7 +25,7 @@ use Rattle.session.specs.Phases.{packetOut, packetAt}
 use Rattle.session.specs.Plan.{total}
 use Rattle.session.specs.Session.{sessionWith, atGreeting, stateAt, rightSizes, tookOf, Loadable}
 use Rattle.session.specs.declared.event.Event.{Event}
-use Rattle.session.specs.declared.phase.Outcome.{Outcome}
+use Rattle.session.specs.declared.ending.Outcome.{Outcome}
 use Rattle.session.specs.declared.phase.Phase.{Phase}
 use Rattle.session.specs.declared.phase.RunKind.{RunKind}
 use Rattle.session.specs.declared.session.Session.{Session}

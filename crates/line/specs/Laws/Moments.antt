@@ -48,7 +48,7 @@ use Rattle.session.specs.Plan.{pieceBytes, total, beforeR}
 use Rattle.session.specs.Paper.{paperOutcome}
 use Rattle.session.specs.Session.{atGreeting, stateAt, fitsOf, marked, tookOf, Loadable}
 use Rattle.session.specs.declared.event.Event.{Event}
-use Rattle.session.specs.declared.phase.Outcome.{Outcome}
+use Rattle.session.specs.declared.ending.Outcome.{Outcome}
 use Rattle.session.specs.declared.phase.Phase.{Phase}
 use Rattle.session.specs.declared.phase.RunKind.{RunKind}
 use Rattle.session.specs.declared.session.Session.{Session}

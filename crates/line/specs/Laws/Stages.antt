@@ -29,17 +29,17 @@ use Rattle.packet.specs.Turn.{turnedOf}
 use Rattle.runs.specs.Pieces.{runLen}
 use Rattle.session.specs.Laws.Events.{greeting-heard}
 use Rattle.session.specs.Laws.Marks.{marked-late, marked-more, all-marked}
-use Rattle.session.specs.Endings.{isAck, asked, endsAt}
+use Rattle.session.specs.Endings.{isAck, endsAt}
 use Rattle.session.specs.Laws.Endings.{fails-ends}
 use Rattle.session.specs.Laws.Series.{ack-or}
 use Rattle.session.specs.Laws.Starts.{piece-carried}
 use Rattle.session.specs.Laws.States.{phase-open}
 use Rattle.session.specs.Laws.Out.{Out, erases, writes, verifies, runs, out-after}
-use Rattle.session.specs.Phases.{ended, packetOut, verifyAt, placeOf, packetAt}
+use Rattle.session.specs.Phases.{ended, packetOut, verifyAt, placeOf, packetAt, asked}
 use Rattle.session.specs.Plan.{total, pieceBytes, verifyPacket, beforeVerify, beforeR}
 use Rattle.session.specs.Session.{marked, Loadable}
 use Rattle.session.specs.declared.event.Event.{Event}
-use Rattle.session.specs.declared.phase.Outcome.{Outcome}
+use Rattle.session.specs.declared.ending.Outcome.{Outcome}
 use Rattle.session.specs.declared.phase.Phase.{Phase}
 use Rattle.session.specs.declared.phase.RunKind.{RunKind}
 

@@ -54,7 +54,7 @@ Accepts f room s g =
     (takeOf pages serving s f room ≡ given (record { loader = serving; flash = g }))
     × (answerBytes serving (takeOf pages serving s f room) ≡ ackByte ∷ [])
 
--- the input is refused with the number n and BEL alone; loader and flash stay
+-- the input is refused with the number n and BEL alone; a refusal leaves loader and flash (`effectAfter`)
 abbrev pub Refuses : List ℕ → ℕ → List ℕ → ℕ → Type 0
 Refuses f room s n =
     (takeOf pages serving s f room ≡ refused n)

@@ -14,7 +14,7 @@ use Rattle.loader.specs.Commands.{Effect, effectAfter, massErase, eraseR
 use Rattle.loader.specs.Guard.{closes}
 use Rattle.loader.specs.Laws.Protection.{unclosed}
 use Rattle.loader.specs.Protection.{none}
-use Rattle.loader.specs.Alike.{unkeyed, unadded, TakenAlike, Arrival, input, reset, courseOf, CourseAlike}
+use Rattle.loader.specs.Alike.{unkeyed, unadded, TakenAlike, Arrival, input, reset, courseFrom, CourseAlike}
 use Rattle.loader.specs.State.{resetOf, withCondition, withAdded, joinedOf, clearedOf}
 use Rattle.loader.specs.Take.{waiting, sentData, obeyed, serveOf, hearOf, takeOf, tellOf}
 use Rattle.loader.specs.declared.protection.Protection.{Protection}
@@ -225,8 +225,8 @@ key-unseen board l k s f room q =
 
 -- and so every series of inputs, and of resets between them
 pub key-unseen-series : (board : ℕ) (l k : Loader) (f : List ℕ) (es : List Arrival) → unkeyed l ≡ unkeyed k
-    → CourseAlike (courseOf board l f es) (courseOf board k f es)
-unfolding courseOf
+    → CourseAlike (courseFrom board l f es) (courseFrom board k f es)
+unfolding courseFrom
 key-unseen-series board l k f [] q = record { told-same = refl; flash-same = refl; loader-same = q }
 key-unseen-series board l k f (reset ∷ es) q =
     key-unseen-series board (resetOf l) (resetOf k) f es (ap resetOf q)
@@ -234,8 +234,8 @@ key-unseen-series board l k f (input s room ∷ es) q =
     let a = key-unseen board l k s f room q in
     let m = effectAfter l f (takeOf board l s f room) in
     let n = effectAfter k f (takeOf board k s f room) in
-    let rest = subst (λ (g : List ℕ). CourseAlike (courseOf board (m .loader) (m .flash) es)
-    (courseOf board (n .loader) g es)) (a .flash-same)
+    let rest = subst (λ (g : List ℕ). CourseAlike (courseFrom board (m .loader) (m .flash) es)
+    (courseFrom board (n .loader) g es)) (a .flash-same)
     (key-unseen-series board (m .loader) (n .loader) (m .flash) es (a .loader-same)) in
     record {
       told-same = λ i. record { verdict = a .verdict-same i; answer = a .answer-same i } ∷ rest .told-same i;

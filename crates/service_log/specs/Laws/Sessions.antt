@@ -23,7 +23,7 @@ use Rattle.session.specs.Phases.{ended}
 use Rattle.session.specs.Plan.{total}
 use Rattle.session.specs.Endings.{failing}
 use Rattle.session.specs.Session.{sessionWith, Came, waits, stands, fails, ends, atGreeting, series}
-use Rattle.session.specs.declared.phase.Outcome.{Outcome}
+use Rattle.session.specs.declared.ending.Outcome.{Outcome}
 use Rattle.session.specs.declared.phase.Phase.{Phase}
 use Rattle.session.specs.declared.phase.RunKind.{RunKind}
 use Rattle.session.specs.declared.session.Session.{Session}

@@ -11,7 +11,7 @@ use Rattle.basis.specs.Lists.{overlay}
 use Rattle.basis.specs.Refusals.{Answer}
 use Rattle.session.specs.Paper.{paperOutcome, paperRefusal, paperStepped, paperMark}
 use Rattle.session.specs.Session.{Sent, measured, sentBytes}
-use Rattle.session.specs.declared.phase.Outcome.{Outcome}
+use Rattle.session.specs.declared.ending.Outcome.{Outcome}
 use Rattle.session.specs.declared.session.Mark.{Mark}
 use Rattle.session.specs.declared.session.Refusal.{Refusal}
 use Rattle.session.specs.declared.session.Stepped.{Stepped}

@@ -5,9 +5,10 @@ use mathlib.Core.Path.{_≡_, sym}
 use borrow.Author.Tests.{eq-eqb, ne-eqb, eqb-true, ltb-true, lt-ltb, le-ltb}
 use lib.Dec.{eqb, ltb}
 use Rattle.basis.specs.Laws.Choice.{decide, both-true, true-false}
-use Rattle.session.specs.Endings.{asked, failing, endsAt}
+use Rattle.session.specs.Endings.{failing, endsAt}
+use Rattle.session.specs.Phases.{asked}
 use Rattle.session.specs.Paper.{paperOutcome}
-use Rattle.session.specs.declared.phase.Outcome.{Outcome}
+use Rattle.session.specs.declared.ending.Outcome.{Outcome}
 use Rattle.session.specs.declared.phase.RunKind.{RunKind}
 
 module _ (wish o : Outcome) (n k : ℕ) where

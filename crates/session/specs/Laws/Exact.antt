@@ -14,7 +14,7 @@ use Rattle.basis.specs.Laws.Refusals.{passed, given-one}
 use Rattle.basis.specs.Refusals.{given}
 use Rattle.basis.specs.Units.{mapBytes}
 use Rattle.runs.specs.Pieces.{namedCount}
-use Rattle.session.specs.Endings.{asked, failing, endsAt}
+use Rattle.session.specs.Endings.{failing, endsAt}
 use Rattle.session.specs.Laws.Determined.{outcome-one}
 use Rattle.session.specs.Laws.Endings.{ends-by, fails-ends}
 use Rattle.session.specs.Laws.Fits.{Fitting, fitting, fits-by, came-open, came-ended}
@@ -23,14 +23,21 @@ use Rattle.session.specs.Laws.Phases.{greeted, stands-below, stands-at}
 use Rattle.session.specs.Laws.Series.{came, acks-state, acks-valid, event-taken, series-nil, series-ack, series-last, series-first, series-fails, first-fails, ack-or, greeting-or}
 use Rattle.session.specs.Laws.States.{stands-greeting, phase-open, phase-later, ack-next, greeting-state, waiting-fits, state-fits}
 use Rattle.session.specs.Laws.Steps.{step-taken}
-use Rattle.session.specs.Phases.{ended, phaseAt}
+use Rattle.session.specs.Phases.{ended, phaseAt, asked}
 use Rattle.session.specs.Plan.{total, beforeR}
 use Rattle.session.specs.Session.{sessionWith, atGreeting, stateAt, rightSizes, tookOf, sentOf, cameAt, fitsOf, stepOf, series, marked, provedOf, Came, waits, stands, fails, ends, Acknowledged, Shown}
 use Rattle.session.specs.declared.event.Event.{Event}
-use Rattle.session.specs.declared.phase.Outcome.{Outcome}
+use Rattle.session.specs.declared.ending.Outcome.{Outcome}
 use Rattle.session.specs.declared.phase.Phase.{Phase}
 use Rattle.session.specs.declared.phase.RunKind.{RunKind}
 use Rattle.session.specs.declared.session.Session.{Session}
+
+-- one series behind another
+series-append : (board : ℕ) (m : List ℕ) (s : Session) (es ds : List Event)
+    → series board m s (es ++ ds) ≡ series board m (series board m s es) ds
+unfolding series
+series-append board m s [] ds = refl
+series-append board m s (e ∷ es) ds = series-append board m _ es ds
 
 -- ---- what events lead to fits
 
@@ -53,13 +60,17 @@ module _ (board : ℕ) (m : List ℕ) (long : length m ≡ mapBytes board) (some
   pub series-fits : (es : List Event) → fitsOf board m (series board m (atGreeting board m kind) es) ≡ true
   series-fits es = came-fits _ (came board m long some kind es)
 
-  -- so along a series each event is a step that is not refused
+  -- so along a series each event is a step that is not refused, and it leads to the series' next session
   pub series-steps : (image : List ℕ) (room : ℕ) (es : List Event) (e : Event)
       → rightSizes board (length image) (length m) room ≡ true
       → (let s = series board m (atGreeting board m kind) es in ended (s .phase) ≡ false
-      → stepOf board image m room s e ≡ given (sentOf board image m s e))
-  series-steps image room es e right goes-on =
-      step-taken board image m room _ e right goes-on (series-fits es)
+      → (stepOf board image m room s e ≡ given (sentOf board image m s e))
+      × (sentOf board image m s e .session ≡ series board m (atGreeting board m kind) (es ++ (e ∷ []))))
+  series-steps image room es e right goes-on = (
+    step-taken board image m room _ e right goes-on (series-fits es),
+    sym (series-append board m (atGreeting board m kind) es (e ∷ [])
+        ∙ event-taken board m long some kind _ e [] goes-on refl ∙ series-nil board m _),
+  )
 
 -- ---- and nothing else does
 
@@ -109,13 +120,6 @@ fits-came board m long s h = (f .some, go (s .phase) refl)
         (λ l t. fails o k l t (counts (Phase.Ended o) k e refl))
 
 -- ---- the events
-
--- one series behind another
-series-append : (board : ℕ) (m : List ℕ) (s : Session) (es ds : List Event)
-    → series board m s (es ++ ds) ≡ series board m (series board m s es) ds
-unfolding series
-series-append board m s [] ds = refl
-series-append board m s (e ∷ es) ds = series-append board m _ es ds
 
 module _ (board : ℕ) (m : List ℕ) (long : length m ≡ mapBytes board) (some : 0 < namedCount board m)
     (kind : RunKind) where

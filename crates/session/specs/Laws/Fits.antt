@@ -10,14 +10,14 @@ use lib.ListN.{length}
 use Rattle.basis.specs.Laws.Choice.{decide, both-true, true-false}
 use Rattle.basis.specs.Units.{mapBytes}
 use Rattle.runs.specs.Pieces.{namedCount}
-use Rattle.session.specs.Endings.{awaitedOf, goesOn, asked, endsAt}
+use Rattle.session.specs.Endings.{goesOn, endsAt}
 use Rattle.session.specs.Laws.Endings.{ends-by}
 use Rattle.session.specs.Laws.Phases.{after-start, after-ended, stands-start, stands-below}
-use Rattle.session.specs.Phases.{ended, atStart, afterOf, standsAt}
+use Rattle.session.specs.Phases.{ended, atStart, afterOf, standsAt, awaitsOf, asked}
 use Rattle.session.specs.Plan.{total}
 use Rattle.session.specs.Session.{tookOf, cameAt, fitsOf}
 use Rattle.session.specs.declared.event.Event.{Event}
-use Rattle.session.specs.declared.phase.Outcome.{Outcome}
+use Rattle.session.specs.declared.ending.Outcome.{Outcome}
 use Rattle.session.specs.declared.phase.Phase.{Phase}
 use Rattle.session.specs.declared.phase.RunKind.{RunKind}
 use Rattle.session.specs.declared.session.Session.{Session}
@@ -106,7 +106,7 @@ pub took-start : (board : ℕ) (m : List ℕ) → length m ≡ mapBytes board �
     → fitsOf board m s ≡ true → atStart board m (tookOf board m s e .phase) ≡ true
 unfolding tookOf
 took-start board m long s e h =
-    decide (goesOn (awaitedOf (s .phase)) e) (λ t. rw t (moves (ended (s .phase)) refl)) (λ t. rw t)
+    decide (goesOn (awaitsOf (s .phase)) e) (λ t. rw t (moves (ended (s .phase)) refl)) (λ t. rw t)
   where
     f : Fitting board m s
     f = fitting board m s h

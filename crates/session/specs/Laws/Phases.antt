@@ -218,7 +218,7 @@ module _ (board : ℕ) (m : List ℕ) (long : length m ≡ mapBytes board) (some
   after-start Phase.Run k h = refl
   after-start (Phase.Ended o) k h = refl
 
--- an ending stays where it is
+-- after an ending the cursor counts as at a start
 pub after-ended : (board : ℕ) (m : List ℕ) (ph : Phase) → ended ph ≡ true
     → atStart board m (afterOf board m ph) ≡ true
 unfolding afterOf

@@ -12,14 +12,14 @@ use Rattle.basis.specs.Choice.{pick}
 use Rattle.basis.specs.Laws.Choice.{decide, true-false}
 use Rattle.basis.specs.Units.{mapBytes}
 use Rattle.runs.specs.Pieces.{namedCount}
-use Rattle.session.specs.Endings.{awaitedOf, isGreeting, isAck, failing}
+use Rattle.session.specs.Endings.{isGreeting, isAck, failing}
 use Rattle.session.specs.Laws.States.{phase-open, phase-later, greeting-state, ack-next, ack-last}
-use Rattle.session.specs.Phases.{ended, phaseAt}
+use Rattle.session.specs.Phases.{ended, phaseAt, awaitsOf}
 use Rattle.session.specs.Plan.{total, beforeR}
-use Rattle.session.specs.Session.{sessionWith, atGreeting, stateAt, valid, heardOf, tookOf, series, Came, waits, stands, fails, ends}
+use Rattle.session.specs.Session.{sessionWith, atGreeting, stateAt, valid, heardBy, tookOf, series, Came, waits, stands, fails, ends}
 use Rattle.session.specs.declared.ending.Awaited.{Awaited}
 use Rattle.session.specs.declared.event.Event.{Event}
-use Rattle.session.specs.declared.phase.Outcome.{Outcome}
+use Rattle.session.specs.declared.ending.Outcome.{Outcome}
 use Rattle.session.specs.declared.phase.Phase.{Phase}
 use Rattle.session.specs.declared.phase.RunKind.{RunKind}
 use Rattle.session.specs.declared.session.Session.{Session}
@@ -35,9 +35,9 @@ series-ended board m s (e ∷ es) h = rw h (series-ended board m s es h)
 pub silence-ends : (board : ℕ) (m : List ℕ) (s : Session)
     → tookOf board m s Event.Silence .phase ≡ Phase.Ended Outcome.Silence
 unfolding tookOf
-silence-ends board m s = go (awaitedOf (s .phase))
+silence-ends board m s = go (awaitsOf (s .phase))
   where
-    go : (w : Awaited) → heardOf board m s w Event.Silence .phase ≡ Phase.Ended Outcome.Silence
+    go : (w : Awaited) → heardBy board m s w Event.Silence .phase ≡ Phase.Ended Outcome.Silence
     go Awaited.Greeting = refl
     go Awaited.Ack = refl
 

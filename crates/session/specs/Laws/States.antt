@@ -13,17 +13,16 @@ use Rattle.basis.specs.Laws.Choice.{decide, true-false}
 use Rattle.basis.specs.Refusals.{given}
 use Rattle.basis.specs.Units.{startOf, mapBytes}
 use Rattle.runs.specs.Pieces.{runCount, namedCount}
-use Rattle.session.specs.Endings.{awaitedOf}
 use Rattle.session.specs.Laws.Fits.{fits-by, came-open}
 use Rattle.session.specs.Laws.Phases.{greeted, stands-at, at-stands, greeting-stands, erase-stands, write-stands, verify-stands}
 use Rattle.session.specs.Laws.Plan.{plan-at}
 use Rattle.session.specs.Laws.Steps.{step-taken}
-use Rattle.session.specs.Phases.{ended, packetOut, eraseAt, writeAt, verifyAt, phaseAt, nextRun, nextPiece, afterOf, standsAt}
+use Rattle.session.specs.Phases.{ended, packetOut, eraseAt, writeAt, verifyAt, phaseAt, nextRun, nextPiece, afterOf, standsAt, awaitsOf}
 use Rattle.session.specs.Plan.{plan, total, beforeR, beforeVerify}
 use Rattle.session.specs.Session.{sessionWith, atGreeting, stateAt, valid, Sent, rightSizes, tookOf, sentOf, cameAt, fitsOf, stepOf}
 use Rattle.session.specs.declared.ending.Awaited.{Awaited}
 use Rattle.session.specs.declared.event.Event.{Event}
-use Rattle.session.specs.declared.phase.Outcome.{Outcome}
+use Rattle.session.specs.declared.ending.Outcome.{Outcome}
 use Rattle.session.specs.declared.phase.Phase.{Phase}
 use Rattle.session.specs.declared.phase.RunKind.{RunKind}
 use Rattle.session.specs.declared.session.Session.{Session}
@@ -68,9 +67,9 @@ module _ (board : ℕ) (m : List ℕ) (k : ℕ) where
   phase-open =
       phase-cases board (λ (ph : Phase). ended ph ≡ false) (λ q. refl) (λ a. refl) (λ a. refl) refl m k
 
-  pub phase-later : awaitedOf (phaseAt board m k) ≡ Awaited.Ack
+  pub phase-later : awaitsOf (phaseAt board m k) ≡ Awaited.Ack
   phase-later =
-      phase-cases board (λ (ph : Phase). awaitedOf ph ≡ Awaited.Ack) (λ q. refl) (λ a. refl) (λ a. refl)
+      phase-cases board (λ (ph : Phase). awaitsOf ph ≡ Awaited.Ack) (λ q. refl) (λ a. refl) (λ a. refl)
       refl m k
 
   -- R is out exactly after all else is acknowledged

@@ -17,7 +17,7 @@ use Rattle.packet.specs.Packet.{packetMost}
 use Rattle.runs.specs.Pieces.{namedCount}
 use Rattle.session.specs.Endings.{goesOn}
 use Rattle.session.specs.Phases.{ended}
-use Rattle.session.specs.Session.{atGreeting, measured, rightSizes, started, overOf, heardOf, sentOf, fitsOf, stepOf, Loadable}
+use Rattle.session.specs.Session.{atGreeting, measured, rightSizes, started, overOf, heardBy, sentOf, fitsOf, stepOf, Loadable}
 use Rattle.session.specs.declared.ending.Awaited.{Awaited}
 use Rattle.session.specs.declared.event.Event.{Event}
 use Rattle.session.specs.declared.phase.RunKind.{RunKind}
@@ -95,5 +95,5 @@ module _ (board : ℕ) (image m : List ℕ) (room : ℕ) (s : Session) (e : Even
 
 -- an event that is not the one awaited ends the session
 pub heard-over : (board : ℕ) (m : List ℕ) (s : Session) (w : Awaited) (e : Event) → goesOn w e ≡ false
-    → heardOf board m s w e ≡ overOf s w e
+    → heardBy board m s w e ≡ overOf s w e
 heard-over board m s w e h = rw h

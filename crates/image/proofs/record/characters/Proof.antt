@@ -8,7 +8,7 @@ use borrow.Author.Tests.{lt-ltb, le-ltb, eq-eqb, ne-eqb, not-true, not-false}
 use Rattle.basis.specs.Lists.{stored, copyOf}
 use Rattle.basis.specs.Refusals.{Answer, refused, given, first}
 use Rattle.image.specs.Digits.{allDigits, decoded}
-use Rattle.image.specs.Record.{noColon, lengthWrong, charactersOf, bytesOf}
+use Rattle.image.specs.Record.{noColon, lengthWrong, charactersOf, decodedBytes}
 use borrow.Author.Needs.{needs}
 use Rattle.image.proofs.record.characters.Statement.{statement}
 use Rattle.image.proofs.record.characters.Tie as tie
@@ -16,7 +16,7 @@ use Rattle.image.proofs.record.characters.Tie as tie
 -- the ways out, each by the table
 module _ (line old : List ℕ) where
   abbrev Says : Answer Unit → List ℕ → Type 0
-  Says a b = (a ≡ charactersOf line) × (b ≡ copyOf old 0 (bytesOf line))
+  Says a b = (a ≡ charactersOf line) × (b ≡ copyOf old 0 (decodedBytes line))
 
   no-colon : noColon line ≡ true → Says (refused 22) old
   unfolding first charactersOf stored

@@ -2,7 +2,7 @@
 use mathlib.Core.Path.{ap, _∙_}
 use borrow.Author.Needs.{needs}
 use Rattle.session.specs.Endings.{endsAt}
-use Rattle.session.specs.declared.phase.Outcome.{Outcome}
+use Rattle.session.specs.declared.ending.Outcome.{Outcome}
 use Rattle.session.proofs.session.Session.ends.Statement.{statement}
 use Rattle.session.proofs.session.Session.ends.Tie as tie
 

@@ -3,10 +3,10 @@ use mathlib.Core.Path.{ap, sym, _∙_}
 use borrow.Author.Needs.{needs}
 use Rattle.basis.specs.Board.{pages}
 use Rattle.session.specs.Laws.Steps.{heard-over}
-use Rattle.session.specs.Session.{movedOf, heardOf}
+use Rattle.session.specs.Session.{movedOf, heardBy}
 use Rattle.session.specs.declared.ending.Awaited.{Awaited}
 use Rattle.session.specs.declared.phase.Phase.{Phase}
-use Rattle.session.proofs.Judging.{no-greeting}
+use Rattle.session.proofs.Events.{no-greeting}
 use Rattle.session.proofs.session.Session.greeted.Statement.{statement}
 use Rattle.session.proofs.session.Session.greeted.Tie as tie
 
@@ -20,7 +20,7 @@ returns-2 : tie.Need-returns-2
 returns-2 c =
     let s = c .before .before .before .before .before .args in
     c .moved .ensures ∙ ap (λ (x : Phase). movedOf (s .self) x 0) (c .before .after .ensures)
-    ∙ sym (ap (heardOf pages (s .map .now) (s .self) Awaited.Greeting) (c .before .before .enum-told .given .1))
+    ∙ sym (ap (heardBy pages (s .map .now) (s .self) Awaited.Greeting) (c .before .before .enum-told .given .1))
 
 pub greeted-spec : {M : Type 1} → statement M
 greeted-spec =

@@ -3,8 +3,8 @@ use mathlib.Core.Path.{_≡_, sym, _∙_}
 use borrow.Author.Needs.{needs}
 use Rattle.session.specs.Laws.Endings.{ends-asked, ends-late, ends-fails}
 use Rattle.session.specs.Paper.{paperOutcome}
-use Rattle.session.proofs.phase.Outcome.follows.Statement.{statement}
-use Rattle.session.proofs.phase.Outcome.follows.Tie as tie
+use Rattle.session.proofs.ending.Outcome.follows.Statement.{statement}
+use Rattle.session.proofs.ending.Outcome.follows.Tie as tie
 
 -- the ending is the one that was asked for, or is not
 same : (c : tie.Then1) → let a = c .before .before .before .args in
