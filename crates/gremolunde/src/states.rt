@@ -186,7 +186,8 @@ fn end_meant(outcome: u32) -> Phase
     }
 }
 
-// A phase that no file has: its page lies past every board, so a step and a mark are 46 and there is no outcome.
+// A phase that no file has: its page lies past every board.
+// So a step and a mark are 46, and there is no outcome.
 fn nowhere() -> Phase
     ensures { λ r. ⌜ r ≡ nowhere ⌝ }
 {

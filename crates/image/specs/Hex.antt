@@ -76,7 +76,8 @@ pastBoard size h b = both (ltb 0 (count b)) (ltb size (place h b + count b))
 abbrev pub namedBefore : Hex → List ℕ → List ℕ → Bool
 namedBefore h b map = anyNamed map (place h b) (count b)
 
--- the bytes s from place a on go into image and map, unless one of the places is named before; r says whether they do
+-- the bytes s from place a on go into image and map, unless one of the places is named before;
+-- r says whether they do
 abbrev pub Puts : List ℕ → List ℕ → ℕ → List ℕ → Bool → List ℕ → List ℕ → Type 0
 Puts image map a s r image′ map′ =
     let free = not (anyNamed map a (length s)) in

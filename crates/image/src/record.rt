@@ -64,7 +64,9 @@ pub enum Check {
 pub fn characters(line: &[u8], bytes: &mut [u8]) -> Check
     requires { ⌜ 260 ≤ length (now bytes) ⌝ }
     ensures answer { λ r. ⌜ paperCheck r ≡ charactersOf (now (line .entry)) ⌝ }
-    ensures bytes { λ _. ⌜ now (bytes .exit) ≡ copyOf (now (bytes .entry)) 0 (decodedBytes (now (line .entry))) ⌝ }
+    ensures bytes { λ _. ⌜
+        now (bytes .exit) ≡ copyOf (now (bytes .entry)) 0 (decodedBytes (now (line .entry)))
+        ⌝ }
 {
     let n = line.len();
     if n == 0 {

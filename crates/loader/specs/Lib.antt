@@ -6,5 +6,6 @@ pub mod Commands
 pub mod Take
 pub mod Guard
 pub mod Alike
+pub mod Cases
 pub mod Paper
 pub mod Laws

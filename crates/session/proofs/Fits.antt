@@ -63,7 +63,8 @@ abbrev pub cameBy : Surveyed → RunKind → ℕ → Phase → ℕ → Bool
 cameBy f kind n Phase.Greeting k = eqb k 0
 cameBy f kind n (Phase.Erase p) k = both (f .run) (eqb (f .below .runs) k)
 cameBy f kind n (Phase.Write a) k = both (f .piece) (eqb (f .all .runs + f .below .pieces) k)
-cameBy f kind n (Phase.Verify a) k = both (f .piece) (eqb (f .all .runs + f .all .pieces + f .below .pieces) k)
+cameBy f kind n (Phase.Verify a) k =
+    both (f .piece) (eqb (f .all .runs + f .all .pieces + f .below .pieces) k)
 cameBy f kind n Phase.Run k = eqb (f .all .runs + 2 * f .all .pieces) k
 cameBy f kind n (Phase.Ended o) k = endsAt (asked kind) n o k
 
@@ -116,7 +117,8 @@ module _ (m : List ℕ) (s : Session) {f : Surveyed} (e : f ≡ surveyOf pages m
       -- all counts are the file's, so the phase decides
       pub fits-place : (n : ℕ) → n ≡ f .all .runs + 2 * f .all .pieces + 1 → s .total ≡ n
           → placeOf pages (s .phase) < flashSize
-          → (ph : Phase) → s .phase ≡ ph → cameBy f (s .kind) (s .total) ph (s .acknowledged) ≡ fitsOf pages m s
+          → (ph : Phase) → s .phase ≡ ph
+          → cameBy f (s .kind) (s .total) ph (s .acknowledged) ≡ fitsOf pages m s
       unfolding fitsOf
       fits-place n g h b ph q =
           let all : s .total ≡ total pages m = omega (arith, t .runs, t .pieces) in

@@ -46,7 +46,8 @@ endingOf Awaited.Ack Event.Bel = Outcome.Bel
 endingOf Awaited.Ack Event.Other = Outcome.Other
 endingOf Awaited.Ack Event.Silence = Outcome.Silence
 
--- an ending other than the one that was asked for, with k packets acknowledged: 42 only before the first packet
+-- an ending other than the one that was asked for, with k packets acknowledged:
+-- 42 only before the first packet
 abbrev pub failing : Outcome → ℕ → Bool
 failing Outcome.Valid k = false
 failing Outcome.Silence k = true

@@ -171,7 +171,8 @@ pub record Held (board : ℕ) (m : List ℕ) (j s a : ℕ) : Type 0 where
   pub from : s ≤ a
   pub below : a < s + pieceLen m s
 
--- in this series of events the V of the piece that holds the byte at a was acknowledged: it was out, and ACK came
+-- in this series of events the V of the piece that holds the byte at a was acknowledged:
+-- it was out, and ACK came
 pub record Acknowledged (board : ℕ) (m : List ℕ) (kind : RunKind) (es : List Event) (a : ℕ) : Type 0 where
   pub before : List Event
   pub rest : List Event

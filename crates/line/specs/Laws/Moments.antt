@@ -79,7 +79,8 @@ module _ (board : ℕ) (image m : List ℕ) (losses : ℕ → Loss) (x : Moment)
 -- ---- what flash holds makes a moment safe, if R and the verdict come late enough
 
 holds-safe : (board : ℕ) (image m before : List ℕ) (long : length m ≡ mapBytes board) (k : ℕ) (x : Moment)
-    → x .session .acknowledged ≡ k → fitsOf board m (x .session) ≡ true → Holds board image m before k (x .flash)
+    → x .session .acknowledged ≡ k → fitsOf board m (x .session) ≡ true
+    → Holds board image m before k (x .flash)
     → (RunOut x → beforeR board m ≤ k)
     → (Valid (x .session) → beforeR board m ≤ k) → Safe board image m before x
 holds-safe board image m before long k x c fits h run val =
@@ -95,7 +96,8 @@ holds-safe board image m before long k x c fits h run val =
     is a = ap (λ (j : ℕ). marked board m j a) c
 
     all : beforeR board m ≤ k → AllProved board m (x .session)
-    all b a t = proved-is board m long (x .session) a fits ∙ ap given (is a ∙ all-marked board m long k a b ∙ t)
+    all b a t =
+        proved-is board m long (x .session) a fits ∙ ap given (is a ∙ all-marked board m long k a b ∙ t)
 
 -- on the wire R comes after every V
 run-late : (board : ℕ) (image m : List ℕ) (long : length m ≡ mapBytes board) (kind : RunKind) (k : ℕ)

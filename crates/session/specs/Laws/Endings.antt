@@ -32,7 +32,7 @@ module _ (wish o : Outcome) (n k : ℕ) where
       (λ t. all (eqb-true _ _ t) (eqb-true k n (rw t at h)))
       (λ t. let b = both-true (ltb k n) (failing o k) (rw t at h) in before (ltb-true _ _ (b .0)) (b .1))
 
--- a failure is not what was asked for
+-- a failure, before the last is acknowledged, is an ending to which events lead
 pub fails-ends : (kind : RunKind) (o : Outcome) (n k : ℕ) → k < n → failing o k ≡ true
     → endsAt (asked kind) n o k ≡ true
 fails-ends kind Outcome.Valid n k l f = absurd (true-false (sym f))

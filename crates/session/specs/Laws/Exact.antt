@@ -1,5 +1,5 @@
--- 46 is exact: a session fits a file exactly where a start and events over that file lead to it. So `proved` says
--- yes only where such events have acknowledged the V that holds the byte.
+-- 46 is exact: a session fits a file exactly where a start and events over that file lead to it.
+-- So `proved` says yes only where such events have acknowledged the V that holds the byte.
 use Prim.Native.Nat.{ℕ, zero, suc, _+_, _≤_, _<_}
 use mathlib.Core.Bool.{true, false}
 use mathlib.Core.List.{List, [], _∷_, _++_}
@@ -205,7 +205,8 @@ module _ (board : ℕ) (m : List ℕ) (long : length m ≡ mapBytes board) (some
       → Cut (stateAt board m kind k) es j
   unfolding Counted
   cut-on n k [] j l a b =
-      absurd (omega (arith, ap (λ (s : Session). s .acknowledged) (series-nil board m (stateAt board m kind k))))
+      absurd (omega
+      (arith, ap (λ (s : Session). s .acknowledged) (series-nil board m (stateAt board m kind k))))
   cut-on zero k (e ∷ es) j l a b =
       cut-event k e es j (omega arith) a b
       (λ t u. absurd (omega (
@@ -214,7 +215,8 @@ module _ (board : ℕ) (m : List ℕ) (long : length m ≡ mapBytes board) (some
       )))
   cut-on (suc n) k (e ∷ es) j l a b =
       cut-event k e es j (omega arith) a b
-      (λ t u. later (stateAt board m kind k) (stateAt board m kind (k + 1)) Event.Ack es j (phase-open board m k)
+      (λ t u. later (stateAt board m kind k) (stateAt board m kind (k + 1)) Event.Ack es j
+      (phase-open board m k)
       (ack-next board m long some kind k (omega arith))
       (cut-on n (k + 1) es j (omega arith) (omega arith)
       (subst (λ (s : Session). j < s .acknowledged)
@@ -224,18 +226,21 @@ module _ (board : ℕ) (m : List ℕ) (long : length m ≡ mapBytes board) (some
       → Cut (atGreeting board m kind) es j
   unfolding Counted
   cut-at [] j b =
-      absurd (omega (arith, ap (λ (s : Session). s .acknowledged) (series-nil board m (atGreeting board m kind))))
+      absurd (omega
+      (arith, ap (λ (s : Session). s .acknowledged) (series-nil board m (atGreeting board m kind))))
   cut-at (e ∷ es) j b =
       greeting-or e
       (λ q. subst (λ (x : Event). Cut (atGreeting board m kind) (x ∷ es) j) (sym q)
       (later (atGreeting board m kind) (stateAt board m kind 0) Event.Greeting es j refl
       (greeting-state board m long some kind)
       (cut-on (beforeR board m) 0 es j (omega arith) (omega arith)
-      (counted (subst (λ (x : Event). j < series board m (atGreeting board m kind) (x ∷ es) .acknowledged) q b)))))
+      (counted
+      (subst (λ (x : Event). j < series board m (atGreeting board m kind) (x ∷ es) .acknowledged) q b)))))
       (λ q. let f = first-fails board m long some kind e es q in
       absurd (omega (arith, ap (λ (s : Session). s .acknowledged) (f .2))))
     where
-      counted : j < series board m (atGreeting board m kind) (Event.Greeting ∷ es) .acknowledged → Counted 0 es j
+      counted : j < series board m (atGreeting board m kind) (Event.Greeting ∷ es) .acknowledged
+          → Counted 0 es j
       counted = subst (λ (s : Session). j < s .acknowledged) (series-first board m long some kind es)
 
   -- in whatever way a session came about, the V of each byte that it has marked was acknowledged
@@ -257,7 +262,8 @@ module _ (board : ℕ) (m : List ℕ) (long : length m ≡ mapBytes board) (some
       }
 
 -- some events over the file lead to a session that fits it
-pub fits-series : (board : ℕ) (m : List ℕ) → length m ≡ mapBytes board → (s : Session) → fitsOf board m s ≡ true
+pub fits-series : (board : ℕ) (m : List ℕ) → length m ≡ mapBytes board → (s : Session)
+    → fitsOf board m s ≡ true
     → (es : List Event) × (s ≡ series board m (atGreeting board m (s .kind)) es)
 fits-series board m long s h =
     let c = fits-came board m long s h in came-series board m long (c .0) (s .kind) s (c .1)

@@ -64,7 +64,8 @@ module _ (board : ℕ) (m : List ℕ) (kind : RunKind) (k : ℕ) where
   came-open Phase.Run h = refl
   came-open (Phase.Ended o) h = absurd (true-false h)
 
-  pub came-ended : (o : Outcome) → cameAt board m kind (Phase.Ended o) k ≡ endsAt (asked kind) (total board m) o k
+  pub came-ended : (o : Outcome)
+      → cameAt board m kind (Phase.Ended o) k ≡ endsAt (asked kind) (total board m) o k
   unfolding cameAt
   came-ended o = refl
 

@@ -29,7 +29,8 @@ returns-3 : tie.Need-returns-3
 returns-3 c =
     let a = c .before .before .before .before .before .args in
     c .fails .ensures
-    ∙ sym (ends-fails (a .asked) (a .self) (a .total) (a .k) (other (c .before .before)) (c .before .if2 .left))
+    ∙ sym (ends-fails (a .asked) (a .self) (a .total) (a .k) (other (c .before .before))
+    (c .before .if2 .left))
 
 pub follows-spec : {M : Type 1} → statement M
 follows-spec =

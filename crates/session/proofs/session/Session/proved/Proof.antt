@@ -16,7 +16,8 @@ entry c = c .before .before
 long : (c : tie.Else1) → length (entry c .args .map .now) ≡ mapSize
 long c = c .if1 .left
 
-fitted : (c : tie.Else2) → let a = entry (c .before .before) .args in fitsOf pages (a .map .now) (a .self) ≡ true
+fitted : (c : tie.Else2)
+    → let a = entry (c .before .before) .args in fitsOf pages (a .map .now) (a .self) ≡ true
 fitted c = sym (c .before .fits2 .ensures) ∙ not-false _ (c .if2 .left)
 
 returns : tie.Need-returns
