@@ -7,14 +7,8 @@ use Rattle.basis.specs.Laws.Lists.{copy-overlay}
 use Rattle.basis.proofs.buffers.write.Statement.{statement}
 use Rattle.basis.proofs.buffers.write.Tie as tie
 
-copy-requires : tie.Need-copy-requires
-copy-requires c κs = search needs
-
-same-length : tie.Need-same-length
-same-length c = search needs
-
 returns : tie.Need-returns
 returns c = c .before .before .copy .ensures ∙ copy-overlay [] _ _ 0 refl (omega arith)
 
 pub write-spec : {M : Type 1} → statement M
-write-spec = tie.close (tie.spec copy-requires same-length returns)
+write-spec = tie.close (tie.spec (λ c κs. search needs) (λ c. search needs) returns)

@@ -7,15 +7,6 @@ use Rattle.gremolunde.specs.Answers.{hexAnswer}
 use Rattle.gremolunde.proofs.files.gremolunde_hex_close.Statement.{statement}
 use Rattle.gremolunde.proofs.files.gremolunde_hex_close.Tie as tie
 
-hex-meant-requires : tie.Need-hex-meant-requires
-hex-meant-requires c κs = search needs
-
-close-requires : tie.Need-close-requires
-close-requires c κs = search needs
-
-hex-answer-requires : tie.Need-hex-answer-requires
-hex-answer-requires c κs = search needs
-
 returns : tie.Need-returns
 returns c =
     c .hex-answer .ensures
@@ -24,4 +15,4 @@ returns c =
 
 pub gremolunde-hex-close-spec : {M : Type 1} → statement M
 gremolunde-hex-close-spec =
-    tie.close (tie.spec hex-meant-requires close-requires hex-answer-requires returns)
+    tie.close (tie.spec (λ c κs. search needs) (λ c κs. search needs) (λ c κs. search needs) returns)

@@ -6,21 +6,6 @@ use Rattle.gremolunde.specs.Answers.{hexAnswer}
 use Rattle.gremolunde.proofs.files.gremolunde_hex_start.Statement.{statement}
 use Rattle.gremolunde.proofs.files.gremolunde_hex_start.Tie as tie
 
-no-reader-requires : tie.Need-no-reader-requires
-no-reader-requires c κs = search needs
-
-start-requires : tie.Need-start-requires
-start-requires c κs = search needs
-
-hex-answer-requires : tie.Need-hex-answer-requires
-hex-answer-requires c κs = search needs
-
-same-length : tie.Need-same-length
-same-length c = search needs
-
-same-length-2 : tie.Need-same-length-2
-same-length-2 c = search needs
-
 returns : tie.Need-returns
 returns c =
     let n = c .before .before .before .before .before .before .before .before .no-reader .ensures in
@@ -34,9 +19,9 @@ pub gremolunde-hex-start-spec : {M : Type 1} → statement M
 gremolunde-hex-start-spec =
     tie.close
     (tie.spec
-    no-reader-requires
-    start-requires
-    hex-answer-requires
-    same-length
-    same-length-2
+    (λ c κs. search needs)
+    (λ c κs. search needs)
+    (λ c κs. search needs)
+    (λ c. search needs)
+    (λ c. search needs)
     returns)

@@ -5,15 +5,6 @@ use Rattle.gremolunde.specs.Answers.{writtenAnswer}
 use Rattle.gremolunde.proofs.files.gremolunde_hex_write.Statement.{statement}
 use Rattle.gremolunde.proofs.files.gremolunde_hex_write.Tie as tie
 
-write-requires : tie.Need-write-requires
-write-requires c κs = search needs
-
-written-answer-requires : tie.Need-written-answer-requires
-written-answer-requires c κs = search needs
-
-same-length : tie.Need-same-length
-same-length c = search needs
-
 returns : tie.Need-returns
 returns c = (
   c .written-answer .ensures
@@ -23,4 +14,4 @@ returns c = (
 )
 
 pub gremolunde-hex-write-spec : {M : Type 1} → statement M
-gremolunde-hex-write-spec = tie.close (tie.spec write-requires written-answer-requires same-length returns)
+gremolunde-hex-write-spec = tie.close (tie.spec (λ c κs. search needs) (λ c κs. search needs) (λ c. search needs) returns)

@@ -8,18 +8,6 @@ use Rattle.gremolunde.specs.Answers.{hexAnswer}
 use Rattle.gremolunde.proofs.files.hex_answer.Statement.{statement}
 use Rattle.gremolunde.proofs.files.hex_answer.Tie as tie
 
-enum-known-answer : tie.Need-enum-known-answer
-enum-known-answer c = search needs
-
-hex-shown-requires : tie.Need-hex-shown-requires
-hex-shown-requires c κs = search needs
-
-enum-known-answer-2 : tie.Need-enum-known-answer-2
-enum-known-answer-2 c = search needs
-
-number-requires : tie.Need-number-requires
-number-requires c κs = search needs
-
 returns : tie.Need-returns
 returns c =
     (λ i. record { number = 0; reader = c .hex-shown .ensures i })
@@ -36,9 +24,9 @@ pub hex-answer-spec : {M : Type 1} → statement M
 hex-answer-spec =
     tie.close
     (tie.spec
-    enum-known-answer
-    hex-shown-requires
-    enum-known-answer-2
-    number-requires
+    (λ c. search needs)
+    (λ c κs. search needs)
+    (λ c. search needs)
+    (λ c κs. search needs)
     returns
     returns-2)

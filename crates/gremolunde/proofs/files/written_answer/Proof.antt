@@ -9,15 +9,6 @@ use Rattle.gremolunde.specs.Answers.{writtenAnswer}
 use Rattle.gremolunde.proofs.files.written_answer.Statement.{statement}
 use Rattle.gremolunde.proofs.files.written_answer.Tie as tie
 
-enum-known-answer : tie.Need-enum-known-answer
-enum-known-answer c = search needs
-
-enum-known-answer-2 : tie.Need-enum-known-answer-2
-enum-known-answer-2 c = search needs
-
-number-requires : tie.Need-number-requires
-number-requires c κs = search needs
-
 returns : tie.Need-returns
 returns c =
     let from = c .before .before .before .args .from in
@@ -33,8 +24,8 @@ pub written-answer-spec : {M : Type 1} → statement M
 written-answer-spec =
     tie.close
     (tie.spec
-    enum-known-answer
-    enum-known-answer-2
-    number-requires
+    (λ c. search needs)
+    (λ c. search needs)
+    (λ c κs. search needs)
     returns
     returns-2)

@@ -5,14 +5,8 @@ use Rattle.gremolunde.specs.States.{loaderShown}
 use Rattle.gremolunde.proofs.loading.gremolunde_loader_new.Statement.{statement}
 use Rattle.gremolunde.proofs.loading.gremolunde_loader_new.Tie as tie
 
-factory-requires : tie.Need-factory-requires
-factory-requires c κs = search needs
-
-loader-shown-requires : tie.Need-loader-shown-requires
-loader-shown-requires c κs = search needs
-
 returns : tie.Need-returns
 returns c = c .loader-shown .ensures ∙ ap loaderShown (c .before .factory .ensures)
 
 pub gremolunde-loader-new-spec : {M : Type 1} → statement M
-gremolunde-loader-new-spec = tie.close (tie.spec factory-requires loader-shown-requires returns)
+gremolunde-loader-new-spec = tie.close (tie.spec (λ c κs. search needs) (λ c κs. search needs) returns)

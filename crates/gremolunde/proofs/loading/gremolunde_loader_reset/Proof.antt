@@ -6,15 +6,6 @@ use Rattle.gremolunde.specs.States.{loaderShown}
 use Rattle.gremolunde.proofs.loading.gremolunde_loader_reset.Statement.{statement}
 use Rattle.gremolunde.proofs.loading.gremolunde_loader_reset.Tie as tie
 
-loader-meant-requires : tie.Need-loader-meant-requires
-loader-meant-requires c κs = search needs
-
-reset-requires : tie.Need-reset-requires
-reset-requires c κs = search needs
-
-loader-shown-requires : tie.Need-loader-shown-requires
-loader-shown-requires c κs = search needs
-
 returns : tie.Need-returns
 returns c =
     c .loader-shown .ensures
@@ -22,4 +13,4 @@ returns c =
 
 pub gremolunde-loader-reset-spec : {M : Type 1} → statement M
 gremolunde-loader-reset-spec =
-    tie.close (tie.spec loader-meant-requires reset-requires loader-shown-requires returns)
+    tie.close (tie.spec (λ c κs. search needs) (λ c κs. search needs) (λ c κs. search needs) returns)

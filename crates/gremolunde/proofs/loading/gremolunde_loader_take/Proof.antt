@@ -31,21 +31,6 @@ told-of s l m e input flash old r p t =
       t .answer-is,
     )
 
-loader-meant-requires : tie.Need-loader-meant-requires
-loader-meant-requires c κs = search needs
-
-take-requires : tie.Need-take-requires
-take-requires c κs = search needs
-
-taken-answer-requires : tie.Need-taken-answer-requires
-taken-answer-requires c κs = search needs
-
-same-length : tie.Need-same-length
-same-length c = search needs
-
-same-length-2 : tie.Need-same-length-2
-same-length-2 c = search needs
-
 returns : tie.Need-returns
 returns c =
     told-of _ _ _
@@ -55,4 +40,4 @@ returns c =
 pub gremolunde-loader-take-spec : {M : Type 1} → statement M
 gremolunde-loader-take-spec =
     tie.close
-    (tie.spec loader-meant-requires take-requires taken-answer-requires same-length same-length-2 returns)
+    (tie.spec (λ c κs. search needs) (λ c κs. search needs) (λ c κs. search needs) (λ c. search needs) (λ c. search needs) returns)

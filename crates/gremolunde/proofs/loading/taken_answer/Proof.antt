@@ -8,18 +8,6 @@ use Rattle.gremolunde.specs.Answers.{takenAnswer}
 use Rattle.gremolunde.proofs.loading.taken_answer.Statement.{statement}
 use Rattle.gremolunde.proofs.loading.taken_answer.Tie as tie
 
-enum-told : tie.Need-enum-told
-enum-told c = search needs
-
-loader-shown-requires : tie.Need-loader-shown-requires
-loader-shown-requires c κs = search needs
-
-enum-known-verdict : tie.Need-enum-known-verdict
-enum-known-verdict c = search needs
-
-number-requires : tie.Need-number-requires
-number-requires c κs = search needs
-
 returns : tie.Need-returns
 returns c =
     (λ i. record {
@@ -46,9 +34,9 @@ pub taken-answer-spec : {M : Type 1} → statement M
 taken-answer-spec =
     tie.close
     (tie.spec
-    enum-told
-    loader-shown-requires
-    enum-known-verdict
-    number-requires
+    (λ c. search needs)
+    (λ c κs. search needs)
+    (λ c. search needs)
+    (λ c κs. search needs)
     returns
     returns-2)

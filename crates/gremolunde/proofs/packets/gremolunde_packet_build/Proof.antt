@@ -5,15 +5,6 @@ use Rattle.gremolunde.specs.Answers.{lengthAnswer}
 use Rattle.gremolunde.proofs.packets.gremolunde_packet_build.Statement.{statement}
 use Rattle.gremolunde.proofs.packets.gremolunde_packet_build.Tie as tie
 
-build-requires : tie.Need-build-requires
-build-requires c κs = search needs
-
-length-answer-requires : tie.Need-length-answer-requires
-length-answer-requires c κs = search needs
-
-same-length : tie.Need-same-length
-same-length c = search needs
-
 returns : tie.Need-returns
 returns c = (
   c .length-answer .ensures ∙ ap lengthAnswer (c .before .before .before .build .ensures .0),
@@ -22,4 +13,4 @@ returns c = (
 
 pub gremolunde-packet-build-spec : {M : Type 1} → statement M
 gremolunde-packet-build-spec =
-    tie.close (tie.spec build-requires length-answer-requires same-length returns)
+    tie.close (tie.spec (λ c κs. search needs) (λ c κs. search needs) (λ c. search needs) returns)

@@ -5,14 +5,8 @@ use Rattle.gremolunde.specs.Answers.{partsAnswer}
 use Rattle.gremolunde.proofs.packets.gremolunde_packet_read.Statement.{statement}
 use Rattle.gremolunde.proofs.packets.gremolunde_packet_read.Tie as tie
 
-read-requires : tie.Need-read-requires
-read-requires c κs = search needs
-
-parts-answer-requires : tie.Need-parts-answer-requires
-parts-answer-requires c κs = search needs
-
 returns : tie.Need-returns
 returns c = c .parts-answer .ensures ∙ ap partsAnswer (c .before .read .ensures)
 
 pub gremolunde-packet-read-spec : {M : Type 1} → statement M
-gremolunde-packet-read-spec = tie.close (tie.spec read-requires parts-answer-requires returns)
+gremolunde-packet-read-spec = tie.close (tie.spec (λ c κs. search needs) (λ c κs. search needs) returns)

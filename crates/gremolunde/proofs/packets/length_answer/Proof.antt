@@ -9,24 +9,6 @@ use Rattle.gremolunde.specs.Answers.{lengthAnswer}
 use Rattle.gremolunde.proofs.packets.length_answer.Statement.{statement}
 use Rattle.gremolunde.proofs.packets.length_answer.Tie as tie
 
-enum-known-answer : tie.Need-enum-known-answer
-enum-known-answer c = search needs
-
-enum-told : tie.Need-enum-told
-enum-told c = search needs
-
-refused-requires : tie.Need-refused-requires
-refused-requires c κs = search needs
-
-enum-known-answer-2 : tie.Need-enum-known-answer-2
-enum-known-answer-2 c = search needs
-
-number-requires : tie.Need-number-requires
-number-requires c κs = search needs
-
-refused-requires-2 : tie.Need-refused-requires-2
-refused-requires-2 c κs = search needs
-
 returns : tie.Need-returns
 returns c = ap (λ (x : Built). lengthAnswer (paperBuilt x)) (sym (c .before .answer .given .1))
 
@@ -44,12 +26,12 @@ pub length-answer-spec : {M : Type 1} → statement M
 length-answer-spec =
     tie.close
     (tie.spec
-    enum-known-answer
-    enum-told
-    refused-requires
-    enum-known-answer-2
-    number-requires
-    refused-requires-2
+    (λ c. search needs)
+    (λ c. search needs)
+    (λ c κs. search needs)
+    (λ c. search needs)
+    (λ c κs. search needs)
+    (λ c κs. search needs)
     returns
     returns-2
     returns-3)

@@ -9,18 +9,6 @@ use Rattle.gremolunde.specs.Answers.{partsAnswer}
 use Rattle.gremolunde.proofs.packets.parts_answer.Statement.{statement}
 use Rattle.gremolunde.proofs.packets.parts_answer.Tie as tie
 
-enum-known-answer : tie.Need-enum-known-answer
-enum-known-answer c = search needs
-
-byte-requires : tie.Need-byte-requires
-byte-requires c κs = search needs
-
-enum-known-answer-2 : tie.Need-enum-known-answer-2
-enum-known-answer-2 c = search needs
-
-number-requires : tie.Need-number-requires
-number-requires c κs = search needs
-
 returns : tie.Need-returns
 returns c =
     let p = c .before .before .before .answer .given .0 .0 in
@@ -42,9 +30,9 @@ pub parts-answer-spec : {M : Type 1} → statement M
 parts-answer-spec =
     tie.close
     (tie.spec
-    enum-known-answer
-    byte-requires
-    enum-known-answer-2
-    number-requires
+    (λ c. search needs)
+    (λ c κs. search needs)
+    (λ c. search needs)
+    (λ c κs. search needs)
     returns
     returns-2)

@@ -5,14 +5,8 @@ use Rattle.gremolunde.specs.Answers.{recordAnswer}
 use Rattle.gremolunde.proofs.records.gremolunde_log_read.Statement.{statement}
 use Rattle.gremolunde.proofs.records.gremolunde_log_read.Tie as tie
 
-read-requires : tie.Need-read-requires
-read-requires c κs = search needs
-
-record-answer-requires : tie.Need-record-answer-requires
-record-answer-requires c κs = search needs
-
 returns : tie.Need-returns
 returns c = c .record-answer .ensures ∙ ap recordAnswer (c .before .read .ensures)
 
 pub gremolunde-log-read-spec : {M : Type 1} → statement M
-gremolunde-log-read-spec = tie.close (tie.spec read-requires record-answer-requires returns)
+gremolunde-log-read-spec = tie.close (tie.spec (λ c κs. search needs) (λ c κs. search needs) returns)

@@ -6,18 +6,6 @@ use Rattle.gremolunde.specs.Answers.{lengthAnswer}
 use Rattle.gremolunde.proofs.records.gremolunde_log_write.Statement.{statement}
 use Rattle.gremolunde.proofs.records.gremolunde_log_write.Tie as tie
 
-session-meant-requires : tie.Need-session-meant-requires
-session-meant-requires c κs = search needs
-
-write-requires : tie.Need-write-requires
-write-requires c κs = search needs
-
-length-answer-requires : tie.Need-length-answer-requires
-length-answer-requires c κs = search needs
-
-same-length : tie.Need-same-length
-same-length c = search needs
-
 returns : tie.Need-returns
 returns c =
     rw (sym (c .before .before .before .before .before .session-meant .ensures)) (
@@ -27,4 +15,4 @@ returns c =
 
 pub gremolunde-log-write-spec : {M : Type 1} → statement M
 gremolunde-log-write-spec =
-    tie.close (tie.spec session-meant-requires write-requires length-answer-requires same-length returns)
+    tie.close (tie.spec (λ c κs. search needs) (λ c κs. search needs) (λ c κs. search needs) (λ c. search needs) returns)

@@ -9,15 +9,6 @@ use Rattle.gremolunde.specs.Answers.{recordAnswer}
 use Rattle.gremolunde.proofs.records.record_answer.Statement.{statement}
 use Rattle.gremolunde.proofs.records.record_answer.Tie as tie
 
-enum-known-answer : tie.Need-enum-known-answer
-enum-known-answer c = search needs
-
-enum-known-answer-2 : tie.Need-enum-known-answer-2
-enum-known-answer-2 c = search needs
-
-number-requires : tie.Need-number-requires
-number-requires c κs = search needs
-
 returns : tie.Need-returns
 returns c = ap (λ (x : Reading). recordAnswer (paperReading x)) (sym (c .before .answer .given .1))
 
@@ -28,4 +19,4 @@ returns-2 c =
 
 pub record-answer-spec : {M : Type 1} → statement M
 record-answer-spec =
-    tie.close (tie.spec enum-known-answer enum-known-answer-2 number-requires returns returns-2)
+    tie.close (tie.spec (λ c. search needs) (λ c. search needs) (λ c κs. search needs) returns returns-2)

@@ -26,21 +26,6 @@ told-of : (s : LoaderState) (k n : RunKind) (l m : Loader) → k ≡ n → l ≡
 told-of s k n l m d e image map flash losses r p t =
     rw (sym d) (rw (sym e) (p ∙ ap (rehearsedAnswer s) (t .result-is), t .flash-is))
 
-run-meant-requires : tie.Need-run-meant-requires
-run-meant-requires c κs = search needs
-
-loader-meant-requires : tie.Need-loader-meant-requires
-loader-meant-requires c κs = search needs
-
-rehearse-requires : tie.Need-rehearse-requires
-rehearse-requires c κs = search needs
-
-rehearsed-answer-requires : tie.Need-rehearsed-answer-requires
-rehearsed-answer-requires c κs = search needs
-
-same-length : tie.Need-same-length
-same-length c = search needs
-
 returns : tie.Need-returns
 returns c =
     told-of _ _ _ _ _ (c .before .before .before .before .before .before .run-meant .ensures)
@@ -51,9 +36,9 @@ pub gremolunde-rehearse-spec : {M : Type 1} → statement M
 gremolunde-rehearse-spec =
     tie.close
     (tie.spec
-    run-meant-requires
-    loader-meant-requires
-    rehearse-requires
-    rehearsed-answer-requires
-    same-length
+    (λ c κs. search needs)
+    (λ c κs. search needs)
+    (λ c κs. search needs)
+    (λ c κs. search needs)
+    (λ c. search needs)
     returns)

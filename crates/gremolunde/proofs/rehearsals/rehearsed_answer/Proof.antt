@@ -8,24 +8,6 @@ use borrow.Author.Needs.{needs}
 use Rattle.gremolunde.proofs.rehearsals.rehearsed_answer.Statement.{statement}
 use Rattle.gremolunde.proofs.rehearsals.rehearsed_answer.Tie as tie
 
-enum-known-answer : tie.Need-enum-known-answer
-enum-known-answer c = search needs
-
-loader-shown-requires : tie.Need-loader-shown-requires
-loader-shown-requires c κs = search needs
-
-session-shown-requires : tie.Need-session-shown-requires
-session-shown-requires c κs = search needs
-
-enum-known-answer-2 : tie.Need-enum-known-answer-2
-enum-known-answer-2 c = search needs
-
-number-requires : tie.Need-number-requires
-number-requires c κs = search needs
-
-no-session-requires : tie.Need-no-session-requires
-no-session-requires c κs = search needs
-
 returns : tie.Need-returns
 returns c =
     (λ i. record {
@@ -51,11 +33,11 @@ pub rehearsed-answer-spec : {M : Type 1} → statement M
 rehearsed-answer-spec =
     tie.close
     (tie.spec
-    enum-known-answer
-    loader-shown-requires
-    session-shown-requires
-    enum-known-answer-2
-    number-requires
-    no-session-requires
+    (λ c. search needs)
+    (λ c κs. search needs)
+    (λ c κs. search needs)
+    (λ c. search needs)
+    (λ c κs. search needs)
+    (λ c κs. search needs)
     returns
     returns-2)

@@ -7,15 +7,6 @@ use Rattle.service_log.specs.Log.{loggedOutcomeOf}
 use Rattle.gremolunde.proofs.sessions.gremolunde_session_outcome.Statement.{statement}
 use Rattle.gremolunde.proofs.sessions.gremolunde_session_outcome.Tie as tie
 
-session-meant-requires : tie.Need-session-meant-requires
-session-meant-requires c κs = search needs
-
-logged-outcome-requires : tie.Need-logged-outcome-requires
-logged-outcome-requires c κs = search needs
-
-cast-result : tie.Need-cast-result
-cast-result c = search needs
-
 returns : tie.Need-returns
 returns c =
     c .logged-outcome .ensures
@@ -23,4 +14,4 @@ returns c =
 
 pub gremolunde-session-outcome-spec : {M : Type 1} → statement M
 gremolunde-session-outcome-spec =
-    tie.close (tie.spec session-meant-requires logged-outcome-requires cast-result returns)
+    tie.close (tie.spec (λ c κs. search needs) (λ c κs. search needs) (λ c. search needs) returns)

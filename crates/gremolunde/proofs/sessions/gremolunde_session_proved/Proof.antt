@@ -6,15 +6,6 @@ use Rattle.gremolunde.specs.Answers.{markAnswer}
 use Rattle.gremolunde.proofs.sessions.gremolunde_session_proved.Statement.{statement}
 use Rattle.gremolunde.proofs.sessions.gremolunde_session_proved.Tie as tie
 
-session-meant-requires : tie.Need-session-meant-requires
-session-meant-requires c κs = search needs
-
-proved-requires : tie.Need-proved-requires
-proved-requires c κs = search needs
-
-mark-answer-requires : tie.Need-mark-answer-requires
-mark-answer-requires c κs = search needs
-
 returns : tie.Need-returns
 returns c =
     rw (sym (c .before .before .session-meant .ensures))
@@ -22,4 +13,4 @@ returns c =
 
 pub gremolunde-session-proved-spec : {M : Type 1} → statement M
 gremolunde-session-proved-spec =
-    tie.close (tie.spec session-meant-requires proved-requires mark-answer-requires returns)
+    tie.close (tie.spec (λ c κs. search needs) (λ c κs. search needs) (λ c κs. search needs) returns)

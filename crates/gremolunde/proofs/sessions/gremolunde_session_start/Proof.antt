@@ -5,21 +5,6 @@ use borrow.Author.Needs.{needs}
 use Rattle.gremolunde.proofs.sessions.gremolunde_session_start.Statement.{statement}
 use Rattle.gremolunde.proofs.sessions.gremolunde_session_start.Tie as tie
 
-no-session-requires : tie.Need-no-session-requires
-no-session-requires c κs = search needs
-
-run-meant-requires : tie.Need-run-meant-requires
-run-meant-requires c κs = search needs
-
-start-requires : tie.Need-start-requires
-start-requires c κs = search needs
-
-stepped-answer-requires : tie.Need-stepped-answer-requires
-stepped-answer-requires c κs = search needs
-
-same-length : tie.Need-same-length
-same-length c = search needs
-
 returns : tie.Need-returns
 returns c =
     rw (sym (c .before .before .before .before .before .run-meant .ensures)) (
@@ -33,9 +18,9 @@ pub gremolunde-session-start-spec : {M : Type 1} → statement M
 gremolunde-session-start-spec =
     tie.close
     (tie.spec
-    no-session-requires
-    run-meant-requires
-    start-requires
-    stepped-answer-requires
-    same-length
+    (λ c κs. search needs)
+    (λ c κs. search needs)
+    (λ c κs. search needs)
+    (λ c κs. search needs)
+    (λ c. search needs)
     returns)

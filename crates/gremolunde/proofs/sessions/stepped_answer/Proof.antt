@@ -8,18 +8,6 @@ use Rattle.gremolunde.specs.Answers.{steppedAnswer}
 use Rattle.gremolunde.proofs.sessions.stepped_answer.Statement.{statement}
 use Rattle.gremolunde.proofs.sessions.stepped_answer.Tie as tie
 
-enum-known-answer : tie.Need-enum-known-answer
-enum-known-answer c = search needs
-
-session-shown-requires : tie.Need-session-shown-requires
-session-shown-requires c κs = search needs
-
-enum-known-answer-2 : tie.Need-enum-known-answer-2
-enum-known-answer-2 c = search needs
-
-number-requires : tie.Need-number-requires
-number-requires c κs = search needs
-
 returns : tie.Need-returns
 returns c =
     (λ i. record {
@@ -44,9 +32,9 @@ pub stepped-answer-spec : {M : Type 1} → statement M
 stepped-answer-spec =
     tie.close
     (tie.spec
-    enum-known-answer
-    session-shown-requires
-    enum-known-answer-2
-    number-requires
+    (λ c. search needs)
+    (λ c κs. search needs)
+    (λ c. search needs)
+    (λ c κs. search needs)
     returns
     returns-2)

@@ -5,9 +5,6 @@ use borrow.Author.Tests.{ne-eqb}
 use Rattle.gremolunde.proofs.states.end_meant.Statement.{statement}
 use Rattle.gremolunde.proofs.states.end_meant.Tie as tie
 
-nowhere-requires : tie.Need-nowhere-requires
-nowhere-requires c κs = search needs
-
 returns : tie.Need-returns
 returns c = rw (c .match .keys1) refl
 
@@ -37,4 +34,4 @@ returns-6 c =
 
 pub end-meant-spec : {M : Type 1} → statement M
 end-meant-spec =
-    tie.close (tie.spec nowhere-requires returns returns-2 returns-3 returns-4 returns-5 returns-6)
+    tie.close (tie.spec (λ c κs. search needs) returns returns-2 returns-3 returns-4 returns-5 returns-6)

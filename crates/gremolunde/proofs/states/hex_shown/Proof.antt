@@ -3,12 +3,6 @@ use borrow.Author.Needs.{needs}
 use Rattle.gremolunde.proofs.states.hex_shown.Statement.{statement}
 use Rattle.gremolunde.proofs.states.hex_shown.Tie as tie
 
-flag-requires : tie.Need-flag-requires
-flag-requires c κs = search needs
-
-flag-requires-2 : tie.Need-flag-requires-2
-flag-requires-2 c κs = search needs
-
 returns : tie.Need-returns
 returns c =
     let h = c .before .before .args .reader in
@@ -20,4 +14,4 @@ returns c =
     }
 
 pub hex-shown-spec : {M : Type 1} → statement M
-hex-shown-spec = tie.close (tie.spec flag-requires flag-requires-2 returns)
+hex-shown-spec = tie.close (tie.spec (λ c κs. search needs) (λ c κs. search needs) returns)

@@ -4,9 +4,6 @@ use Rattle.gremolunde.specs.States.{loaderMeant}
 use Rattle.gremolunde.proofs.states.loader_meant.Statement.{statement}
 use Rattle.gremolunde.proofs.states.loader_meant.Tie as tie
 
-condition-meant-requires : tie.Need-condition-meant-requires
-condition-meant-requires c κs = search needs
-
 returns : tie.Need-returns
 returns c = let s = c .before .before .before .before .args .state in
     λ i. record {
@@ -17,4 +14,4 @@ returns c = let s = c .before .before .before .before .args .state in
     }
 
 pub loader-meant-spec : {M : Type 1} → statement M
-loader-meant-spec = tie.close (tie.spec condition-meant-requires returns)
+loader-meant-spec = tie.close (tie.spec (λ c κs. search needs) returns)

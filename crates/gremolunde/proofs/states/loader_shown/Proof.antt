@@ -3,18 +3,6 @@ use borrow.Author.Needs.{needs}
 use Rattle.gremolunde.proofs.states.loader_shown.Statement.{statement}
 use Rattle.gremolunde.proofs.states.loader_shown.Tie as tie
 
-condition-shown-requires : tie.Need-condition-shown-requires
-condition-shown-requires c κs = search needs
-
-flag-requires : tie.Need-flag-requires
-flag-requires c κs = search needs
-
-flag-requires-2 : tie.Need-flag-requires-2
-flag-requires-2 c κs = search needs
-
-flag-requires-3 : tie.Need-flag-requires-3
-flag-requires-3 c κs = search needs
-
 returns : tie.Need-returns
 returns c = let l = c .before .before .before .before .before .before .before .args .loader in
     λ i. record {
@@ -30,4 +18,4 @@ returns c = let l = c .before .before .before .before .before .before .before .a
 pub loader-shown-spec : {M : Type 1} → statement M
 loader-shown-spec =
     tie.close
-    (tie.spec condition-shown-requires flag-requires flag-requires-2 flag-requires-3 returns)
+    (tie.spec (λ c κs. search needs) (λ c κs. search needs) (λ c κs. search needs) (λ c κs. search needs) returns)

@@ -5,18 +5,6 @@ use borrow.Author.Tests.{ne-eqb}
 use Rattle.gremolunde.proofs.states.phase_meant.Statement.{statement}
 use Rattle.gremolunde.proofs.states.phase_meant.Tie as tie
 
-placeless-requires : tie.Need-placeless-requires
-placeless-requires c κs = search needs
-
-placeless-requires-2 : tie.Need-placeless-requires-2
-placeless-requires-2 c κs = search needs
-
-end-meant-requires : tie.Need-end-meant-requires
-end-meant-requires c κs = search needs
-
-nowhere-requires : tie.Need-nowhere-requires
-nowhere-requires c κs = search needs
-
 returns : tie.Need-returns
 returns c = rw (c .before .match .keys1) (c .placeless .ensures)
 
@@ -52,10 +40,10 @@ pub phase-meant-spec : {M : Type 1} → statement M
 phase-meant-spec =
     tie.close
     (tie.spec
-    placeless-requires
-    placeless-requires-2
-    end-meant-requires
-    nowhere-requires
+    (λ c κs. search needs)
+    (λ c κs. search needs)
+    (λ c κs. search needs)
+    (λ c κs. search needs)
     returns
     returns-2
     returns-3

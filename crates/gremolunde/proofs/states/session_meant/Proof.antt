@@ -3,12 +3,6 @@ use borrow.Author.Needs.{needs}
 use Rattle.gremolunde.proofs.states.session_meant.Statement.{statement}
 use Rattle.gremolunde.proofs.states.session_meant.Tie as tie
 
-run-meant-requires : tie.Need-run-meant-requires
-run-meant-requires c κs = search needs
-
-phase-meant-requires : tie.Need-phase-meant-requires
-phase-meant-requires c κs = search needs
-
 returns : tie.Need-returns
 returns c = let s = c .before .before .args .state in
     λ i. record {
@@ -20,4 +14,4 @@ returns c = let s = c .before .before .args .state in
     }
 
 pub session-meant-spec : {M : Type 1} → statement M
-session-meant-spec = tie.close (tie.spec run-meant-requires phase-meant-requires returns)
+session-meant-spec = tie.close (tie.spec (λ c κs. search needs) (λ c κs. search needs) returns)

@@ -3,15 +3,6 @@ use borrow.Author.Needs.{needs}
 use Rattle.gremolunde.proofs.states.session_shown.Statement.{statement}
 use Rattle.gremolunde.proofs.states.session_shown.Tie as tie
 
-run-shown-requires : tie.Need-run-shown-requires
-run-shown-requires c κs = search needs
-
-phase-shown-requires : tie.Need-phase-shown-requires
-phase-shown-requires c κs = search needs
-
-place-shown-requires : tie.Need-place-shown-requires
-place-shown-requires c κs = search needs
-
 returns : tie.Need-returns
 returns c = let s = c .before .before .before .args .session in
     λ i. record {
@@ -25,4 +16,4 @@ returns c = let s = c .before .before .before .args .session in
 
 pub session-shown-spec : {M : Type 1} → statement M
 session-shown-spec =
-    tie.close (tie.spec run-shown-requires phase-shown-requires place-shown-requires returns)
+    tie.close (tie.spec (λ c κs. search needs) (λ c κs. search needs) (λ c κs. search needs) returns)

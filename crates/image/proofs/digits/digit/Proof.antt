@@ -23,12 +23,6 @@ module _ (low high c : ℕ) where
   above : high < c → both (leb low c) (leb c high) ≡ false
   above h = ap (both (leb low c)) (lt-leb _ _ h) ∙ both-no (leb low c)
 
-sub-result : tie.Need-sub-result
-sub-result c = search needs
-
-sub-result-2 : tie.Need-sub-result-2
-sub-result-2 c = search needs
-
 returns : tie.Need-returns
 unfolding digitOf
 returns c = simp (within 0x30 0x39 (c .before .before .args .c) (omega arith) (omega arith))
@@ -91,8 +85,8 @@ pub digit-spec : {M : Type 1} → statement M
 digit-spec =
     tie.close
     (tie.spec
-    sub-result
-    sub-result-2
+    (λ c. search needs)
+    (λ c. search needs)
     returns
     returns-2
     returns-3

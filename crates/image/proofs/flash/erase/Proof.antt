@@ -30,30 +30,12 @@ Inv-loop flash₀ count at i₀ flash i =
 abbrev μ-loop : tie.MeasureT-loop
 μ-loop flash₀ count at i₀ flash i = count - i
 
-cast-at : tie.Need-cast-at Inv-loop μ-loop
-cast-at c = search needs
-
 loop-holds : tie.Need-loop-holds Inv-loop μ-loop
 loop-holds c = (search needs, refl, rw (add-zero, sub-zero))
-
-add-flash : tie.Need-add-flash Inv-loop μ-loop
-add-flash c = search needs
-
-slice-write-flash : tie.Need-slice-write-flash Inv-loop μ-loop
-slice-write-flash c = search needs
-
-add-i : tie.Need-add-i Inv-loop μ-loop
-add-i c = search needs
-
-loop-less : tie.Need-loop-less Inv-loop μ-loop
-loop-less c = search needs
 
 loop-again : tie.Need-loop-again Inv-loop μ-loop
 loop-again c =
     (omega arith, simp length-set (omega arith), erase-turn _ _ _ _ (omega arith) ∙ c .before .loop .inv .2)
-
-same-length : tie.Need-same-length Inv-loop μ-loop
-same-length c = search needs
 
 returns : tie.Need-returns Inv-loop μ-loop
 returns c = sym (erase-ended _ _ _ _ (c .loop-test .left)) ∙ c .before .loop .inv .2
@@ -64,12 +46,12 @@ erase-spec =
     (tie.spec
     Inv-loop
     μ-loop
-    cast-at
+    (λ c. search needs)
     loop-holds
-    add-flash
-    slice-write-flash
-    add-i
-    loop-less
+    (λ c. search needs)
+    (λ c. search needs)
+    (λ c. search needs)
+    (λ c. search needs)
     loop-again
-    same-length
+    (λ c. search needs)
     returns)

@@ -18,32 +18,8 @@ Inv-loop flash₀ bytes at i₀ flash i =
 abbrev μ-loop : tie.MeasureT-loop
 μ-loop flash₀ bytes at i₀ flash i = length bytes - i
 
-cast-at : tie.Need-cast-at Inv-loop μ-loop
-cast-at c = search needs
-
 loop-holds : tie.Need-loop-holds Inv-loop μ-loop
 loop-holds c = (search needs, refl, rw add-zero)
-
-add-flash : tie.Need-add-flash Inv-loop μ-loop
-add-flash c = search needs
-
-slice-read-flash : tie.Need-slice-read-flash Inv-loop μ-loop
-slice-read-flash c = search needs
-
-shared-slice-read-flash : tie.Need-shared-slice-read-flash Inv-loop μ-loop
-shared-slice-read-flash c = search needs
-
-add-flash-2 : tie.Need-add-flash-2 Inv-loop μ-loop
-add-flash-2 c = search needs
-
-slice-write-flash : tie.Need-slice-write-flash Inv-loop μ-loop
-slice-write-flash c = search needs
-
-add-i : tie.Need-add-i Inv-loop μ-loop
-add-i c = search needs
-
-loop-less : tie.Need-loop-less Inv-loop μ-loop
-loop-less c = search needs
 
 loop-again : tie.Need-loop-again Inv-loop μ-loop
 loop-again c = (
@@ -52,9 +28,6 @@ loop-again c = (
   stored-turn _ _ _ _ _ (omega arith)
       ∙ c .before .before .before .loop .inv .2,
 )
-
-same-length : tie.Need-same-length Inv-loop μ-loop
-same-length c = search needs
 
 returns : tie.Need-returns Inv-loop μ-loop
 returns c = sym (stored-ended _ _ _ _ _ (c .loop-test .left)) ∙ c .before .loop .inv .2
@@ -65,15 +38,15 @@ store-spec =
     (tie.spec
     Inv-loop
     μ-loop
-    cast-at
+    (λ c. search needs)
     loop-holds
-    add-flash
-    slice-read-flash
-    shared-slice-read-flash
-    add-flash-2
-    slice-write-flash
-    add-i
-    loop-less
+    (λ c. search needs)
+    (λ c. search needs)
+    (λ c. search needs)
+    (λ c. search needs)
+    (λ c. search needs)
+    (λ c. search needs)
+    (λ c. search needs)
     loop-again
-    same-length
+    (λ c. search needs)
     returns)

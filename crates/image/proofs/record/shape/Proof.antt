@@ -7,15 +7,6 @@ use borrow.Author.Needs.{needs}
 use Rattle.image.proofs.record.shape.Statement.{statement}
 use Rattle.image.proofs.record.shape.Tie as tie
 
-shared-slice-read-count : tie.Need-shared-slice-read-count
-shared-slice-read-count c = search needs
-
-pair-at-requires : tie.Need-pair-at-requires
-pair-at-requires c κs = search needs
-
-shared-slice-read-kind : tie.Need-shared-slice-read-kind
-shared-slice-read-kind c = search needs
-
 returns : tie.Need-returns
 unfolding first shapeOf
 returns c = simp (lt-ltb _ _ (c .if1 .taken))
@@ -85,9 +76,9 @@ pub shape-spec : {M : Type 1} → statement M
 shape-spec =
     tie.close
     (tie.spec
-    shared-slice-read-count
-    pair-at-requires
-    shared-slice-read-kind
+    (λ c. search needs)
+    (λ c κs. search needs)
+    (λ c. search needs)
     returns
     returns-2
     returns-3

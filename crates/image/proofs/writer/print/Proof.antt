@@ -60,42 +60,6 @@ module _ (address kind : ℕ) (s old : List ℕ) (few : length s ≤ 16) (room :
       ∙ ap (λ (l : List ℕ). overlay (l ++ (0x0A ∷ [])) old)
       (t ∙ ap (λ (y : ℕ). 0x3A ∷ spelt (content address kind s ++ (y ∷ []))) ex)
 
-cast-wrapping-add-u8 : tie.Need-cast-wrapping-add-u8
-cast-wrapping-add-u8 c = search needs
-
-cast-t12 : tie.Need-cast-t12
-cast-t12 c = search needs
-
-cast-wrapping-add-u8-2 : tie.Need-cast-wrapping-add-u8-2
-cast-wrapping-add-u8-2 c = search needs
-
-slice-aggregate-sum : tie.Need-slice-aggregate-sum
-slice-aggregate-sum c = search needs
-
-sum-requires : tie.Need-sum-requires
-sum-requires c κs = search needs
-
-sum-requires-2 : tie.Need-sum-requires-2
-sum-requires-2 c κs = search needs
-
-wrapping-add-u8-requires : tie.Need-wrapping-add-u8-requires
-wrapping-add-u8-requires c κs = search needs
-
-complement-requires : tie.Need-complement-requires
-complement-requires c κs = search needs
-
-mul-end : tie.Need-mul-end
-mul-end c = search needs
-
-add-end : tie.Need-add-end
-add-end c = search needs
-
-slice-write-buffer : tie.Need-slice-write-buffer
-slice-write-buffer c = search needs
-
-slice-aggregate-spell : tie.Need-slice-aggregate-spell
-slice-aggregate-spell c = search needs
-
 spell-requires : tie.Need-spell-requires
 spell-requires c κs = simp length-set (omega arith)
 
@@ -104,16 +68,10 @@ spell-requires-2 c κs =
     let spell = c .before .before .before .spell in
     omega (arith, spell .kept .0, simp length-set at (spell .kept .0))
 
-slice-aggregate-spell-2 : tie.Need-slice-aggregate-spell-2
-slice-aggregate-spell-2 c = search needs
-
 spell-requires-3 : tie.Need-spell-requires-3
 spell-requires-3 c κs =
     let spell = c .before .before .before .before .before .before .before .before .spell in
     omega (arith, c .before .before .before .before .spell2 .kept .0, simp length-set at (spell .kept .0))
-
-add-buffer : tie.Need-add-buffer
-add-buffer c = search needs
 
 slice-write-buffer-2 : tie.Need-slice-write-buffer-2
 slice-write-buffer-2 c =
@@ -121,9 +79,6 @@ slice-write-buffer-2 c =
     let p = c .before .before .before .before .before .before .before .before .before .before .before in
     let spell = p .spell in
     omega (arith, c .before .before .spell3 .kept .0, spell2 .kept .0, simp length-set at (spell .kept .0))
-
-add-result : tie.Need-add-result
-add-result c = search needs
 
 same-length : tie.Need-same-length
 same-length c =
@@ -159,24 +114,24 @@ pub print-spec : {M : Type 1} → statement M
 print-spec =
     tie.close
     (tie.spec
-    cast-wrapping-add-u8
-    cast-t12
-    cast-wrapping-add-u8-2
-    slice-aggregate-sum
-    sum-requires
-    sum-requires-2
-    wrapping-add-u8-requires
-    complement-requires
-    mul-end
-    add-end
-    slice-write-buffer
-    slice-aggregate-spell
+    (λ c. search needs)
+    (λ c. search needs)
+    (λ c. search needs)
+    (λ c. search needs)
+    (λ c κs. search needs)
+    (λ c κs. search needs)
+    (λ c κs. search needs)
+    (λ c κs. search needs)
+    (λ c. search needs)
+    (λ c. search needs)
+    (λ c. search needs)
+    (λ c. search needs)
     spell-requires
     spell-requires-2
-    slice-aggregate-spell-2
+    (λ c. search needs)
     spell-requires-3
-    add-buffer
+    (λ c. search needs)
     slice-write-buffer-2
-    add-result
+    (λ c. search needs)
     same-length
     returns)

@@ -63,9 +63,6 @@ right : (c : tie.Else1) → let a = c .before .before .before .before .before .a
     (length (a .image .now) ≡ flashSize) × (length (a .map .now) ≡ mapSize)
 right c = sizes-right flashSize _ _ (sized c)
 
-right-sizes-requires : tie.Need-right-sizes-requires
-right-sizes-requires c κs = search needs
-
 returns : tie.Need-returns
 returns c =
     let a = c .before .before .before .before .before .args in
@@ -90,18 +87,6 @@ returns-3 c =
 next-named-requires : tie.Need-next-named-requires
 next-named-requires c κs = omega (arith, right (c .before .before .before) .1)
 
-slice-aggregate-print : tie.Need-slice-aggregate-print
-slice-aggregate-print c = search needs
-
-print-requires : tie.Need-print-requires
-print-requires c κs = search needs
-
-add-t23 : tie.Need-add-t23
-add-t23 c = search needs
-
-same-length : tie.Need-same-length
-same-length c = search needs
-
 returns-4 : tie.Need-returns-4
 returns-4 c =
     let a = c .before .before .before .before .before .before .before .before .before .before .before .before .before .before .before .before .args in
@@ -114,29 +99,8 @@ returns-4 c =
     (c .before .before .before .before .before .if4 .taken) in
     (rw (e, print .ensures .0), rw e (print .ensures .1))
 
-sub-row-len : tie.Need-sub-row-len
-sub-row-len c = search needs
-
 row-len-requires : tie.Need-row-len-requires
 row-len-requires c κs = omega (arith, right (c .before .before .before .before .before .before) .1)
-
-cast-first : tie.Need-cast-first
-cast-first c = search needs
-
-cast-end : tie.Need-cast-end
-cast-end c = search needs
-
-add-end : tie.Need-add-end
-add-end c = search needs
-
-cast-print : tie.Need-cast-print
-cast-print c = search needs
-
-sub-print : tie.Need-sub-print
-sub-print c = search needs
-
-part-print-start : tie.Need-part-print-start
-part-print-start c = search needs
 
 part-print-end : tie.Need-part-print-end
 part-print-end c =
@@ -173,9 +137,6 @@ add-t26 c =
       c .before .before .before .before .before .before .if4 .left,
     )
 
-same-length-2 : tie.Need-same-length-2
-same-length-2 c = search needs
-
 returns-5 : tie.Need-returns-5
 returns-5 c =
     let print2 = c .before .before .print2 in
@@ -197,26 +158,26 @@ pub write-spec : {M : Type 1} → statement M
 write-spec =
     tie.close
     (tie.spec
-    right-sizes-requires
+    (λ c κs. search needs)
     returns
     returns-2
     returns-3
     next-named-requires
-    slice-aggregate-print
-    print-requires
-    add-t23
-    same-length
+    (λ c. search needs)
+    (λ c κs. search needs)
+    (λ c. search needs)
+    (λ c. search needs)
     returns-4
-    sub-row-len
+    (λ c. search needs)
     row-len-requires
-    cast-first
-    cast-end
-    add-end
-    cast-print
-    sub-print
-    part-print-start
+    (λ c. search needs)
+    (λ c. search needs)
+    (λ c. search needs)
+    (λ c. search needs)
+    (λ c. search needs)
+    (λ c. search needs)
     part-print-end
     print-requires-2
     add-t26
-    same-length-2
+    (λ c. search needs)
     returns-5)

@@ -4,27 +4,6 @@ use Rattle.line.proofs.Delivering.{lost, whole, unanswered}
 use Rattle.line.proofs.exchange.deliver.Statement.{statement}
 use Rattle.line.proofs.exchange.deliver.Tie as tie
 
-enum-told : tie.Need-enum-told
-enum-told c = search needs
-
-take-requires : tie.Need-take-requires
-take-requires c κs = search needs
-
-enum-told-2 : tie.Need-enum-told-2
-enum-told-2 c = search needs
-
-enum-told-3 : tie.Need-enum-told-3
-enum-told-3 c = search needs
-
-take-requires-2 : tie.Need-take-requires-2
-take-requires-2 c κs = search needs
-
-same-length : tie.Need-same-length
-same-length c = search needs
-
-same-length-2 : tie.Need-same-length-2
-same-length-2 c = search needs
-
 returns : tie.Need-returns
 returns c =
     let t = c .before .before .before .before .before in
@@ -36,12 +15,6 @@ returns c =
 
 returns-2 : tie.Need-returns-2
 returns-2 c = lost (c .enum-told2 .given .1)
-
-same-length-3 : tie.Need-same-length-3
-same-length-3 c = search needs
-
-same-length-4 : tie.Need-same-length-4
-same-length-4 c = search needs
 
 returns-3 : tie.Need-returns-3
 returns-3 c =
@@ -56,15 +29,15 @@ pub deliver-spec : {M : Type 1} → statement M
 deliver-spec =
     tie.close
     (tie.spec
-    enum-told
-    take-requires
-    enum-told-2
-    enum-told-3
-    take-requires-2
-    same-length
-    same-length-2
+    (λ c. search needs)
+    (λ c κs. search needs)
+    (λ c. search needs)
+    (λ c. search needs)
+    (λ c κs. search needs)
+    (λ c. search needs)
+    (λ c. search needs)
     returns
     returns-2
-    same-length-3
-    same-length-4
+    (λ c. search needs)
+    (λ c. search needs)
     returns-3)

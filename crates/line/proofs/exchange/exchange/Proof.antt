@@ -45,24 +45,6 @@ slice-aggregate-step c =
     let d = c .before .before .before .before .before .before .deliver in
     sym (length-take-le (d .result .arrived) (d .last .1 .1 .1 .1 .0) (arrived-fits (d .ensures)))
 
-step-requires : tie.Need-step-requires
-step-requires c κs = search needs
-
-enum-known-next : tie.Need-enum-known-next
-enum-known-next c = search needs
-
-enum-told : tie.Need-enum-told
-enum-told c = search needs
-
-same-length : tie.Need-same-length
-same-length c = search needs
-
-same-length-2 : tie.Need-same-length-2
-same-length-2 c = search needs
-
-same-length-3 : tie.Need-same-length-3
-same-length-3 c = search needs
-
 returns : tie.Need-returns
 returns c =
     let t = c .before .before .before .before .before .before in
@@ -72,15 +54,6 @@ returns c =
     goes (a .image .now) (a .map .now) (a .loss) (moment s) (a .packet .now) _ (a .answer .now) _ _ _ _ _
     (s .pre .0 .packet-size) (d .deliver .ensures) (t .step .ensures .1) _
     (ap paperStepped (sym (c .before .before .next .given .1)) ∙ t .step .ensures .0)
-
-same-length-4 : tie.Need-same-length-4
-same-length-4 c = search needs
-
-same-length-5 : tie.Need-same-length-5
-same-length-5 c = search needs
-
-same-length-6 : tie.Need-same-length-6
-same-length-6 c = search needs
 
 returns-2 : tie.Need-returns-2
 returns-2 c =
@@ -101,14 +74,14 @@ exchange-spec =
     deliver-requires
     slice-reshare-prefix-step
     slice-aggregate-step
-    step-requires
-    enum-known-next
-    enum-told
-    same-length
-    same-length-2
-    same-length-3
+    (λ c κs. search needs)
+    (λ c. search needs)
+    (λ c. search needs)
+    (λ c. search needs)
+    (λ c. search needs)
+    (λ c. search needs)
     returns
-    same-length-4
-    same-length-5
-    same-length-6
+    (λ c. search needs)
+    (λ c. search needs)
+    (λ c. search needs)
     returns-2)

@@ -15,18 +15,6 @@ use Rattle.line.proofs.rehearse.begin.Tie as tie
 abbrev entry : tie.After-start → tie.Start
 entry c = c .before .before .before .before .before .before .before .before
 
-start-requires : tie.Need-start-requires
-start-requires c κs = search needs
-
-enum-known-why : tie.Need-enum-known-why
-enum-known-why c = search needs
-
-enum-known-next : tie.Need-enum-known-next
-enum-known-next c = search needs
-
-reset-requires : tie.Need-reset-requires
-reset-requires c κs = search needs
-
 drive-requires : tie.Need-drive-requires
 drive-requires c κs =
     let n = c .before .before .before .before .before .before in
@@ -48,9 +36,6 @@ drive-requires c κs =
           (t .start .ensures .1),
     )
 
-same-length : tie.Need-same-length
-same-length c = search needs
-
 returns : tie.Need-returns
 returns c =
     let t = c .before .before .before .before .before in
@@ -59,15 +44,6 @@ returns c =
     start-refused (a .image .now) (a .map .now) (a .kind) (a .loader) (lossAt (a .losses .now))
     (a .flash .now) (s .pre .0) (s .pre .1)
     (ap paperStepped (sym (c .before .why .given .1)) ∙ t .start .ensures .0)
-
-same-length-2 : tie.Need-same-length-2
-same-length-2 c = search needs
-
-same-length-3 : tie.Need-same-length-3
-same-length-3 c = search needs
-
-same-length-4 : tie.Need-same-length-4
-same-length-4 c = search needs
 
 returns-2 : tie.Need-returns-2
 returns-2 c =
@@ -88,14 +64,14 @@ pub begin-spec : {M : Type 1} → statement M
 begin-spec =
     tie.close
     (tie.spec
-    start-requires
-    enum-known-why
-    enum-known-next
-    reset-requires
+    (λ c κs. search needs)
+    (λ c. search needs)
+    (λ c. search needs)
+    (λ c κs. search needs)
     drive-requires
-    same-length
+    (λ c. search needs)
     returns
-    same-length-2
-    same-length-3
-    same-length-4
+    (λ c. search needs)
+    (λ c. search needs)
+    (λ c. search needs)
     returns-2)

@@ -52,12 +52,6 @@ loop-holds c =
     let p = c .before .before .before .before .before .before .pre in
     (p .0, p .2, omega arith, refl)
 
-is-open-requires : tie.Need-is-open-requires Inv-loop μ-loop
-is-open-requires c κs = search needs
-
-at-requires : tie.Need-at-requires Inv-loop μ-loop
-at-requires c κs = search needs
-
 exchange-requires : tie.Need-exchange-requires Inv-loop μ-loop
 exchange-requires c κs =
     let l = c .before .before .before .before .before .before .loop in
@@ -103,15 +97,6 @@ loop-again c =
           (open-yet t) (e .before .before .before .before .at .ensures),
     )
 
-same-length : tie.Need-same-length Inv-loop μ-loop
-same-length c = search needs
-
-same-length-2 : tie.Need-same-length-2 Inv-loop μ-loop
-same-length-2 c = search needs
-
-same-length-3 : tie.Need-same-length-3 Inv-loop μ-loop
-same-length-3 c = search needs
-
 returns : tie.Need-returns Inv-loop μ-loop
 returns c =
     let a = entry (c .before .before) .args in
@@ -131,13 +116,13 @@ drive-spec =
     Inv-loop
     μ-loop
     loop-holds
-    is-open-requires
-    at-requires
+    (λ c κs. search needs)
+    (λ c κs. search needs)
     exchange-requires
     add-i
     loop-less
     loop-again
-    same-length
-    same-length-2
-    same-length-3
+    (λ c. search needs)
+    (λ c. search needs)
+    (λ c. search needs)
     returns)

@@ -11,28 +11,13 @@ returns c =
     flash-refused (a .image .now) (a .map .now) (a .kind) (a .loader) (lossAt (a .losses .now))
     (a .flash .now) (c .if1 .taken)
 
-slice-aggregate-begin : tie.Need-slice-aggregate-begin
-slice-aggregate-begin c = search needs
-
-slice-aggregate-begin-2 : tie.Need-slice-aggregate-begin-2
-slice-aggregate-begin-2 c = search needs
-
-begin-requires : tie.Need-begin-requires
-begin-requires c κs = search needs
-
-same-length : tie.Need-same-length
-same-length c = search needs
-
-returns-2 : tie.Need-returns-2
-returns-2 c = search needs
-
 pub rehearse-spec : {M : Type 1} → statement M
 rehearse-spec =
     tie.close
     (tie.spec
     returns
-    slice-aggregate-begin
-    slice-aggregate-begin-2
-    begin-requires
-    same-length
-    returns-2)
+    (λ c. search needs)
+    (λ c. search needs)
+    (λ c κs. search needs)
+    (λ c. search needs)
+    (λ c. search needs))

@@ -18,39 +18,12 @@ log-put : (a b : Answer Record) (old new : List ℕ) (n : ℕ) → a ≡ b
     → (n ≡ length (logLine a)) × (new ≡ overlay (logLine a) old)
 log-put a b old new n e f = rw e f
 
-read-requires : tie.Need-read-requires
-read-requires c κs = search needs
-
-enum-known-x : tie.Need-enum-known-x
-enum-known-x c = search needs
-
-record-line-requires : tie.Need-record-line-requires
-record-line-requires c κs = search needs
-
-enum-known-why : tie.Need-enum-known-why
-enum-known-why c = search needs
-
-number-requires : tie.Need-number-requires
-number-requires c κs = search needs
-
-cast-refusal-line : tie.Need-cast-refusal-line
-cast-refusal-line c = search needs
-
-refusal-line-requires : tie.Need-refusal-line-requires
-refusal-line-requires c κs = search needs
-
-same-length : tie.Need-same-length
-same-length c = search needs
-
 returns : tie.Need-returns
 returns c =
     log-put _ _ _ _ _
     (sym (c .before .before .before .before .before .before .before .read .ensures)
     ∙ ap paperReading (c .before .before .before .before .before .x .given .1))
     (c .before .before .record-line .ensures)
-
-same-length-2 : tie.Need-same-length-2
-same-length-2 c = search needs
 
 returns-2 : tie.Need-returns-2
 returns-2 c =
@@ -64,14 +37,14 @@ pub log-line-spec : {M : Type 1} → statement M
 log-line-spec =
     tie.close
     (tie.spec
-    read-requires
-    enum-known-x
-    record-line-requires
-    enum-known-why
-    number-requires
-    cast-refusal-line
-    refusal-line-requires
-    same-length
+    (λ c κs. search needs)
+    (λ c. search needs)
+    (λ c κs. search needs)
+    (λ c. search needs)
+    (λ c κs. search needs)
+    (λ c. search needs)
+    (λ c κs. search needs)
+    (λ c. search needs)
     returns
-    same-length-2
+    (λ c. search needs)
     returns-2)

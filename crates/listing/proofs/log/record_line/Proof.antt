@@ -25,48 +25,6 @@ module _ (old u v w x y b1 b2 b3 b4 b5 : List ℕ) (e1 e2 e3 e4 e5 r1 r2 r3 r4 r
       let e : (((u ++ v) ++ w) ++ x) ++ y ≡ u ++ (v ++ (w ++ (x ++ y))) = simp append-assoc in
       rw e at (put-over old ((((u ++ v) ++ w) ++ x) ++ y) b5 e5 p5 (omega (arith, f5 .1 .1)))
 
-slice-aggregate-field : tie.Need-slice-aggregate-field
-slice-aggregate-field c = search needs
-
-cast-field : tie.Need-cast-field
-cast-field c = search needs
-
-field-requires : tie.Need-field-requires
-field-requires c κs = search needs
-
-slice-aggregate-field-2 : tie.Need-slice-aggregate-field-2
-slice-aggregate-field-2 c = search needs
-
-cast-field-2 : tie.Need-cast-field-2
-cast-field-2 c = search needs
-
-field-requires-2 : tie.Need-field-requires-2
-field-requires-2 c κs = search needs
-
-slice-aggregate-field-3 : tie.Need-slice-aggregate-field-3
-slice-aggregate-field-3 c = search needs
-
-cast-field-3 : tie.Need-cast-field-3
-cast-field-3 c = search needs
-
-field-requires-3 : tie.Need-field-requires-3
-field-requires-3 c κs = search needs
-
-slice-aggregate-field-4 : tie.Need-slice-aggregate-field-4
-slice-aggregate-field-4 c = search needs
-
-cast-field-4 : tie.Need-cast-field-4
-cast-field-4 c = search needs
-
-field-requires-4 : tie.Need-field-requires-4
-field-requires-4 c κs = search needs
-
-slice-aggregate-last-field : tie.Need-slice-aggregate-last-field
-slice-aggregate-last-field c = search needs
-
-cast-last-field : tie.Need-cast-last-field
-cast-last-field c = search needs
-
 last-field-requires : tie.Need-last-field-requires
 last-field-requires c κs =
     let d4 = c .before .before .before .before .before in
@@ -124,20 +82,20 @@ pub record-line-spec : {M : Type 1} → statement M
 record-line-spec =
     tie.close
     (tie.spec
-    slice-aggregate-field
-    cast-field
-    field-requires
-    slice-aggregate-field-2
-    cast-field-2
-    field-requires-2
-    slice-aggregate-field-3
-    cast-field-3
-    field-requires-3
-    slice-aggregate-field-4
-    cast-field-4
-    field-requires-4
-    slice-aggregate-last-field
-    cast-last-field
+    (λ c. search needs)
+    (λ c. search needs)
+    (λ c κs. search needs)
+    (λ c. search needs)
+    (λ c. search needs)
+    (λ c κs. search needs)
+    (λ c. search needs)
+    (λ c. search needs)
+    (λ c κs. search needs)
+    (λ c. search needs)
+    (λ c. search needs)
+    (λ c κs. search needs)
+    (λ c. search needs)
+    (λ c. search needs)
     last-field-requires
     same-length
     returns)

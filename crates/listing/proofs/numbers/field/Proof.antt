@@ -21,19 +21,10 @@ field-put b at n w c d e ec f = (
   (f .1 .0 ∙ copy-then b at w (decimalOf n) c (at + length w) refl ec, f .1 .1),
 )
 
-copy-requires : tie.Need-copy-requires
-copy-requires c κs = search needs
-
-add-decimal : tie.Need-add-decimal
-add-decimal c = search needs
-
 decimal-requires : tie.Need-decimal-requires
 decimal-requires c κs =
     let s = c .before .before .before .before .before .before .before in
     omega (arith, decimal-most (s .args .n) (s .fits .n .fits), c .before .before .before .copy .kept .0)
-
-same-length : tie.Need-same-length
-same-length c = search needs
 
 returns : tie.Need-returns
 returns c =
@@ -41,4 +32,4 @@ returns c =
     (c .before .before .decimal .ensures)
 
 pub field-spec : {M : Type 1} → statement M
-field-spec = tie.close (tie.spec copy-requires add-decimal decimal-requires same-length returns)
+field-spec = tie.close (tie.spec (λ c κs. search needs) (λ c. search needs) decimal-requires (λ c. search needs) returns)

@@ -18,18 +18,6 @@ last-put b at n w c e f = (
   (copy-last b at (w ++ decimalOf n) c e 0x0A (f .0) (f .1 .0), omega (arith, f .1 .1)),
 )
 
-field-requires : tie.Need-field-requires
-field-requires c κs = search needs
-
-slice-write-buffer : tie.Need-slice-write-buffer
-slice-write-buffer c = search needs
-
-add-result : tie.Need-add-result
-add-result c = search needs
-
-same-length : tie.Need-same-length
-same-length c = search needs
-
 returns : tie.Need-returns
 returns c =
     let a = c .before .before .before .before .before .before .args in
@@ -37,4 +25,4 @@ returns c =
 
 pub last-field-spec : {M : Type 1} → statement M
 last-field-spec =
-    tie.close (tie.spec field-requires slice-write-buffer add-result same-length returns)
+    tie.close (tie.spec (λ c κs. search needs) (λ c. search needs) (λ c. search needs) (λ c. search needs) returns)

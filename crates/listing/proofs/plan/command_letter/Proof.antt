@@ -8,11 +8,5 @@ use Rattle.listing.proofs.plan.command_letter.Tie as tie
 returns : tie.Need-returns
 returns c = sym (List·getD-eq-default (c .before .args .packet .now) 0 (c .if1 .taken))
 
-shared-slice-read-result : tie.Need-shared-slice-read-result
-shared-slice-read-result c = search needs
-
-returns-2 : tie.Need-returns-2
-returns-2 c = search needs
-
 pub command-letter-spec : {M : Type 1} → statement M
-command-letter-spec = tie.close (tie.spec returns shared-slice-read-result returns-2)
+command-letter-spec = tie.close (tie.spec returns (λ c. search needs) (λ c. search needs))

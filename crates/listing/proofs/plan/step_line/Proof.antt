@@ -52,15 +52,6 @@ decimal-requires c κs =
     let s = c .before .before .before in
     omega (arith, decimal-most (s .args .step) (s .fits .step .fits), s .pre)
 
-slice-write-buffer : tie.Need-slice-write-buffer
-slice-write-buffer c = search needs
-
-command-letter-requires : tie.Need-command-letter-requires
-command-letter-requires c κs = search needs
-
-add-buffer : tie.Need-add-buffer
-add-buffer c = search needs
-
 slice-write-buffer-2 : tie.Need-slice-write-buffer-2
 slice-write-buffer-2 c =
     let d = c .before .before .before .decimal in
@@ -71,9 +62,6 @@ slice-write-buffer-2 c =
       d .kept .0,
       c .before .before .before .before .before .before .before .pre,
     ))
-
-add-buffer-2 : tie.Need-add-buffer-2
-add-buffer-2 c = search needs
 
 slice-write-buffer-3 : tie.Need-slice-write-buffer-3
 slice-write-buffer-3 c =
@@ -86,9 +74,6 @@ slice-write-buffer-3 c =
       c .before .before .before .before .before .before .before .pre,
     ))
 
-add-spell : tie.Need-add-spell
-add-spell c = search needs
-
 spell-requires : tie.Need-spell-requires
 spell-requires c κs =
     let d = c .before .before .before .before .decimal in
@@ -100,15 +85,6 @@ spell-requires c κs =
       c .before .before .before .before .before .before .before .before .pre,
     ))
 
-add-last : tie.Need-add-last
-add-last c = search needs
-
-mul-last : tie.Need-mul-last
-mul-last c = search needs
-
-add-last-2 : tie.Need-add-last-2
-add-last-2 c = search needs
-
 slice-write-buffer-4 : tie.Need-slice-write-buffer-4
 slice-write-buffer-4 c =
     let d = c .before .before .before .before .before .before .before .decimal in
@@ -119,9 +95,6 @@ slice-write-buffer-4 c =
       simp length-set at (c .before .before .spell .kept .0),
       c .before .before .before .before .before .before .before .before .before .before .before .pre,
     )
-
-add-result : tie.Need-add-result
-add-result c = search needs
 
 same-length : tie.Need-same-length
 same-length c =
@@ -142,18 +115,18 @@ step-line-spec =
     tie.close
     (tie.spec
     decimal-requires
-    slice-write-buffer
-    command-letter-requires
-    add-buffer
+    (λ c. search needs)
+    (λ c κs. search needs)
+    (λ c. search needs)
     slice-write-buffer-2
-    add-buffer-2
+    (λ c. search needs)
     slice-write-buffer-3
-    add-spell
+    (λ c. search needs)
     spell-requires
-    add-last
-    mul-last
-    add-last-2
+    (λ c. search needs)
+    (λ c. search needs)
+    (λ c. search needs)
     slice-write-buffer-4
-    add-result
+    (λ c. search needs)
     same-length
     returns)

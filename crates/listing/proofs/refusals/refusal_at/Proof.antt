@@ -26,27 +26,6 @@ refused-put x old b c d e q r s f g p h =
     (put-first old (field refusedWord (x .line)) b d r f) g) (omega (arith, g .1 .1)) in
     (o .0 ∙ ap (λ k. length (refusalAt (at k))) p, o .1 ∙ ap (λ k. overlay (refusalAt (at k)) old) p)
 
-slice-aggregate-field : tie.Need-slice-aggregate-field
-slice-aggregate-field c = search needs
-
-field-requires : tie.Need-field-requires
-field-requires c κs = search needs
-
-slice-aggregate-last-field : tie.Need-slice-aggregate-last-field
-slice-aggregate-last-field c = search needs
-
-number-requires : tie.Need-number-requires
-number-requires c κs = search needs
-
-cast-last-field : tie.Need-cast-last-field
-cast-last-field c = search needs
-
-last-field-requires : tie.Need-last-field-requires
-last-field-requires c κs = search needs
-
-same-length : tie.Need-same-length
-same-length c = search needs
-
 returns : tie.Need-returns
 returns c =
     let f = c .before .before .before .before .before .before .before .before .field .ensures in
@@ -62,11 +41,11 @@ pub refusal-at-spec : {M : Type 1} → statement M
 refusal-at-spec =
     tie.close
     (tie.spec
-    slice-aggregate-field
-    field-requires
-    slice-aggregate-last-field
-    number-requires
-    cast-last-field
-    last-field-requires
-    same-length
+    (λ c. search needs)
+    (λ c κs. search needs)
+    (λ c. search needs)
+    (λ c κs. search needs)
+    (λ c. search needs)
+    (λ c κs. search needs)
+    (λ c. search needs)
     returns)

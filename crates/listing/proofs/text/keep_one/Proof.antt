@@ -9,17 +9,8 @@ use Rattle.listing.proofs.text.keep_one.Tie as tie
 returns : tie.Need-returns
 returns c = (sym (keep-none _ _ (c .if1 .taken)), sym (set-out _ _ _ (c .if1 .taken)))
 
-slice-write-line : tie.Need-slice-write-line
-slice-write-line c = search needs
-
-add-result : tie.Need-add-result
-add-result c = search needs
-
-same-length : tie.Need-same-length
-same-length c = search needs
-
 returns-2 : tie.Need-returns-2
 returns-2 c = (sym (keep-more _ _ (c .if1 .left)), search needs)
 
 pub keep-one-spec : {M : Type 1} → statement M
-keep-one-spec = tie.close (tie.spec returns slice-write-line add-result same-length returns-2)
+keep-one-spec = tie.close (tie.spec returns (λ c. search needs) (λ c. search needs) (λ c. search needs) returns-2)

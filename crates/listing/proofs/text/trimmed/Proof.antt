@@ -27,12 +27,6 @@ module _ (l : List ℕ) where
 returns : tie.Need-returns
 returns c = trimmed-empty _ (c .if1 .taken)
 
-sub-end : tie.Need-sub-end
-sub-end c = search needs
-
-shared-slice-read-if2 : tie.Need-shared-slice-read-if2
-shared-slice-read-if2 c = search needs
-
 returns-2 : tie.Need-returns-2
 returns-2 c = trimmed-same _ (c .if2 .taken)
 
@@ -45,4 +39,4 @@ returns-3 c = trimmed-cut _ (c .before .if2 .left)
 pub trimmed-spec : {M : Type 1} → statement M
 trimmed-spec =
     tie.close
-    (tie.spec returns sub-end shared-slice-read-if2 returns-2 slice-aggregate-result returns-3)
+    (tie.spec returns (λ c. search needs) (λ c. search needs) returns-2 slice-aggregate-result returns-3)

@@ -30,15 +30,6 @@ returns c =
     let a = c .before .before .args in
     leaves-all _ _ (erasing-open pages (a .loader) (a .address .0) (a .count) (a .flash .now) (c .if1 .taken))
 
-is-mass-requires : tie.Need-is-mass-requires
-is-mass-requires c κs = search needs
-
-mass-erase-requires : tie.Need-mass-erase-requires
-mass-erase-requires c κs = search needs
-
-same-length : tie.Need-same-length
-same-length c = search needs
-
 returns-2 : tie.Need-returns-2
 returns-2 c = let a = c .before .before .before .before .before .before .before .before .args in
     let m = c .before .before .mass-erase .ensures in
@@ -48,27 +39,6 @@ returns-2 c = let a = c .before .before .before .before .before .before .before 
     (sym (c .before .before .before .before .before .is-mass .ensures)
     ∙ c .before .before .before .before .if2 .taken))
     (m .0) (m .1) (m .2)
-
-judge-requires : tie.Need-judge-requires
-judge-requires c κs = search needs
-
-enum-known-why : tie.Need-enum-known-why
-enum-known-why c = search needs
-
-enum-told : tie.Need-enum-told
-enum-told c = search needs
-
-page-requires : tie.Need-page-requires
-page-requires c κs = search needs
-
-start-requires : tie.Need-start-requires
-start-requires c κs = search needs
-
-cast-erase : tie.Need-cast-erase
-cast-erase c = search needs
-
-mul-erase : tie.Need-mul-erase
-mul-erase c = search needs
 
 erase-requires : tie.Need-erase-requires
 erase-requires c κs =
@@ -93,9 +63,6 @@ returns-3 c = let e = c .before .before .before .before in
     ∙ alike _ _ _
     (sym (c .before .before .before .judge .ensures) ∙ ap paperVerdict (c .before .why .given .1)))
 
-same-length-2 : tie.Need-same-length-2
-same-length-2 c = search needs
-
 returns-4 : tie.Need-returns-4
 returns-4 c = let e = c .before .before .before .before .before .before .before .before .before in
     let a = entry e .args in
@@ -115,18 +82,18 @@ erase-spec =
     tie.close
     (tie.spec
     returns
-    is-mass-requires
-    mass-erase-requires
-    same-length
+    (λ c κs. search needs)
+    (λ c κs. search needs)
+    (λ c. search needs)
     returns-2
-    judge-requires
-    enum-known-why
-    enum-told
-    page-requires
-    start-requires
-    cast-erase
-    mul-erase
+    (λ c κs. search needs)
+    (λ c. search needs)
+    (λ c. search needs)
+    (λ c κs. search needs)
+    (λ c κs. search needs)
+    (λ c. search needs)
+    (λ c. search needs)
     erase-requires
     returns-3
-    same-length-2
+    (λ c. search needs)
     returns-4)

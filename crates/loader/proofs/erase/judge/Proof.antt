@@ -43,12 +43,6 @@ inside c = (
   omega (arith, c .before .before .before .before .page .ensures, c .if3 .left),
 )
 
-page-requires : tie.Need-page-requires
-page-requires c κs = search needs
-
-add-end : tie.Need-add-end
-add-end c = search needs
-
 returns : tie.Need-returns
 returns c =
     let a = c .before .before .args in
@@ -64,18 +58,6 @@ returns-3 c =
     let a = c .before .before .before .before .before .args in
     sym (erase-over pages (a .loader) (a .address .0) (a .count) (given tt)
     (omega (arith, c .before .before .before .before .page .ensures, c .if3 .taken)))
-
-group-requires : tie.Need-group-requires
-group-requires c κs = search needs
-
-add-t8 : tie.Need-add-t8
-add-t8 c = search needs
-
-group-requires-2 : tie.Need-group-requires-2
-group-requires-2 c κs = search needs
-
-any-requires : tie.Need-any-requires
-any-requires c κs = search needs
 
 returns-4 : tie.Need-returns-4
 returns-4 c =
@@ -95,14 +77,14 @@ pub judge-spec : {M : Type 1} → statement M
 judge-spec =
     tie.close
     (tie.spec
-    page-requires
-    add-end
+    (λ c κs. search needs)
+    (λ c. search needs)
     returns
     returns-2
     returns-3
-    group-requires
-    add-t8
-    group-requires-2
-    any-requires
+    (λ c κs. search needs)
+    (λ c. search needs)
+    (λ c κs. search needs)
+    (λ c κs. search needs)
     returns-4
     returns-5)

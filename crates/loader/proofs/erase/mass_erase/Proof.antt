@@ -3,9 +3,6 @@ use borrow.Author.Needs.{needs}
 use Rattle.loader.proofs.erase.mass_erase.Statement.{statement}
 use Rattle.loader.proofs.erase.mass_erase.Tie as tie
 
-returns : tie.Need-returns
-returns c = search needs
-
 pub mass-erase-spec : {M : Type 1} → statement M
 mass-erase-spec =
-    tie.close (tie.spec (λ c κs. search needs) (λ c κs. search needs) (λ c. search needs) returns)
+    tie.close (tie.spec (λ c κs. search needs) (λ c κs. search needs) (λ c. search needs) (λ c. search needs))

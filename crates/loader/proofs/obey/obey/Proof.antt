@@ -20,45 +20,6 @@ by-byte c e =
     ap (λ (x : Command). obeyOf pages (a .loader) (paperCommand x) (a .address .0) (a .sent .now)
     (a .flash .now)) e
 
-enum-told : tie.Need-enum-told
-enum-told c = search needs
-
-first-byte-requires : tie.Need-first-byte-requires
-first-byte-requires c κs = search needs
-
-erase-requires : tie.Need-erase-requires
-erase-requires c κs = search needs
-
-enum-told-2 : tie.Need-enum-told-2
-enum-told-2 c = search needs
-
-write-requires : tie.Need-write-requires
-write-requires c κs = search needs
-
-enum-told-3 : tie.Need-enum-told-3
-enum-told-3 c = search needs
-
-verify-requires : tie.Need-verify-requires
-verify-requires c κs = search needs
-
-enum-told-4 : tie.Need-enum-told-4
-enum-told-4 c = search needs
-
-first-byte-requires-2 : tie.Need-first-byte-requires-2
-first-byte-requires-2 c κs = search needs
-
-protect-requires : tie.Need-protect-requires
-protect-requires c κs = search needs
-
-enum-told-5 : tie.Need-enum-told-5
-enum-told-5 c = search needs
-
-run-requires : tie.Need-run-requires
-run-requires c κs = search needs
-
-same-length : tie.Need-same-length
-same-length c = search needs
-
 returns : tie.Need-returns
 returns c = let a = c .before .before .before .before .before .before .before .before .before .args in
     rw (by-byte (c .before .before .before .before .before .before .before .before .before)
@@ -68,18 +29,12 @@ returns c = let a = c .before .before .before .before .before .before .before .b
     (sym (c .before .before .before .before .first-byte .ensures)))
     (c .before .before .erase .ensures)
 
-same-length-2 : tie.Need-same-length-2
-same-length-2 c = search needs
-
 returns-2 : tie.Need-returns-2
 returns-2 c = let a = c .before .before .before .before .before .before .before .before .args in
     rw (by-byte (c .before .before .before .before .before .before .before .before)
     (c .before .before .before .before .enum-told2 .given .1)
     ∙ obey-write pages (a .loader) (a .address .0) (a .sent .now) (a .flash .now))
     (c .before .before .write .ensures)
-
-same-length-3 : tie.Need-same-length-3
-same-length-3 c = search needs
 
 returns-3 : tie.Need-returns-3
 returns-3 c = let a = c .before .before .before .before .before .before .args in
@@ -105,23 +60,23 @@ pub obey-spec : {M : Type 1} → statement M
 obey-spec =
     tie.close
     (tie.spec
-    enum-told
-    first-byte-requires
-    erase-requires
-    enum-told-2
-    write-requires
-    enum-told-3
-    verify-requires
-    enum-told-4
-    first-byte-requires-2
-    protect-requires
-    enum-told-5
-    run-requires
-    same-length
+    (λ c. search needs)
+    (λ c κs. search needs)
+    (λ c κs. search needs)
+    (λ c. search needs)
+    (λ c κs. search needs)
+    (λ c. search needs)
+    (λ c κs. search needs)
+    (λ c. search needs)
+    (λ c κs. search needs)
+    (λ c κs. search needs)
+    (λ c. search needs)
+    (λ c κs. search needs)
+    (λ c. search needs)
     returns
-    same-length-2
+    (λ c. search needs)
     returns-2
-    same-length-3
+    (λ c. search needs)
     returns-3
     returns-4
     returns-5)

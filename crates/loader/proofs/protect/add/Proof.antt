@@ -13,19 +13,10 @@ returns : tie.Need-returns
 unfolding adding
 returns c = stays _ (stop _ _ _ _ (c .if1 .taken))
 
-add-if2 : tie.Need-add-if2
-add-if2 c = search needs
-
 returns-2 : tie.Need-returns-2
 unfolding adding
 returns-2 c =
     stays _ (skip _ _ _ _ (c .before .before .if1 .left) ∙ stop _ _ _ _ (le-leb _ _ (c .if2 .taken)))
-
-added-requires : tie.Need-added-requires
-added-requires c κs = search needs
-
-with-added-requires : tie.Need-with-added-requires
-with-added-requires c κs = search needs
 
 returns-3 : tie.Need-returns-3
 unfolding adding
@@ -38,4 +29,4 @@ returns-3 c =
 
 pub add-spec : {M : Type 1} → statement M
 add-spec =
-    tie.close (tie.spec returns add-if2 returns-2 added-requires with-added-requires returns-3)
+    tie.close (tie.spec returns (λ c. search needs) returns-2 (λ c κs. search needs) (λ c κs. search needs) returns-3)

@@ -6,15 +6,6 @@ use Rattle.loader.specs.Protection.{withGroup}
 use Rattle.loader.proofs.protect.added.Statement.{statement}
 use Rattle.loader.proofs.protect.added.Tie as tie
 
-group-requires : tie.Need-group-requires
-group-requires c κs = search needs
-
-with-group-requires : tie.Need-with-group-requires
-with-group-requires c κs = search needs
-
-with-read-requires : tie.Need-with-read-requires
-with-read-requires c κs = search needs
-
 returns : tie.Need-returns
 returns c =
     simp (lt-ltb _ _ (c .before .before .if1 .taken))
@@ -26,4 +17,4 @@ returns-2 c = simp (le-ltb _ _ (c .before .if1 .left)) (c .with-read .ensures)
 
 pub added-spec : {M : Type 1} → statement M
 added-spec =
-    tie.close (tie.spec group-requires with-group-requires with-read-requires returns returns-2)
+    tie.close (tie.spec (λ c κs. search needs) (λ c κs. search needs) (λ c κs. search needs) returns returns-2)

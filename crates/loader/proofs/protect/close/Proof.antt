@@ -11,12 +11,9 @@ returns : tie.Need-returns
 unfolding closing
 returns c = stays _ (stop _ _ _ _ (c .if1 .taken))
 
-joined-requires : tie.Need-joined-requires
-joined-requires c κs = search needs
-
 returns-2 : tie.Need-returns-2
 unfolding closing
 returns-2 c = changes _ (skip _ _ _ _ (c .before .if1 .left) ∙ done _) (c .joined .ensures)
 
 pub close-spec : {M : Type 1} → statement M
-close-spec = tie.close (tie.spec returns joined-requires returns-2)
+close-spec = tie.close (tie.spec returns (λ c κs. search needs) returns-2)

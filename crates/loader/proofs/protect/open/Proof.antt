@@ -12,12 +12,6 @@ returns : tie.Need-returns
 unfolding opening
 returns c = stays _ (stop _ _ _ _ (c .if1 .taken))
 
-none-requires : tie.Need-none-requires
-none-requires c κs = search needs
-
-with-added-requires : tie.Need-with-added-requires
-with-added-requires c κs = search needs
-
 returns-2 : tie.Need-returns-2
 unfolding opening
 returns-2 c =
@@ -26,4 +20,4 @@ returns-2 c =
     ∙ ap (withAdded (c .before .before .before .args .loader)) (c .before .none .ensures))
 
 pub open-spec : {M : Type 1} → statement M
-open-spec = tie.close (tie.spec returns none-requires with-added-requires returns-2)
+open-spec = tie.close (tie.spec returns (λ c κs. search needs) (λ c κs. search needs) returns-2)

@@ -5,15 +5,6 @@ use Rattle.loader.specs.Commands.{protecting}
 use Rattle.loader.proofs.protect.protect.Statement.{statement}
 use Rattle.loader.proofs.protect.protect.Tie as tie
 
-open-requires : tie.Need-open-requires
-open-requires c κs = search needs
-
-add-requires : tie.Need-add-requires
-add-requires c κs = search needs
-
-close-requires : tie.Need-close-requires
-close-requires c κs = search needs
-
 returns : tie.Need-returns
 unfolding protecting
 returns c = simp (c .before .match .keys1) (c .«open» .ensures)
@@ -30,4 +21,4 @@ returns-3 c =
 
 pub protect-spec : {M : Type 1} → statement M
 protect-spec =
-    tie.close (tie.spec open-requires add-requires close-requires returns returns-2 returns-3)
+    tie.close (tie.spec (λ c κs. search needs) (λ c κs. search needs) (λ c κs. search needs) returns returns-2 returns-3)

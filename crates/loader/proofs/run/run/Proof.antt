@@ -17,9 +17,6 @@ unfolding running
 returns-2 c =
     stays _ (skip _ _ _ _ (c .before .before .if1 .left) ∙ stop _ _ _ _ (lt-ltb _ _ (c .if2 .taken)))
 
-with-condition-requires : tie.Need-with-condition-requires
-with-condition-requires c κs = search needs
-
 returns-3 : tie.Need-returns-3
 unfolding running
 returns-3 c =
@@ -27,4 +24,4 @@ returns-3 c =
     ∙ skip _ _ _ _ (le-ltb _ _ (c .before .if2 .left)) ∙ done _) (c .with-condition .ensures)
 
 pub run-spec : {M : Type 1} → statement M
-run-spec = tie.close (tie.spec returns returns-2 with-condition-requires returns-3)
+run-spec = tie.close (tie.spec returns returns-2 (λ c κs. search needs) returns-3)

@@ -9,38 +9,17 @@ use Rattle.loader.specs.Laws.Take.{heard-waiting, waiting-unheard, heard
 use Rattle.loader.proofs.take.hear.Statement.{statement}
 use Rattle.loader.proofs.take.hear.Tie as tie
 
-enum-told : tie.Need-enum-told
-enum-told c = search needs
-
-opens-board-requires : tie.Need-opens-board-requires
-opens-board-requires c κs = search needs
-
 returns : tie.Need-returns
 returns c =
     leaves-all _ _
     (waiting-unheard pages _ _ _ (c .before .before .enum-told .given .1)
     (sym (c .before .opens-board .ensures) ∙ not-true _ (c .if1 .taken)))
 
-with-condition-requires : tie.Need-with-condition-requires
-with-condition-requires c κs = search needs
-
-enum-told-2 : tie.Need-enum-told-2
-enum-told-2 c = search needs
-
-serve-requires : tie.Need-serve-requires
-serve-requires c κs = search needs
-
-enum-told-3 : tie.Need-enum-told-3
-enum-told-3 c = search needs
-
 returns-2 : tie.Need-returns-2
 returns-2 c =
     does _ _ (heard-waiting pages _ _ _ (c .before .before .before .enum-told .given .1)
     (sym (c .before .before .opens-board .ensures) ∙ not-false _ (c .before .if1 .left))) refl
     (c .with-condition .ensures) refl
-
-same-length : tie.Need-same-length
-same-length c = search needs
 
 returns-3 : tie.Need-returns-3
 returns-3 c =
@@ -56,14 +35,14 @@ pub hear-spec : {M : Type 1} → statement M
 hear-spec =
     tie.close
     (tie.spec
-    enum-told
-    opens-board-requires
+    (λ c. search needs)
+    (λ c κs. search needs)
     returns
-    with-condition-requires
-    enum-told-2
-    serve-requires
-    enum-told-3
+    (λ c κs. search needs)
+    (λ c. search needs)
+    (λ c κs. search needs)
+    (λ c. search needs)
     returns-2
-    same-length
+    (λ c. search needs)
     returns-3
     returns-4)

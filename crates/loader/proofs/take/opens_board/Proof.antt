@@ -14,13 +14,10 @@ returns c =
     let s = c .before .args .input .now in
     sym (both-false (eqb (length s) 1) (eqb (getD s 0 0) openingByte) (ne-eqb _ _ (c .if1 .taken)))
 
-shared-slice-read-result : tie.Need-shared-slice-read-result
-shared-slice-read-result c = search needs
-
 returns-2 : tie.Need-returns-2
 returns-2 c =
     let s = c .before .before .args .input .now in
     sym (both-second (eqb (length s) 1) (eqb (getD s 0 0) openingByte) (eq-eqb _ _ (c .before .if1 .left)))
 
 pub opens-board-spec : {M : Type 1} → statement M
-opens-board-spec = tie.close (tie.spec returns shared-slice-read-result returns-2)
+opens-board-spec = tie.close (tie.spec returns (λ c. search needs) returns-2)

@@ -36,39 +36,18 @@ within : (c : tie.After-struct-known)
     (now (c .before .before .before .before .before .before .before .args .input))
 within c = data-within _ _ (told c)
 
-read-requires : tie.Need-read-requires
-read-requires c κs = search needs
-
-enum-known-why : tie.Need-enum-known-why
-enum-known-why c = search needs
-
-enum-known-packet : tie.Need-enum-known-packet
-enum-known-packet c = search needs
-
 add-end : tie.Need-add-end
 add-end c =
     let h = within c in omega (arith, h, c .before .before .before .before .before .before .before .good)
 
-sub-obey : tie.Need-sub-obey
-sub-obey c = search needs
-
-part-obey-start : tie.Need-part-obey-start
-part-obey-start c = search needs
-
 part-obey-end : tie.Need-part-obey-end
 part-obey-end c = let h = within (c .before) in omega arith
-
-obey-requires : tie.Need-obey-requires
-obey-requires c κs = search needs
 
 returns : tie.Need-returns
 returns c =
     leaves-all _ _
     (served-unread _ _ _ _
     (sym (c .before .before .before .read .ensures) ∙ ap paperReading (c .before .why .given .1)))
-
-same-length : tie.Need-same-length
-same-length c = search needs
 
 returns-2 : tie.Need-returns-2
 returns-2 c =
@@ -85,14 +64,14 @@ pub serve-spec : {M : Type 1} → statement M
 serve-spec =
     tie.close
     (tie.spec
-    read-requires
-    enum-known-why
-    enum-known-packet
+    (λ c κs. search needs)
+    (λ c. search needs)
+    (λ c. search needs)
     add-end
-    sub-obey
-    part-obey-start
+    (λ c. search needs)
+    (λ c. search needs)
     part-obey-end
-    obey-requires
+    (λ c κs. search needs)
     returns
-    same-length
+    (λ c. search needs)
     returns-2)

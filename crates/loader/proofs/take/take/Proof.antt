@@ -34,21 +34,6 @@ returns-2 : tie.Need-returns-2
 returns-2 c =
     refuses-size (c .before .before .before .before .before) (take-small pages _ _ _ _ (c .if2 .taken))
 
-hear-requires : tie.Need-hear-requires
-hear-requires c κs = search needs
-
-is-waiting-requires : tie.Need-is-waiting-requires
-is-waiting-requires c κs = search needs
-
-tell-requires : tie.Need-tell-requires
-tell-requires c κs = search needs
-
-same-length : tie.Need-same-length
-same-length c = search needs
-
-same-length-2 : tie.Need-same-length-2
-same-length-2 c = search needs
-
 returns-3 : tie.Need-returns-3
 returns-3 c =
     let a = c .before .before .before .before .before .before .before .before .before .before .before .before .before .before .before .args in
@@ -72,9 +57,9 @@ take-spec =
     (tie.spec
     returns
     returns-2
-    hear-requires
-    is-waiting-requires
-    tell-requires
-    same-length
-    same-length-2
+    (λ c κs. search needs)
+    (λ c κs. search needs)
+    (λ c κs. search needs)
+    (λ c. search needs)
+    (λ c. search needs)
     returns-3)

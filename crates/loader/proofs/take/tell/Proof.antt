@@ -26,32 +26,11 @@ told-bel : (w : Bool) (v : Answer (Unit {0})) (n : ℕ) → quiet n ≡ false �
     → tellOf w v ≡ belByte ∷ []
 told-bel w v n e g = rw (g, e)
 
-enum-told : tie.Need-enum-told
-enum-told c = search needs
-
-slice-aggregate-write : tie.Need-slice-aggregate-write
-slice-aggregate-write c = search needs
-
-write-requires : tie.Need-write-requires
-write-requires c κs = search needs
-
-same-length : tie.Need-same-length
-same-length c = search needs
-
 returns : tie.Need-returns
 returns c =
     rw (told-greeting _ _ (c .before .before .before .before .before .if1 .taken)
     (ap paperVerdict (c .before .before .before .before .before .before .enum-told .given .1)))
     (refl, c .before .before .write .ensures)
-
-slice-write-answer : tie.Need-slice-write-answer
-slice-write-answer c = search needs
-
-enum-known-verdict : tie.Need-enum-known-verdict
-enum-known-verdict c = search needs
-
-is-quiet-requires : tie.Need-is-quiet-requires
-is-quiet-requires c κs = search needs
 
 returns-2 : tie.Need-returns-2
 returns-2 c =
@@ -59,19 +38,10 @@ returns-2 c =
     (sym (c .before .is-quiet .ensures) ∙ c .if2 .taken)
     (ap paperVerdict (c .before .before .before .verdict .given .1))) (refl, refl)
 
-slice-write-answer-2 : tie.Need-slice-write-answer-2
-slice-write-answer-2 c = search needs
-
-same-length-2 : tie.Need-same-length-2
-same-length-2 c = search needs
-
 returns-3 : tie.Need-returns-3
 returns-3 c =
     rw (told-ack _ _ (c .if1 .left) (ap paperVerdict (c .before .enum-told .given .1)))
     (refl, overlay-next [] (c .before .before .before .before .args .answer .now) 0 6 refl (omega arith))
-
-same-length-3 : tie.Need-same-length-3
-same-length-3 c = search needs
 
 returns-4 : tie.Need-returns-4
 returns-4 c =
@@ -87,17 +57,17 @@ pub tell-spec : {M : Type 1} → statement M
 tell-spec =
     tie.close
     (tie.spec
-    enum-told
-    slice-aggregate-write
-    write-requires
-    same-length
+    (λ c. search needs)
+    (λ c. search needs)
+    (λ c κs. search needs)
+    (λ c. search needs)
     returns
-    slice-write-answer
-    enum-known-verdict
-    is-quiet-requires
+    (λ c. search needs)
+    (λ c. search needs)
+    (λ c κs. search needs)
     returns-2
-    slice-write-answer-2
-    same-length-2
+    (λ c. search needs)
+    (λ c. search needs)
     returns-3
-    same-length-3
+    (λ c. search needs)
     returns-4)

@@ -26,23 +26,11 @@ add-if1 c = omega arith
 shared-slice-read-if1 : tie.Need-shared-slice-read-if1 Inv-loop μ-loop
 shared-slice-read-if1 c = omega arith
 
-shared-slice-read-restored : tie.Need-shared-slice-read-restored Inv-loop μ-loop
-shared-slice-read-restored c = search needs
-
-restored-requires : tie.Need-restored-requires Inv-loop μ-loop
-restored-requires c κs = search needs
-
 returns : tie.Need-returns Inv-loop μ-loop
 returns c =
     sym (c .before .before .before .before .before .loop .inv .1
     ∙ equals-differs _ _ _ _ (c .before .before .before .before .loop-test .taken)
     (λ e. c .if1 .taken (e ∙ sym (c .before .restored .ensures))))
-
-add-i : tie.Need-add-i Inv-loop μ-loop
-add-i c = search needs
-
-loop-less : tie.Need-loop-less Inv-loop μ-loop
-loop-less c = search needs
 
 loop-again : tie.Need-loop-again Inv-loop μ-loop
 loop-again c = (
@@ -64,10 +52,10 @@ equals-spec =
     loop-holds
     add-if1
     shared-slice-read-if1
-    shared-slice-read-restored
-    restored-requires
+    (λ c. search needs)
+    (λ c κs. search needs)
     returns
-    add-i
-    loop-less
+    (λ c. search needs)
+    (λ c. search needs)
     loop-again
     returns-2)

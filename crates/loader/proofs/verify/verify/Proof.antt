@@ -16,9 +16,6 @@ returns : tie.Need-returns
 unfolding verifyRows
 returns c = sym (stop _ _ _ _ (c .if1 .taken))
 
-past-end-requires : tie.Need-past-end-requires
-past-end-requires c κs = search needs
-
 returns-2 : tie.Need-returns-2
 unfolding verifyRows
 returns-2 c =
@@ -31,9 +28,6 @@ returns-3 c =
     sym (skip _ _ _ _ (c .before .before .before .if1 .left)
     ∙ skip _ _ _ _ (sym (c .before .before .past-end .ensures) ∙ c .before .if2 .left)
     ∙ stop _ _ _ _ (c .if3 .taken))
-
-cast-equals : tie.Need-cast-equals
-cast-equals c = search needs
 
 equals-requires : tie.Need-equals-requires
 equals-requires c κs =
@@ -68,10 +62,10 @@ verify-spec =
     tie.close
     (tie.spec
     returns
-    past-end-requires
+    (λ c κs. search needs)
     returns-2
     returns-3
-    cast-equals
+    (λ c. search needs)
     equals-requires
     returns-4
     returns-5)

@@ -31,9 +31,6 @@ returns c =
     let a = c .before .args in
     sym (write-open pages (a .loader) (a .address .0) (a .size) (given tt) (c .if1 .taken))
 
-past-end-requires : tie.Need-past-end-requires
-past-end-requires c κs = search needs
-
 returns-2 : tie.Need-returns-2
 returns-2 c =
     let a = c .before .before .before .args in
@@ -46,17 +43,8 @@ cast-end c = let h = inside (c .before) in omega arith
 add-end : tie.Need-add-end
 add-end c = let h = inside (c .before .before) in omega arith
 
-group-requires : tie.Need-group-requires
-group-requires c κs = search needs
-
-sub-t10 : tie.Need-sub-t10
-sub-t10 c = search needs
-
 add-t14 : tie.Need-add-t14
 add-t14 c = let h = inside (c .before .before .before) in omega arith
-
-group-requires-2 : tie.Need-group-requires-2
-group-requires-2 c κs = search needs
 
 any-requires : tie.Need-any-requires
 any-requires c κs = let h = inside (c .before .before .before .before) in omega (arith, c .group2 .ensures)
@@ -82,14 +70,14 @@ judge-spec =
     tie.close
     (tie.spec
     returns
-    past-end-requires
+    (λ c κs. search needs)
     returns-2
     cast-end
     add-end
-    group-requires
-    sub-t10
+    (λ c κs. search needs)
+    (λ c. search needs)
     add-t14
-    group-requires-2
+    (λ c κs. search needs)
     any-requires
     returns-3
     returns-4)

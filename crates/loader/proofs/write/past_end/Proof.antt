@@ -20,12 +20,9 @@ as-difference a x h =
 returns : tie.Need-returns
 returns c = let a = c .before .args in sym (lt-ltb flashSize (a .address .0 + a .size) (omega arith))
 
-cast-result : tie.Need-cast-result
-cast-result c = search needs
-
 returns-2 : tie.Need-returns-2
 returns-2 c =
     let a = c .before .before .args in as-difference (a .address .0) (a .size) (c .before .if1 .left)
 
 pub past-end-spec : {M : Type 1} → statement M
-past-end-spec = tie.close (tie.spec returns cast-result returns-2)
+past-end-spec = tie.close (tie.spec returns (λ c. search needs) returns-2)

@@ -12,15 +12,6 @@ use Rattle.loader.specs.Paper.{paperVerdict}
 use Rattle.loader.proofs.write.write.Statement.{statement}
 use Rattle.loader.proofs.write.write.Tie as tie
 
-judge-requires : tie.Need-judge-requires
-judge-requires c κs = search needs
-
-enum-known-why : tie.Need-enum-known-why
-enum-known-why c = search needs
-
-enum-told : tie.Need-enum-told
-enum-told c = search needs
-
 store-requires : tie.Need-store-requires
 store-requires c κs =
     let a = c .before .before .before .before .before .before .args in
@@ -35,9 +26,6 @@ returns c =
     (alike _ _ _
     (sym (c .before .before .before .judge .ensures) ∙ ap paperVerdict (c .before .why .given .1)))
 
-same-length : tie.Need-same-length
-same-length c = search needs
-
 returns-2 : tie.Need-returns-2
 unfolding writing
 returns-2 c =
@@ -50,10 +38,10 @@ pub write-spec : {M : Type 1} → statement M
 write-spec =
     tie.close
     (tie.spec
-    judge-requires
-    enum-known-why
-    enum-told
+    (λ c κs. search needs)
+    (λ c. search needs)
+    (λ c. search needs)
     store-requires
     returns
-    same-length
+    (λ c. search needs)
     returns-2)

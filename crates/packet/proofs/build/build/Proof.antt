@@ -31,21 +31,6 @@ module _ (room c a : ℕ) (d : List ℕ) (t k : ℕ) (h : packetMost ≤ room) (
 returns : tie.Need-returns
 returns c = leaves _ (build-small _ _ _ _ (c .if1 .taken))
 
-add-look-up : tie.Need-add-look-up
-add-look-up c = search needs
-
-first-byte-requires : tie.Need-first-byte-requires
-first-byte-requires c κs = search needs
-
-look-up-requires : tie.Need-look-up-requires
-look-up-requires c κs = search needs
-
-enum-known-why : tie.Need-enum-known-why
-enum-known-why c = search needs
-
-enum-told : tie.Need-enum-told
-enum-told c = search needs
-
 write-requires : tie.Need-write-requires
 write-requires c κs =
     let if1 = c .before .before .before .before .before .if1 in
@@ -62,9 +47,6 @@ returns-2 c =
     leaves _ (build-refused _ _ _ _ _ _ (c .before .before .before .before .before .if1 .left)
     (c .before .before .before .before .first-byte .ensures)
     (sym (c .before .before .before .look-up .ensures) ∙ ap paperRow (c .before .why .given .1)))
-
-same-length : tie.Need-same-length
-same-length c = search needs
 
 returns-3 : tie.Need-returns-3
 returns-3 c =
@@ -83,12 +65,12 @@ build-spec =
     tie.close
     (tie.spec
     returns
-    add-look-up
-    first-byte-requires
-    look-up-requires
-    enum-known-why
-    enum-told
+    (λ c. search needs)
+    (λ c κs. search needs)
+    (λ c κs. search needs)
+    (λ c. search needs)
+    (λ c. search needs)
     write-requires
     returns-2
-    same-length
+    (λ c. search needs)
     returns-3)

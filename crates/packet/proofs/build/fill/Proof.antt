@@ -23,20 +23,8 @@ abbrev μ-loop : tie.MeasureT-loop
 loop-holds : tie.Need-loop-holds Inv-loop μ-loop
 loop-holds c = (search needs, refl, refl)
 
-shared-slice-read-carried : tie.Need-shared-slice-read-carried Inv-loop μ-loop
-shared-slice-read-carried c = search needs
-
-carried-requires : tie.Need-carried-requires Inv-loop μ-loop
-carried-requires c κs = search needs
-
 slice-write-part : tie.Need-slice-write-part Inv-loop μ-loop
 slice-write-part c = omega arith
-
-add-i : tie.Need-add-i Inv-loop μ-loop
-add-i c = search needs
-
-loop-less : tie.Need-loop-less Inv-loop μ-loop
-loop-less c = search needs
 
 loop-again : tie.Need-loop-again Inv-loop μ-loop
 loop-again c = let a = c .before .before .before .before .before .before .args in
@@ -67,11 +55,11 @@ fill-spec =
     Inv-loop
     μ-loop
     loop-holds
-    shared-slice-read-carried
-    carried-requires
+    (λ c. search needs)
+    (λ c κs. search needs)
     slice-write-part
-    add-i
-    loop-less
+    (λ c. search needs)
+    (λ c. search needs)
     loop-again
     same-length
     returns)

@@ -7,14 +7,8 @@ use Rattle.packet.specs.Packet.{frontOf}
 use Rattle.packet.proofs.build.front.Statement.{statement}
 use Rattle.packet.proofs.build.front.Tie as tie
 
-slice-write-buffer : tie.Need-slice-write-buffer
-slice-write-buffer c = search needs
-
 slice-write-buffer-2 : tie.Need-slice-write-buffer-2
 slice-write-buffer-2 c = simp length-set (omega arith)
-
-cast-buffer : tie.Need-cast-buffer
-cast-buffer c = search needs
 
 slice-write-buffer-3 : tie.Need-slice-write-buffer-3
 slice-write-buffer-3 c = simp length-set (omega arith)
@@ -22,32 +16,17 @@ slice-write-buffer-3 c = simp length-set (omega arith)
 slice-write-buffer-4 : tie.Need-slice-write-buffer-4
 slice-write-buffer-4 c = simp length-set (omega arith)
 
-cast-buffer-2 : tie.Need-cast-buffer-2
-cast-buffer-2 c = search needs
-
 slice-write-buffer-5 : tie.Need-slice-write-buffer-5
 slice-write-buffer-5 c = simp length-set (omega arith)
-
-cast-buffer-3 : tie.Need-cast-buffer-3
-cast-buffer-3 c = search needs
 
 slice-write-buffer-6 : tie.Need-slice-write-buffer-6
 slice-write-buffer-6 c = simp length-set (omega arith)
 
-cast-buffer-4 : tie.Need-cast-buffer-4
-cast-buffer-4 c = search needs
-
 slice-write-buffer-7 : tie.Need-slice-write-buffer-7
 slice-write-buffer-7 c = simp length-set (omega arith)
 
-cast-buffer-5 : tie.Need-cast-buffer-5
-cast-buffer-5 c = search needs
-
 slice-write-buffer-8 : tie.Need-slice-write-buffer-8
 slice-write-buffer-8 c = simp length-set (omega arith)
-
-same-length : tie.Need-same-length
-same-length c = search needs
 
 returns : tie.Need-returns
 returns c =
@@ -57,18 +36,18 @@ pub front-spec : {M : Type 1} → statement M
 front-spec =
     tie.close
     (tie.spec
-    slice-write-buffer
+    (λ c. search needs)
     slice-write-buffer-2
-    cast-buffer
+    (λ c. search needs)
     slice-write-buffer-3
     slice-write-buffer-4
-    cast-buffer-2
+    (λ c. search needs)
     slice-write-buffer-5
-    cast-buffer-3
+    (λ c. search needs)
     slice-write-buffer-6
-    cast-buffer-4
+    (λ c. search needs)
     slice-write-buffer-7
-    cast-buffer-5
+    (λ c. search needs)
     slice-write-buffer-8
-    same-length
+    (λ c. search needs)
     returns)

@@ -32,45 +32,6 @@ module _ (c a : ℕ) (d old F P : List ℕ) (eF : F ≡ overlay (frontOf (length
       let y : x ≡ checksumOf t = e ∙ ap checksumOf (rw w (take-at t _ (8 + length d - 2) m)) in
       rw (w, y) (overlay-next (f ++ s) old (8 + length d) (checksumOf t) k h)
 
-add-end : tie.Need-add-end
-add-end c = search needs
-
-add-front : tie.Need-add-front
-add-front c = search needs
-
-front-requires : tie.Need-front-requires
-front-requires c κs = search needs
-
-sub-fill : tie.Need-sub-fill
-sub-fill c = search needs
-
-part-fill-start : tie.Need-part-fill-start
-part-fill-start c = search needs
-
-part-fill-end : tie.Need-part-fill-end
-part-fill-end c = search needs
-
-fill-requires : tie.Need-fill-requires
-fill-requires c κs = search needs
-
-sub-checksum : tie.Need-sub-checksum
-sub-checksum c = search needs
-
-part-checksum-start : tie.Need-part-checksum-start
-part-checksum-start c = search needs
-
-part-checksum-end : tie.Need-part-checksum-end
-part-checksum-end c = search needs
-
-checksum-requires : tie.Need-checksum-requires
-checksum-requires c κs = search needs
-
-slice-write-buffer : tie.Need-slice-write-buffer
-slice-write-buffer c = search needs
-
-add-result : tie.Need-add-result
-add-result c = search needs
-
 same-length : tie.Need-same-length
 same-length c = simp length-set (omega arith)
 
@@ -89,18 +50,18 @@ pub write-spec : {M : Type 1} → statement M
 write-spec =
     tie.close
     (tie.spec
-    add-end
-    add-front
-    front-requires
-    sub-fill
-    part-fill-start
-    part-fill-end
-    fill-requires
-    sub-checksum
-    part-checksum-start
-    part-checksum-end
-    checksum-requires
-    slice-write-buffer
-    add-result
+    (λ c. search needs)
+    (λ c. search needs)
+    (λ c κs. search needs)
+    (λ c. search needs)
+    (λ c. search needs)
+    (λ c. search needs)
+    (λ c κs. search needs)
+    (λ c. search needs)
+    (λ c. search needs)
+    (λ c. search needs)
+    (λ c κs. search needs)
+    (λ c. search needs)
+    (λ c. search needs)
     same-length
     returns)

@@ -47,9 +47,6 @@ left4 : (c : tie.Else4)
 unfolding rows
 left4 c = left3 (c .before) ∙ skip _ _ _ _ (ap not (eq-eqb _ _ (c .if4 .left)))
 
-starts-right-requires : tie.Need-starts-right-requires
-starts-right-requires c κs = search needs
-
 returns : tie.Need-returns
 unfolding readOf rows
 returns c = sym (stop _ _ _ _ (ap not (sym (c .before .starts-right .ensures)) ∙ c .if1 .taken))
@@ -57,9 +54,6 @@ returns c = sym (stop _ _ _ _ (ap not (sym (c .before .starts-right .ensures)) �
 returns-2 : tie.Need-returns-2
 unfolding rows
 returns-2 c = sym (left1 (c .before) ∙ stop _ _ _ _ (le-leb _ _ (c .if2 .taken)))
-
-shared-slice-read-n : tie.Need-shared-slice-read-n
-shared-slice-read-n c = search needs
 
 cast-n : tie.Need-cast-n
 cast-n c = omega (arith, c .shared-slice-known2 .given 2)
@@ -75,26 +69,11 @@ returns-4 : tie.Need-returns-4
 unfolding rows
 returns-4 c = sym (left3 (c .before) ∙ stop _ _ _ _ (ap not (ne-eqb _ _ (c .if4 .taken))))
 
-sub-sum : tie.Need-sub-sum
-sub-sum c = search needs
-
-part-sum-start : tie.Need-part-sum-start
-part-sum-start c = search needs
-
-part-sum-end : tie.Need-part-sum-end
-part-sum-end c = search needs
-
-sum-requires : tie.Need-sum-requires
-sum-requires c κs = search needs
-
 returns-5 : tie.Need-returns-5
 unfolding rows
 returns-5 c =
     sym (left4 (c .before .before .before)
     ∙ stop _ _ _ _ (ap not (ne-eqb _ _ (λ z. c .if5 .taken (sum-handed (c .before) ∙ z)))))
-
-tabled-requires : tie.Need-tabled-requires
-tabled-requires c κs = search needs
 
 returns-6 : tie.Need-returns-6
 unfolding rows
@@ -107,18 +86,18 @@ pub read-spec : {M : Type 1} → statement M
 read-spec =
     tie.close
     (tie.spec
-    starts-right-requires
+    (λ c κs. search needs)
     returns
     returns-2
-    shared-slice-read-n
+    (λ c. search needs)
     cast-n
     returns-3
     add-if4
     returns-4
-    sub-sum
-    part-sum-start
-    part-sum-end
-    sum-requires
+    (λ c. search needs)
+    (λ c. search needs)
+    (λ c. search needs)
+    (λ c κs. search needs)
     returns-5
-    tabled-requires
+    (λ c κs. search needs)
     returns-6)

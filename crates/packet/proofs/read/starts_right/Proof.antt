@@ -13,14 +13,8 @@ use Rattle.packet.proofs.read.starts_right.Tie as tie
 returns : tie.Need-returns
 returns c = simp (lt-leb 2 _ (c .if1 .taken))
 
-shared-slice-read-if2 : tie.Need-shared-slice-read-if2
-shared-slice-read-if2 c = search needs
-
 returns-2 : tie.Need-returns-2
 returns-2 c = simp (le-leb 2 _ (c .before .before .if1 .left), ne-eqb _ startByte (c .if2 .taken))
-
-shared-slice-read-result : tie.Need-shared-slice-read-result
-shared-slice-read-result c = search needs
 
 returns-3 : tie.Need-returns-3
 returns-3 c = let s = c .before .before .before .before .args .input .now in
@@ -30,4 +24,4 @@ returns-3 c = let s = c .before .before .before .before .args .input .now in
 
 pub starts-right-spec : {M : Type 1} → statement M
 starts-right-spec =
-    tie.close (tie.spec returns shared-slice-read-if2 returns-2 shared-slice-read-result returns-3)
+    tie.close (tie.spec returns (λ c. search needs) returns-2 (λ c. search needs) returns-3)

@@ -25,27 +25,6 @@ module _ (s : List ℕ) (n k : ℕ) (e : n ≡ count s) where
       let h = table-holds (command s) (count s) (kind s) (given (command s)) (rw e at f) in
       table-passes (command s) (count s) (kind s) (given (parts s)) (h .0) (h .1) ∙ cc (h .2)
 
-shared-slice-read-look-up : tie.Need-shared-slice-read-look-up
-shared-slice-read-look-up c = search needs
-
-shared-slice-read-look-up-2 : tie.Need-shared-slice-read-look-up-2
-shared-slice-read-look-up-2 c = search needs
-
-look-up-requires : tie.Need-look-up-requires
-look-up-requires c κs = search needs
-
-enum-known-why : tie.Need-enum-known-why
-enum-known-why c = search needs
-
-enum-known-command : tie.Need-enum-known-command
-enum-known-command c = search needs
-
-address-in-requires : tie.Need-address-in-requires
-address-in-requires c κs = search needs
-
-sub-t12 : tie.Need-sub-t12
-sub-t12 c = search needs
-
 returns : tie.Need-returns
 returns c =
     sym (tabled-refused _ _ _ (c .before .before .before .before .before .before .before .pre .0)
@@ -61,12 +40,12 @@ pub tabled-spec : {M : Type 1} → statement M
 tabled-spec =
     tie.close
     (tie.spec
-    shared-slice-read-look-up
-    shared-slice-read-look-up-2
-    look-up-requires
-    enum-known-why
-    enum-known-command
-    address-in-requires
-    sub-t12
+    (λ c. search needs)
+    (λ c. search needs)
+    (λ c κs. search needs)
+    (λ c. search needs)
+    (λ c. search needs)
+    (λ c κs. search needs)
+    (λ c. search needs)
     returns
     returns-2)

@@ -25,35 +25,11 @@ unlisted : (c : ℕ) → (c ≡ eraseByte → ⊥) → (c ≡ writeByte → ⊥)
     → listed c ≡ false
 unlisted c e w v p r = simp (ne-eqb _ _ e, ne-eqb _ _ w, ne-eqb _ _ v, ne-eqb _ _ p, ne-eqb _ _ r)
 
-shaped-requires : tie.Need-shaped-requires
-shaped-requires c κs = search needs
-
-data-count-requires : tie.Need-data-count-requires
-data-count-requires c κs = search needs
-
-shaped-requires-2 : tie.Need-shaped-requires-2
-shaped-requires-2 c κs = search needs
-
-data-count-requires-2 : tie.Need-data-count-requires-2
-data-count-requires-2 c κs = search needs
-
-shaped-requires-3 : tie.Need-shaped-requires-3
-shaped-requires-3 c κs = search needs
-
 returns : tie.Need-returns
 returns c =
     let a = c .before .before .args in
     sym (in-row (a .command) (a .n) (a .kind) protectByte false (c .before .match .keys4) refl
     (both-false (eqb (a .n) 6) (protectType (a .kind)) (ne-eqb _ _ (c .if1 .taken))))
-
-protect-type-requires : tie.Need-protect-type-requires
-protect-type-requires c κs = search needs
-
-shaped-requires-4 : tie.Need-shaped-requires-4
-shaped-requires-4 c κs = search needs
-
-shaped-requires-5 : tie.Need-shaped-requires-5
-shaped-requires-5 c κs = search needs
 
 returns-2 : tie.Need-returns-2
 returns-2 c =
@@ -98,15 +74,15 @@ pub look-up-spec : {M : Type 1} → statement M
 look-up-spec =
     tie.close
     (tie.spec
-    shaped-requires
-    data-count-requires
-    shaped-requires-2
-    data-count-requires-2
-    shaped-requires-3
+    (λ c κs. search needs)
+    (λ c κs. search needs)
+    (λ c κs. search needs)
+    (λ c κs. search needs)
+    (λ c κs. search needs)
     returns
-    protect-type-requires
-    shaped-requires-4
-    shaped-requires-5
+    (λ c κs. search needs)
+    (λ c κs. search needs)
+    (λ c κs. search needs)
     returns-2
     returns-3
     returns-4

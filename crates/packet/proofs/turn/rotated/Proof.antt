@@ -45,12 +45,6 @@ loop-holds : tie.Need-loop-holds Inv-loop μ-loop
 unfolding gathered
 loop-holds c = search needs
 
-sub-from : tie.Need-sub-from Inv-loop μ-loop
-sub-from c = search needs
-
-sub-from-2 : tie.Need-sub-from-2 Inv-loop μ-loop
-sub-from-2 c = search needs
-
 mul-out : tie.Need-mul-out Inv-loop μ-loop
 mul-out c =
     omega (
@@ -58,9 +52,6 @@ mul-out c =
       gathered-fits (15 - c .before .before .args .left) (c .before .before .args .b) (c .before .loop .i)
           (c .loop-test .taken),
     )
-
-cast-out : tie.Need-cast-out Inv-loop μ-loop
-cast-out c = search needs
 
 shr-out : tie.Need-shr-out Inv-loop μ-loop
 shr-out c = omega arith
@@ -72,12 +63,6 @@ add-out c =
       gathered-fits (15 - c .before .before .args .left) (c .before .before .args .b) (c .before .loop .i)
           (c .loop-test .taken),
     )
-
-add-i : tie.Need-add-i Inv-loop μ-loop
-add-i c = search needs
-
-loop-less : tie.Need-loop-less Inv-loop μ-loop
-loop-less c = search needs
 
 loop-again : tie.Need-loop-again Inv-loop μ-loop
 unfolding gathered
@@ -96,13 +81,13 @@ rotated-spec =
     Inv-loop
     μ-loop
     loop-holds
-    sub-from
-    sub-from-2
+    (λ c. search needs)
+    (λ c. search needs)
     mul-out
-    cast-out
+    (λ c. search needs)
     shr-out
     add-out
-    add-i
-    loop-less
+    (λ c. search needs)
+    (λ c. search needs)
     loop-again
     returns)

@@ -11,24 +11,6 @@ use Rattle.runs.specs.Map.{nameOf}
 use Rattle.runs.proofs.map.name.Statement.{statement}
 use Rattle.runs.proofs.map.name.Tie as tie
 
-cast-at : tie.Need-cast-at
-cast-at c = search needs
-
-slice-read-map : tie.Need-slice-read-map
-slice-read-map c = search needs
-
-cast-map : tie.Need-cast-map
-cast-map c = search needs
-
-shl-map : tie.Need-shl-map
-shl-map c = search needs
-
-slice-write-map : tie.Need-slice-write-map
-slice-write-map c = search needs
-
-same-length : tie.Need-same-length
-same-length c = search needs
-
 returns : tie.Need-returns
 unfolding nameOf
 returns c =
@@ -41,4 +23,4 @@ returns c =
 pub name-spec : {M : Type 1} → statement M
 name-spec =
     tie.close
-    (tie.spec cast-at slice-read-map cast-map shl-map slice-write-map same-length returns)
+    (tie.spec (λ c. search needs) (λ c. search needs) (λ c. search needs) (λ c. search needs) (λ c. search needs) (λ c. search needs) returns)

@@ -22,28 +22,13 @@ abbrev μ-loop : tie.MeasureT-loop
 loop-holds : tie.Need-loop-holds Inv-loop μ-loop
 loop-holds c = (search needs, len-begin _ _ _)
 
-add-page : tie.Need-add-page Inv-loop μ-loop
-add-page c = search needs
-
-cast-if1 : tie.Need-cast-if1 Inv-loop μ-loop
-cast-if1 c = search needs
-
 returns : tie.Need-returns Inv-loop μ-loop
 returns c = sym (len-stop _ _ _ _ (c .before .before .loop .inv .1) (touched-past _ _ (omega arith)))
-
-touched-requires : tie.Need-touched-requires Inv-loop μ-loop
-touched-requires c κs = search needs
 
 returns-2 : tie.Need-returns-2 Inv-loop μ-loop
 returns-2 c =
     sym (len-stop _ _ _ _ (c .before .before .before .before .loop .inv .1)
     (sym (c .before .touched .ensures) ∙ not-true _ (c .if2 .taken)))
-
-add-n : tie.Need-add-n Inv-loop μ-loop
-add-n c = search needs
-
-loop-less : tie.Need-loop-less Inv-loop μ-loop
-loop-less c = search needs
 
 loop-again : tie.Need-loop-again Inv-loop μ-loop
 loop-again c = (
@@ -62,12 +47,12 @@ page-row-len-spec =
     Inv-loop
     μ-loop
     loop-holds
-    add-page
-    cast-if1
+    (λ c. search needs)
+    (λ c. search needs)
     returns
-    touched-requires
+    (λ c κs. search needs)
     returns-2
-    add-n
-    loop-less
+    (λ c. search needs)
+    (λ c. search needs)
     loop-again
     returns-3)

@@ -8,12 +8,6 @@ use Rattle.runs.specs.Pages.{touched}
 use Rattle.runs.proofs.pages.touched.Statement.{statement}
 use Rattle.runs.proofs.pages.touched.Tie as tie
 
-start-requires : tie.Need-start-requires
-start-requires c κs = search needs
-
-any-named-requires : tie.Need-any-named-requires
-any-named-requires c κs = search needs
-
 returns : tie.Need-returns
 unfolding touched
 returns c =
@@ -22,4 +16,4 @@ returns c =
     (c .before .start .ensures)
 
 pub touched-spec : {M : Type 1} → statement M
-touched-spec = tie.close (tie.spec start-requires any-named-requires returns)
+touched-spec = tie.close (tie.spec (λ c κs. search needs) (λ c κs. search needs) returns)

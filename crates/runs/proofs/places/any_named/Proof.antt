@@ -14,14 +14,8 @@ use Rattle.runs.proofs.places.any_named.Tie as tie
 searched : (p : ℕ → Bool) (a n r : ℕ) → r ≡ next p a (a + n - a) → ltb r (a + n) ≡ any p a n
 searched p a n r e = let w : a + n - a ≡ n = omega arith in rw (e, w) (sym (any-next p n a))
 
-add-end : tie.Need-add-end
-add-end c = search needs
-
-next-named-requires : tie.Need-next-named-requires
-next-named-requires c κs = search needs
-
 returns : tie.Need-returns
 returns c = searched _ _ _ _ (c .before .next-named .ensures)
 
 pub any-named-spec : {M : Type 1} → statement M
-any-named-spec = tie.close (tie.spec add-end next-named-requires returns)
+any-named-spec = tie.close (tie.spec (λ c. search needs) (λ c κs. search needs) returns)

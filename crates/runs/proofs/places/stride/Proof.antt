@@ -40,14 +40,8 @@ module _ (m : List ℕ) (a most : ℕ) where
           let r : (a + i) % 8 ≡ i = omega arith in
           rw (q, r, e) (full i h)
 
-cast-byte : tie.Need-cast-byte
-cast-byte c = search needs
-
 returns : tie.Need-returns
 returns c = ended _ _ _ (named-past _ _ (omega arith))
-
-named-requires : tie.Need-named-requires
-named-requires c κs = search needs
 
 returns-2 : tie.Need-returns-2
 returns-2 c = ended _ _ _ (sym (c .before .named .ensures) ∙ not-true _ (c .if2 .taken))
@@ -62,9 +56,6 @@ returns-4 c =
     one _ _ _ (c .before .before .before .before .before .before .pre)
     (sym (c .before .before .before .named .ensures) ∙ not-false _ (c .before .before .if2 .left))
 
-shared-slice-read-if5 : tie.Need-shared-slice-read-if5
-shared-slice-read-if5 c = search needs
-
 returns-5 : tie.Need-returns-5
 returns-5 c =
     one _ _ _ (c .before .before .before .before .before .before .before .before .pre)
@@ -78,12 +69,12 @@ pub stride-spec : {M : Type 1} → statement M
 stride-spec =
     tie.close
     (tie.spec
-    cast-byte
+    (λ c. search needs)
     returns
-    named-requires
+    (λ c κs. search needs)
     returns-2
     returns-3
     returns-4
-    shared-slice-read-if5
+    (λ c. search needs)
     returns-5
     returns-6)

@@ -10,15 +10,6 @@ use Rattle.runs.specs.Tally.{tallyAt}
 use Rattle.runs.proofs.survey.up_to.Statement.{statement}
 use Rattle.runs.proofs.survey.up_to.Tie as tie
 
-cast-over-words : tie.Need-cast-over-words
-cast-over-words c = search needs
-
-mul-over-words : tie.Need-mul-over-words
-mul-over-words c = search needs
-
-cast-over-words-2 : tie.Need-cast-over-words-2
-cast-over-words-2 c = search needs
-
 over-words-requires : tie.Need-over-words-requires
 over-words-requires c κs =
     let g = c .before .before .before .args in
@@ -29,9 +20,6 @@ over-words-requires c κs =
       c .before .before .before .pre .3
           ∙ ap (tallyAt (named (g .map .now)) pieceMost) e,
     )
-
-mul-t10 : tie.Need-mul-t10
-mul-t10 c = search needs
 
 over-places-requires : tie.Need-over-places-requires
 over-places-requires c κs =
@@ -44,17 +32,14 @@ over-places-requires c κs =
           ∙ ap (tallyAt (named (g .map .now)) pieceMost) e,
     )
 
-returns : tie.Need-returns
-returns c = search needs
-
 pub up-to-spec : {M : Type 1} → statement M
 up-to-spec =
     tie.close
     (tie.spec
-    cast-over-words
-    mul-over-words
-    cast-over-words-2
+    (λ c. search needs)
+    (λ c. search needs)
+    (λ c. search needs)
     over-words-requires
-    mul-t10
+    (λ c. search needs)
     over-places-requires
-    returns)
+    (λ c. search needs))

@@ -11,9 +11,6 @@ returns c = sym (joins-closed _ _ _ (c .if1 .taken))
 returns-2 : tie.Need-returns-2
 returns-2 c = sym (joins-none _ _ _ (c .if2 .taken))
 
-add-if3 : tie.Need-add-if3
-add-if3 c = search needs
-
 returns-3 : tie.Need-returns-3
 returns-3 c = sym (joins-cut _ _ _ (c .if3 .taken))
 
@@ -21,4 +18,4 @@ returns-4 : tie.Need-returns-4
 returns-4 c = sym (joins-yes _ _ _ (c .before .before .if1 .left) (c .before .if2 .left) (c .if3 .left))
 
 pub joins-spec : {M : Type 1} → statement M
-joins-spec = tie.close (tie.spec returns returns-2 add-if3 returns-3 returns-4)
+joins-spec = tie.close (tie.spec returns returns-2 (λ c. search needs) returns-3 returns-4)

@@ -30,15 +30,6 @@ loop-holds c =
     let pre = c .before .before .before .pre in
     (search needs, tallies-bytes _ _ (pre .3), tallies-pages _ _ (pre .3))
 
-cast-first : tie.Need-cast-first Inv-loop μ-loop
-cast-first c = search needs
-
-mul-first : tie.Need-mul-first Inv-loop μ-loop
-mul-first c = search needs
-
-add-over-words : tie.Need-add-over-words Inv-loop μ-loop
-add-over-words c = search needs
-
 over-words-requires : tie.Need-over-words-requires Inv-loop μ-loop
 over-words-requires c κs =
     let l = c .before .loop in
@@ -57,12 +48,6 @@ took-requires c κs =
     (touched (c .before .before .before .before .before .before .before .before .args .map .now)) Board.pages
     (omega arith) (l .page) (l .inv .2) in
     omega arith
-
-add-page : tie.Need-add-page Inv-loop μ-loop
-add-page c = search needs
-
-loop-less : tie.Need-loop-less Inv-loop μ-loop
-loop-less c = search needs
 
 loop-again : tie.Need-loop-again Inv-loop μ-loop
 loop-again c =
@@ -87,12 +72,12 @@ over-pages-spec =
     Inv-loop
     μ-loop
     loop-holds
-    cast-first
-    mul-first
-    add-over-words
+    (λ c. search needs)
+    (λ c. search needs)
+    (λ c. search needs)
     over-words-requires
     took-requires
-    add-page
-    loop-less
+    (λ c. search needs)
+    (λ c. search needs)
     loop-again
     returns)

@@ -19,21 +19,12 @@ abbrev μ-loop : tie.MeasureT-loop
 loop-holds : tie.Need-loop-holds Inv-loop μ-loop
 loop-holds c = (search needs, c .before .pre .3)
 
-named-requires : tie.Need-named-requires Inv-loop μ-loop
-named-requires c κs = search needs
-
 took-requires : tie.Need-took-requires Inv-loop μ-loop
 took-requires c κs =
     let l = c .before .before .loop in
     let t = tally-le (named (c .before .before .before .before .args .map .now)) pieceMost (omega arith)
     (l .at) (l .inv .1) in
     omega arith
-
-add-at : tie.Need-add-at Inv-loop μ-loop
-add-at c = search needs
-
-loop-less : tie.Need-loop-less Inv-loop μ-loop
-loop-less c = search needs
 
 loop-again : tie.Need-loop-again Inv-loop μ-loop
 loop-again c =
@@ -56,9 +47,9 @@ over-places-spec =
     Inv-loop
     μ-loop
     loop-holds
-    named-requires
+    (λ c κs. search needs)
     took-requires
-    add-at
-    loop-less
+    (λ c. search needs)
+    (λ c. search needs)
     loop-again
     returns)

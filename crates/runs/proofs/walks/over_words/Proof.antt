@@ -21,24 +21,12 @@ abbrev μ-loop : tie.MeasureT-loop
 loop-holds : tie.Need-loop-holds Inv-loop μ-loop
 loop-holds c = (search needs, c .before .pre .3)
 
-mul-word : tie.Need-mul-word Inv-loop μ-loop
-mul-word c = search needs
-
-word-requires : tie.Need-word-requires Inv-loop μ-loop
-word-requires c κs = search needs
-
 took-word-requires : tie.Need-took-word-requires Inv-loop μ-loop
 took-word-requires c κs =
     let l = c .before .before .loop in
     let t = tally-le (named (c .before .before .before .before .args .map .now)) pieceMost (omega arith)
     (64 * l .i) (l .inv .1) in
     omega arith
-
-add-i : tie.Need-add-i Inv-loop μ-loop
-add-i c = search needs
-
-loop-less : tie.Need-loop-less Inv-loop μ-loop
-loop-less c = search needs
 
 loop-again : tie.Need-loop-again Inv-loop μ-loop
 loop-again c =
@@ -64,10 +52,10 @@ over-words-spec =
     Inv-loop
     μ-loop
     loop-holds
-    mul-word
-    word-requires
+    (λ c. search needs)
+    (λ c κs. search needs)
     took-word-requires
-    add-i
-    loop-less
+    (λ c. search needs)
+    (λ c. search needs)
     loop-again
     returns)

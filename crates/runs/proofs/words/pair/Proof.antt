@@ -6,15 +6,6 @@ use Rattle.runs.specs.Map.{wordOf}
 use Rattle.runs.proofs.words.pair.Statement.{statement}
 use Rattle.runs.proofs.words.pair.Tie as tie
 
-shared-slice-read-low : tie.Need-shared-slice-read-low
-shared-slice-read-low c = search needs
-
-add-high : tie.Need-add-high
-add-high c = search needs
-
-shared-slice-read-high : tie.Need-shared-slice-read-high
-shared-slice-read-high c = search needs
-
 cast-result : tie.Need-cast-result
 cast-result c = omega (arith, c .shared-slice-known2 .given (c .before .before .args .at + 1))
 
@@ -40,9 +31,9 @@ pub pair-spec : {M : Type 1} → statement M
 pair-spec =
     tie.close
     (tie.spec
-    shared-slice-read-low
-    add-high
-    shared-slice-read-high
+    (λ c. search needs)
+    (λ c. search needs)
+    (λ c. search needs)
     cast-result
     mul-result
     cast-result-2

@@ -6,27 +6,6 @@ use Rattle.runs.proofs.WordBits.{word-join}
 use Rattle.runs.proofs.words.word.Statement.{statement}
 use Rattle.runs.proofs.words.word.Tie as tie
 
-quad-requires : tie.Need-quad-requires
-quad-requires c κs = search needs
-
-add-quad : tie.Need-add-quad
-add-quad c = search needs
-
-quad-requires-2 : tie.Need-quad-requires-2
-quad-requires-2 c κs = search needs
-
-cast-result : tie.Need-cast-result
-cast-result c = search needs
-
-mul-result : tie.Need-mul-result
-mul-result c = search needs
-
-cast-result-2 : tie.Need-cast-result-2
-cast-result-2 c = search needs
-
-add-result : tie.Need-add-result
-add-result c = search needs
-
 returns : tie.Need-returns
 returns c =
     let g = c .before .before .before .args in
@@ -37,11 +16,11 @@ pub word-spec : {M : Type 1} → statement M
 word-spec =
     tie.close
     (tie.spec
-    quad-requires
-    add-quad
-    quad-requires-2
-    cast-result
-    mul-result
-    cast-result-2
-    add-result
+    (λ c κs. search needs)
+    (λ c. search needs)
+    (λ c κs. search needs)
+    (λ c. search needs)
+    (λ c. search needs)
+    (λ c. search needs)
+    (λ c. search needs)
     returns)

@@ -9,9 +9,6 @@ use Rattle.service_log.proofs.read.read.Tie as tie
 returns : tie.Need-returns
 returns c = sym (read-short pages _ (c .if1 .taken))
 
-pair-at-requires : tie.Need-pair-at-requires
-pair-at-requires c κs = search needs
-
 returns-2 : tie.Need-returns-2
 returns-2 c =
     sym (read-length pages _ (c .before .before .if1 .left)
@@ -22,38 +19,11 @@ returns-3 c =
     sym (read-long pages _ (c .before .before .before .if1 .left)
     (sym (c .before .before .pair-at .ensures) ∙ c .before .if2 .left) (c .if3 .taken))
 
-shared-slice-read-version : tie.Need-shared-slice-read-version
-shared-slice-read-version c = search needs
-
 returns-4 : tie.Need-returns-4
 returns-4 c =
     sym (read-version pages _ (c .before .before .before .before .before .if1 .left)
     (sym (c .before .before .before .before .pair-at .ensures) ∙ c .before .before .before .if2 .left)
     (c .before .before .if3 .left) (c .if4 .taken))
-
-shared-slice-read-outcome : tie.Need-shared-slice-read-outcome
-shared-slice-read-outcome c = search needs
-
-pair-at-requires-2 : tie.Need-pair-at-requires-2
-pair-at-requires-2 c κs = search needs
-
-cast-acknowledged : tie.Need-cast-acknowledged
-cast-acknowledged c = search needs
-
-pair-at-requires-3 : tie.Need-pair-at-requires-3
-pair-at-requires-3 c κs = search needs
-
-cast-total : tie.Need-cast-total
-cast-total c = search needs
-
-pair-at-requires-4 : tie.Need-pair-at-requires-4
-pair-at-requires-4 c κs = search needs
-
-cast-bytes : tie.Need-cast-bytes
-cast-bytes c = search needs
-
-is-false-requires : tie.Need-is-false-requires
-is-false-requires c κs = search needs
 
 returns-5 : tie.Need-returns-5
 returns-5 c =
@@ -82,18 +52,18 @@ read-spec =
     tie.close
     (tie.spec
     returns
-    pair-at-requires
+    (λ c κs. search needs)
     returns-2
     returns-3
-    shared-slice-read-version
+    (λ c. search needs)
     returns-4
-    shared-slice-read-outcome
-    pair-at-requires-2
-    cast-acknowledged
-    pair-at-requires-3
-    cast-total
-    pair-at-requires-4
-    cast-bytes
-    is-false-requires
+    (λ c. search needs)
+    (λ c κs. search needs)
+    (λ c. search needs)
+    (λ c κs. search needs)
+    (λ c. search needs)
+    (λ c κs. search needs)
+    (λ c. search needs)
+    (λ c κs. search needs)
     returns-5
     returns-6)

@@ -7,9 +7,6 @@ use Rattle.service_log.specs.Laws.FalseRecords.{false-unknown, false-few
 use Rattle.service_log.proofs.truth.is_false.Statement.{statement}
 use Rattle.service_log.proofs.truth.is_false.Tie as tie
 
-is-known-requires : tie.Need-is-known-requires
-is-known-requires c κs = search needs
-
 returns : tie.Need-returns
 returns c = false-unknown pages _ _ _ _ (sym (c .before .is-known .ensures) ∙ not-true _ (c .if1 .taken))
 
@@ -79,7 +76,7 @@ pub is-false-spec : {M : Type 1} → statement M
 is-false-spec =
     tie.close
     (tie.spec
-    is-known-requires
+    (λ c κs. search needs)
     returns
     returns-2
     returns-3

@@ -7,15 +7,6 @@ use Rattle.session.specs.Phases.{atStart, afterOf}
 use Rattle.session.proofs.cursor.after.Statement.{statement}
 use Rattle.session.proofs.cursor.after.Tie as tie
 
-enum-told : tie.Need-enum-told
-enum-told c = search needs
-
-first-run-requires : tie.Need-first-run-requires
-first-run-requires c κs = search needs
-
-enum-known-phase : tie.Need-enum-known-phase
-enum-known-phase c = search needs
-
 after-erase-requires : tie.Need-after-erase-requires
 after-erase-requires c κs =
     let s = c .before .before .before .before in (
@@ -23,9 +14,6 @@ after-erase-requires c κs =
       run-below pages (s .args .map .now) (s .pre .0) _
           (sym (ap (atStart pages (s .args .map .now)) (c .before .phase .given .1)) ∙ s .pre .1),
     )
-
-enum-known-phase-2 : tie.Need-enum-known-phase-2
-enum-known-phase-2 c = search needs
 
 after-write-requires : tie.Need-after-write-requires
 after-write-requires c κs =
@@ -35,9 +23,6 @@ after-write-requires c κs =
           (sym (ap (atStart pages (s .args .map .now)) (c .before .phase2 .given .1)) ∙ s .pre .1),
     )
 
-enum-known-phase-3 : tie.Need-enum-known-phase-3
-enum-known-phase-3 c = search needs
-
 after-verify-requires : tie.Need-after-verify-requires
 after-verify-requires c κs =
     let s = c .before .before .before .before in (
@@ -45,12 +30,6 @@ after-verify-requires c κs =
       piece-below pages (s .args .map .now) (s .pre .0) _
           (sym (ap (atStart pages (s .args .map .now)) (c .before .phase3 .given .1)) ∙ s .pre .1),
     )
-
-enum-told-2 : tie.Need-enum-told-2
-enum-told-2 c = search needs
-
-enum-known-phase-4 : tie.Need-enum-known-phase-4
-enum-known-phase-4 c = search needs
 
 returns : tie.Need-returns
 unfolding afterOf
@@ -87,16 +66,16 @@ pub after-spec : {M : Type 1} → statement M
 after-spec =
     tie.close
     (tie.spec
-    enum-told
-    first-run-requires
-    enum-known-phase
+    (λ c. search needs)
+    (λ c κs. search needs)
+    (λ c. search needs)
     after-erase-requires
-    enum-known-phase-2
+    (λ c. search needs)
     after-write-requires
-    enum-known-phase-3
+    (λ c. search needs)
     after-verify-requires
-    enum-told-2
-    enum-known-phase-4
+    (λ c. search needs)
+    (λ c. search needs)
     returns
     returns-2
     returns-3

@@ -5,15 +5,9 @@ use Rattle.session.specs.Phases.{afterOf}
 use Rattle.session.proofs.cursor.after_erase.Statement.{statement}
 use Rattle.session.proofs.cursor.after_erase.Tie as tie
 
-next-run-requires : tie.Need-next-run-requires
-next-run-requires c κs = search needs
-
 returns : tie.Need-returns
 unfolding afterOf
 returns c = simp (← c .before .before .next-run .ensures, lt-ltb _ _ (c .if1 .taken))
-
-first-piece-requires : tie.Need-first-piece-requires
-first-piece-requires c κs = search needs
 
 returns-2 : tie.Need-returns-2
 unfolding afterOf
@@ -25,4 +19,4 @@ returns-2 c =
     )
 
 pub after-erase-spec : {M : Type 1} → statement M
-after-erase-spec = tie.close (tie.spec next-run-requires returns first-piece-requires returns-2)
+after-erase-spec = tie.close (tie.spec (λ c κs. search needs) returns (λ c κs. search needs) returns-2)

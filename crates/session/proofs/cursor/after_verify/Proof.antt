@@ -5,9 +5,6 @@ use Rattle.session.specs.Phases.{afterOf}
 use Rattle.session.proofs.cursor.after_verify.Statement.{statement}
 use Rattle.session.proofs.cursor.after_verify.Tie as tie
 
-next-piece-requires : tie.Need-next-piece-requires
-next-piece-requires c κs = search needs
-
 returns : tie.Need-returns
 unfolding afterOf
 returns c = simp (← c .before .before .next-piece .ensures, lt-ltb _ _ (c .if1 .taken))
@@ -17,4 +14,4 @@ unfolding afterOf
 returns-2 c = simp (← c .before .before .next-piece .ensures, le-ltb _ _ (c .if1 .left))
 
 pub after-verify-spec : {M : Type 1} → statement M
-after-verify-spec = tie.close (tie.spec next-piece-requires returns returns-2)
+after-verify-spec = tie.close (tie.spec (λ c κs. search needs) returns returns-2)

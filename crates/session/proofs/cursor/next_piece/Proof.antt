@@ -7,19 +7,13 @@ use Rattle.runs.specs.Pieces.{pieceMost}
 use Rattle.session.proofs.cursor.next_piece.Statement.{statement}
 use Rattle.session.proofs.cursor.next_piece.Tie as tie
 
-row-len-requires : tie.Need-row-len-requires
-row-len-requires c κs = search needs
-
 add-end : tie.Need-add-end
 add-end c =
     let s = c .before .before .before .args in
     omega (arith, c .before .row-len .ensures, len-le (named (s .map .now)) (s .address .0) pieceMost)
 
-next-named-requires : tie.Need-next-named-requires
-next-named-requires c κs = search needs
-
 returns : tie.Need-returns
 returns c = rw (← c .before .before .row-len .ensures) (c .next-named .ensures)
 
 pub next-piece-spec : {M : Type 1} → statement M
-next-piece-spec = tie.close (tie.spec row-len-requires add-end next-named-requires returns)
+next-piece-spec = tie.close (tie.spec (λ c κs. search needs) add-end (λ c κs. search needs) returns)

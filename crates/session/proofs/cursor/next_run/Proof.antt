@@ -7,19 +7,13 @@ use Rattle.runs.specs.Pages.{touched}
 use Rattle.session.proofs.cursor.next_run.Statement.{statement}
 use Rattle.session.proofs.cursor.next_run.Tie as tie
 
-page-row-len-requires : tie.Need-page-row-len-requires
-page-row-len-requires c κs = search needs
-
 add-end : tie.Need-add-end
 add-end c =
     let s = c .before .before .before .args in
     omega (arith, c .before .page-row-len .ensures, len-le (touched (s .map .now)) (s .page .0) pages)
 
-next-touched-requires : tie.Need-next-touched-requires
-next-touched-requires c κs = search needs
-
 returns : tie.Need-returns
 returns c = rw (← c .before .before .page-row-len .ensures) (c .next-touched .ensures)
 
 pub next-run-spec : {M : Type 1} → statement M
-next-run-spec = tie.close (tie.spec page-row-len-requires add-end next-touched-requires returns)
+next-run-spec = tie.close (tie.spec (λ c κs. search needs) add-end (λ c κs. search needs) returns)

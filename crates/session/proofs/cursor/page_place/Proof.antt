@@ -9,12 +9,9 @@ returns : tie.Need-returns
 unfolding placeOf
 returns c = rw (le-leb _ _ (c .if1 .taken))
 
-start-requires : tie.Need-start-requires
-start-requires c κs = search needs
-
 returns-2 : tie.Need-returns-2
 unfolding placeOf
 returns-2 c = rw (lt-leb _ _ (c .before .if1 .left)) (c .start .ensures)
 
 pub page-place-spec : {M : Type 1} → statement M
-page-place-spec = tie.close (tie.spec returns start-requires returns-2)
+page-place-spec = tie.close (tie.spec returns (λ c κs. search needs) returns-2)

@@ -6,27 +6,6 @@ use Rattle.session.specs.Phases.{placeOf}
 use Rattle.session.proofs.cursor.place.Statement.{statement}
 use Rattle.session.proofs.cursor.place.Tie as tie
 
-enum-told : tie.Need-enum-told
-enum-told c = search needs
-
-enum-known-phase : tie.Need-enum-known-phase
-enum-known-phase c = search needs
-
-page-place-requires : tie.Need-page-place-requires
-page-place-requires c κs = search needs
-
-enum-known-phase-2 : tie.Need-enum-known-phase-2
-enum-known-phase-2 c = search needs
-
-enum-known-phase-3 : tie.Need-enum-known-phase-3
-enum-known-phase-3 c = search needs
-
-enum-told-2 : tie.Need-enum-told-2
-enum-told-2 c = search needs
-
-enum-told-3 : tie.Need-enum-told-3
-enum-told-3 c = search needs
-
 returns : tie.Need-returns
 unfolding placeOf
 returns c = sym (ap (placeOf pages) (c .enum-told .given .1))
@@ -54,13 +33,13 @@ pub place-spec : {M : Type 1} → statement M
 place-spec =
     tie.close
     (tie.spec
-    enum-told
-    enum-known-phase
-    page-place-requires
-    enum-known-phase-2
-    enum-known-phase-3
-    enum-told-2
-    enum-told-3
+    (λ c. search needs)
+    (λ c. search needs)
+    (λ c κs. search needs)
+    (λ c. search needs)
+    (λ c. search needs)
+    (λ c. search needs)
+    (λ c. search needs)
     returns
     returns-2
     returns-3

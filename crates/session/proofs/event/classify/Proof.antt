@@ -9,18 +9,9 @@ returns : tie.Need-returns
 unfolding classifyOf
 returns c = rw (c .if1 .taken)
 
-greets-requires : tie.Need-greets-requires
-greets-requires c κs = search needs
-
 returns-2 : tie.Need-returns-2
 unfolding classifyOf
 returns-2 c = rw (c .before .before .if1 .left, sym (c .before .greets .ensures) ∙ c .if2 .taken)
-
-slice-aggregate-same : tie.Need-slice-aggregate-same
-slice-aggregate-same c = search needs
-
-same-requires : tie.Need-same-requires
-same-requires c κs = search needs
 
 returns-3 : tie.Need-returns-3
 unfolding classifyOf
@@ -30,12 +21,6 @@ returns-3 c =
       sym (c .before .before .before .before .greets .ensures) ∙ c .before .before .before .if2 .left,
       sym (c .before .same .ensures) ∙ c .if3 .taken,
     )
-
-slice-aggregate-same-2 : tie.Need-slice-aggregate-same-2
-slice-aggregate-same-2 c = search needs
-
-same-requires-2 : tie.Need-same-requires-2
-same-requires-2 c κs = search needs
 
 returns-4 : tie.Need-returns-4
 unfolding classifyOf
@@ -64,12 +49,12 @@ classify-spec =
     tie.close
     (tie.spec
     returns
-    greets-requires
+    (λ c κs. search needs)
     returns-2
-    slice-aggregate-same
-    same-requires
+    (λ c. search needs)
+    (λ c κs. search needs)
     returns-3
-    slice-aggregate-same-2
-    same-requires-2
+    (λ c. search needs)
+    (λ c κs. search needs)
     returns-4
     returns-5)

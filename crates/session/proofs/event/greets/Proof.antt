@@ -20,41 +20,11 @@ returns c = sym (both-false _ _ (ne-eqb _ _ (c .if1 .taken)))
 slice-aggregate-same : tie.Need-slice-aggregate-same
 slice-aggregate-same c = sym (length-take-le 15 (c .before .before .before .args .answer .now) (omega arith))
 
-array-share-prefix-same : tie.Need-array-share-prefix-same
-array-share-prefix-same c = search needs
-
-slice-aggregate-same-2 : tie.Need-slice-aggregate-same-2
-slice-aggregate-same-2 c = search needs
-
-same-requires : tie.Need-same-requires
-same-requires c κs = search needs
-
 returns-2 : tie.Need-returns-2
 unfolding greetsOf
 returns-2 c =
     sym (both-second _ _ (eq-eqb _ _ (c .before .before .before .before .if1 .left))
     ∙ both-false _ _ (sym (c .before .same .ensures) ∙ not-true _ (c .if2 .taken)))
-
-sub-same : tie.Need-sub-same
-sub-same c = search needs
-
-part-same-start : tie.Need-part-same-start
-part-same-start c = search needs
-
-part-same-end : tie.Need-part-same-end
-part-same-end c = search needs
-
-sub-same-2 : tie.Need-sub-same-2
-sub-same-2 c = search needs
-
-part-same-start-2 : tie.Need-part-same-start-2
-part-same-start-2 c = search needs
-
-part-same-end-2 : tie.Need-part-same-end-2
-part-same-end-2 c = search needs
-
-same-requires-2 : tie.Need-same-requires-2
-same-requires-2 c κs = search needs
 
 returns-3 : tie.Need-returns-3
 unfolding greetsOf
@@ -75,15 +45,15 @@ greets-spec =
     (tie.spec
     returns
     slice-aggregate-same
-    array-share-prefix-same
-    slice-aggregate-same-2
-    same-requires
+    (λ c. search needs)
+    (λ c. search needs)
+    (λ c κs. search needs)
     returns-2
-    sub-same
-    part-same-start
-    part-same-end
-    sub-same-2
-    part-same-start-2
-    part-same-end-2
-    same-requires-2
+    (λ c. search needs)
+    (λ c. search needs)
+    (λ c. search needs)
+    (λ c. search needs)
+    (λ c. search needs)
+    (λ c. search needs)
+    (λ c κs. search needs)
     returns-3)

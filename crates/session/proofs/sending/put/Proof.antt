@@ -12,21 +12,6 @@ use Rattle.packet.specs.Paper.{paperBuilt}
 use Rattle.session.proofs.sending.put.Statement.{statement}
 use Rattle.session.proofs.sending.put.Tie as tie
 
-build-requires : tie.Need-build-requires
-build-requires c κs = search needs
-
-enum-known-len : tie.Need-enum-known-len
-enum-known-len c = search needs
-
-enum-told : tie.Need-enum-told
-enum-told c = search needs
-
-enum-told-2 : tie.Need-enum-told-2
-enum-told-2 c = search needs
-
-same-length : tie.Need-same-length
-same-length c = search needs
-
 returns : tie.Need-returns
 returns c = let s = c .before .before .before .before .before .before .before .before .before in
     let b = build-packet (length (s .args .buffer .now)) (s .args .command) (s .args .address .0)
@@ -37,9 +22,6 @@ returns c = let s = c .before .before .before .before .before .before .before .b
           ∙ ap (λ (x : Answer (List ℕ)). overlay (written x) (s .args .buffer .now)) b,
     )
 
-same-length-2 : tie.Need-same-length-2
-same-length-2 c = search needs
-
 returns-2 : tie.Need-returns-2
 returns-2 c = let s = c .before .before .before .before .before .before .before .before in
     let b = build-packet (length (s .args .buffer .now)) (s .args .command) (s .args .address .0)
@@ -47,9 +29,6 @@ returns-2 c = let s = c .before .before .before .before .before .before .before 
     absurd (apart
     (sym (ap paperBuilt (c .enum-told .given .1)) ∙ c .before .before .before .before .build .ensures .0
     ∙ ap counted b))
-
-same-length-3 : tie.Need-same-length-3
-same-length-3 c = search needs
 
 returns-3 : tie.Need-returns-3
 returns-3 c = let s = c .before .before .before .before .before .before .before .before in
@@ -63,13 +42,13 @@ pub put-spec : {M : Type 1} → statement M
 put-spec =
     tie.close
     (tie.spec
-    build-requires
-    enum-known-len
-    enum-told
-    enum-told-2
-    same-length
+    (λ c κs. search needs)
+    (λ c. search needs)
+    (λ c. search needs)
+    (λ c. search needs)
+    (λ c. search needs)
     returns
-    same-length-2
+    (λ c. search needs)
     returns-2
-    same-length-3
+    (λ c. search needs)
     returns-3)

@@ -6,12 +6,6 @@ use Rattle.session.specs.Phases.{atStart}
 use Rattle.session.proofs.sending.send.Statement.{statement}
 use Rattle.session.proofs.sending.send.Tie as tie
 
-enum-told : tie.Need-enum-told
-enum-told c = search needs
-
-enum-known-phase : tie.Need-enum-known-phase
-enum-known-phase c = search needs
-
 send-erase-requires : tie.Need-send-erase-requires
 send-erase-requires c κs =
     let s = c .before .before .before .before .before .before .before in (
@@ -20,9 +14,6 @@ send-erase-requires c κs =
       sym (ap (atStart pages (s .args .map .now)) (c .before .before .phase .given .1))
           ∙ s .pre .3,
     )
-
-enum-known-phase-2 : tie.Need-enum-known-phase-2
-enum-known-phase-2 c = search needs
 
 send-piece-requires : tie.Need-send-piece-requires
 send-piece-requires c κs =
@@ -34,9 +25,6 @@ send-piece-requires c κs =
       sym (ap (atStart pages (s .args .map .now)) (c .before .before .phase2 .given .1)) ∙ s .pre .3,
     )
 
-enum-known-phase-3 : tie.Need-enum-known-phase-3
-enum-known-phase-3 c = search needs
-
 send-piece-requires-2 : tie.Need-send-piece-requires-2
 send-piece-requires-2 c κs =
     let s = c .before .before .before .before .before .before .before in (
@@ -47,41 +35,20 @@ send-piece-requires-2 c κs =
       sym (ap (atStart pages (s .args .map .now)) (c .before .before .phase3 .given .1)) ∙ s .pre .3,
     )
 
-enum-told-2 : tie.Need-enum-told-2
-enum-told-2 c = search needs
-
-send-run-requires : tie.Need-send-run-requires
-send-run-requires c κs = search needs
-
-enum-told-3 : tie.Need-enum-told-3
-enum-told-3 c = search needs
-
 returns : tie.Need-returns
 returns c = rw (c .enum-told .given .1) (refl, refl)
-
-same-length : tie.Need-same-length
-same-length c = search needs
 
 returns-2 : tie.Need-returns-2
 returns-2 c =
     rw (c .before .before .before .before .before .phase .given .1) (c .before .before .send-erase .ensures)
 
-same-length-2 : tie.Need-same-length-2
-same-length-2 c = search needs
-
 returns-3 : tie.Need-returns-3
 returns-3 c =
     rw (c .before .before .before .before .before .phase2 .given .1) (c .before .before .send-piece .ensures)
 
-same-length-3 : tie.Need-same-length-3
-same-length-3 c = search needs
-
 returns-4 : tie.Need-returns-4
 returns-4 c =
     rw (c .before .before .before .before .before .phase3 .given .1) (c .before .before .send-piece2 .ensures)
-
-same-length-4 : tie.Need-same-length-4
-same-length-4 c = search needs
 
 returns-5 : tie.Need-returns-5
 returns-5 c =
@@ -94,23 +61,23 @@ pub send-spec : {M : Type 1} → statement M
 send-spec =
     tie.close
     (tie.spec
-    enum-told
-    enum-known-phase
+    (λ c. search needs)
+    (λ c. search needs)
     send-erase-requires
-    enum-known-phase-2
+    (λ c. search needs)
     send-piece-requires
-    enum-known-phase-3
+    (λ c. search needs)
     send-piece-requires-2
-    enum-told-2
-    send-run-requires
-    enum-told-3
+    (λ c. search needs)
+    (λ c κs. search needs)
+    (λ c. search needs)
     returns
-    same-length
+    (λ c. search needs)
     returns-2
-    same-length-2
+    (λ c. search needs)
     returns-3
-    same-length-3
+    (λ c. search needs)
     returns-4
-    same-length-4
+    (λ c. search needs)
     returns-5
     returns-6)

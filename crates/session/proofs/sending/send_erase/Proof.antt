@@ -23,15 +23,6 @@ start-requires c κs =
     let s = c .before .before .before .before in
     omega (arith, run-below pages (s .args .map .now) (s .pre .0) (s .args .page .0) (s .pre .2))
 
-slice-aggregate-put : tie.Need-slice-aggregate-put
-slice-aggregate-put c = search needs
-
-put-requires : tie.Need-put-requires
-put-requires c κs = search needs
-
-same-length : tie.Need-same-length
-same-length c = search needs
-
 returns : tie.Need-returns
 returns c =
     rw (
@@ -46,7 +37,7 @@ send-erase-spec =
     page-row-len-requires
     cast-t6
     start-requires
-    slice-aggregate-put
-    put-requires
-    same-length
+    (λ c. search needs)
+    (λ c κs. search needs)
+    (λ c. search needs)
     returns)

@@ -31,25 +31,10 @@ carries-shape c n t e l h =
     (λ d. rw (eqb-true c writeByte d) f)
     (λ d. rw (eqb-true c verifyByte (rw d at e)) f)
 
-cast-from : tie.Need-cast-from
-cast-from c = search needs
-
 row-len-requires : tie.Need-row-len-requires
 row-len-requires c κs =
     let s = c .before .before .before .before in
     omega (arith, piece-below pages (s .args .map .now) (s .pre .1) (s .args .address .0) (s .pre .4))
-
-cast-end : tie.Need-cast-end
-cast-end c = search needs
-
-add-end : tie.Need-add-end
-add-end c = search needs
-
-sub-put : tie.Need-sub-put
-sub-put c = search needs
-
-part-put-start : tie.Need-part-put-start
-part-put-start c = search needs
 
 part-put-end : tie.Need-part-put-end
 part-put-end c =
@@ -74,9 +59,6 @@ put-requires c κs = let s = c .before .before .before .before .before .before .
           (omega arith)),
     )
 
-same-length : tie.Need-same-length
-same-length c = search needs
-
 returns : tie.Need-returns
 returns c = let s = c .before .before .before .before .before .before .before .before .before .before in
     let a = s .args .address .0 in
@@ -88,13 +70,13 @@ pub send-piece-spec : {M : Type 1} → statement M
 send-piece-spec =
     tie.close
     (tie.spec
-    cast-from
+    (λ c. search needs)
     row-len-requires
-    cast-end
-    add-end
-    sub-put
-    part-put-start
+    (λ c. search needs)
+    (λ c. search needs)
+    (λ c. search needs)
+    (λ c. search needs)
     part-put-end
     put-requires
-    same-length
+    (λ c. search needs)
     returns)

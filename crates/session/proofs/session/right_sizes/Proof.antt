@@ -6,9 +6,6 @@ use Rattle.basis.specs.Laws.Choice.{both-second, both-false}
 use Rattle.session.proofs.session.right_sizes.Statement.{statement}
 use Rattle.session.proofs.session.right_sizes.Tie as tie
 
-right-sizes-requires : tie.Need-right-sizes-requires
-right-sizes-requires c κs = search needs
-
 returns : tie.Need-returns
 returns c = sym (both-false _ _ (sym (c .before .right-sizes .ensures) ∙ not-true _ (c .if1 .taken)))
 
@@ -16,4 +13,4 @@ returns-2 : tie.Need-returns-2
 returns-2 c = sym (both-second _ _ (sym (c .before .right-sizes .ensures) ∙ not-false _ (c .if1 .left)))
 
 pub right-sizes-spec : {M : Type 1} → statement M
-right-sizes-spec = tie.close (tie.spec right-sizes-requires returns returns-2)
+right-sizes-spec = tie.close (tie.spec (λ c κs. search needs) returns returns-2)

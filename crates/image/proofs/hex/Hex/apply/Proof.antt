@@ -34,12 +34,6 @@ module _ (size : ℕ) (h : Hex) (n : ℕ) (b image map : List ℕ) where
       apply-other : (kind b ≡ 0 → ⊥) → given (file (otherOf h b) image map) ≡ applyIn size h n b image map
       apply-other e = rw (apply-cut size h image map n b, f, s, ne-eqb (kind b) 0 e)
 
-framing-requires : tie.Need-framing-requires
-framing-requires c κs = search needs
-
-enum-known-framed : tie.Need-enum-known-framed
-enum-known-framed c = search needs
-
 returns : tie.Need-returns
 returns c =
     apply-framing flashSize _ _ _ _ _ _
@@ -48,24 +42,12 @@ returns c =
 enum-told : tie.Need-enum-told
 enum-told c = search needs
 
-shape-requires : tie.Need-shape-requires
-shape-requires c κs = search needs
-
-enum-known-shaped : tie.Need-enum-known-shaped
-enum-known-shaped c = search needs
-
 returns-2 : tie.Need-returns-2
 returns-2 c =
     let framing = c .before .before .before .before .before .before .framing in
     apply-shape flashSize _ _ _ _ _
     (sym (framing .ensures) ∙ ap paperCheck (c .before .before .before .before .enum-told .given .1)) _
     (sym (c .before .before .before .shape .ensures) ∙ ap paperCheck (c .before .shaped .given .1))
-
-enum-told-2 : tie.Need-enum-told-2
-enum-told-2 c = search needs
-
-shared-slice-read-if1 : tie.Need-shared-slice-read-if1
-shared-slice-read-if1 c = search needs
 
 data-requires : tie.Need-data-requires
 data-requires c κs =
@@ -77,12 +59,6 @@ data-requires c κs =
     let f = framing-count (args .n) (args .bytes .now)
     (sym (framing .ensures) ∙ ap paperCheck (enum-told .given .1)) in
     (omega (arith, f, pre .0), pre .2, pre .3)
-
-same-length : tie.Need-same-length
-same-length c = search needs
-
-same-length-2 : tie.Need-same-length-2
-same-length-2 c = search needs
 
 returns-3 : tie.Need-returns-3
 returns-3 c =
@@ -127,18 +103,18 @@ pub apply-spec : {M : Type 1} → statement M
 apply-spec =
     tie.close
     (tie.spec
-    framing-requires
-    enum-known-framed
+    (λ c κs. search needs)
+    (λ c. search needs)
     returns
     enum-told
-    shape-requires
-    enum-known-shaped
+    (λ c κs. search needs)
+    (λ c. search needs)
     returns-2
-    enum-told-2
-    shared-slice-read-if1
+    (λ c. search needs)
+    (λ c. search needs)
     data-requires
-    same-length
-    same-length-2
+    (λ c. search needs)
+    (λ c. search needs)
     returns-3
     other-requires
     returns-4)

@@ -6,9 +6,6 @@ use borrow.Author.Needs.{needs}
 use Rattle.image.proofs.hex.Hex.other.Statement.{statement}
 use Rattle.image.proofs.hex.Hex.other.Tie as tie
 
-shared-slice-read-kind : tie.Need-shared-slice-read-kind
-shared-slice-read-kind c = search needs
-
 returns : tie.Need-returns
 returns c = simp (eq-eqb _ _ (c .if1 .taken))
 
@@ -21,12 +18,6 @@ pair-at-requires c κs =
       c .before .before .before .pre .0,
     )
 
-cast-value : tie.Need-cast-value
-cast-value c = search needs
-
-mul-self : tie.Need-mul-self
-mul-self c = search needs
-
 returns-2 : tie.Need-returns-2
 returns-2 c =
     simp (
@@ -34,9 +25,6 @@ returns-2 c =
       eq-eqb _ _ (c .if2 .taken),
       c .before .pair-at .ensures,
     )
-
-mul-self-2 : tie.Need-mul-self-2
-mul-self-2 c = search needs
 
 returns-3 : tie.Need-returns-3
 returns-3 c =
@@ -59,12 +47,12 @@ pub other-spec : {M : Type 1} → statement M
 other-spec =
     tie.close
     (tie.spec
-    shared-slice-read-kind
+    (λ c. search needs)
     returns
     pair-at-requires
-    cast-value
-    mul-self
+    (λ c. search needs)
+    (λ c. search needs)
     returns-2
-    mul-self-2
+    (λ c. search needs)
     returns-3
     returns-4)

@@ -32,41 +32,26 @@ sized : (c : tie.Else1) → let a = c .before .before .before .before .before .a
     rightSizesIn flashSize (length (a .image .now)) (length (a .map .now)) ≡ true
 sized c = sym (c .before .right-sizes .ensures) ∙ not-false _ (c .if1 .left)
 
-right-sizes-requires : tie.Need-right-sizes-requires
-right-sizes-requires c κs = search needs
-
 returns : tie.Need-returns
 returns c = record-size flashSize _ _ _ _ (sym (c .before .right-sizes .ensures) ∙ not-true _ (c .if1 .taken))
 
 returns-2 : tie.Need-returns-2
 returns-2 c = record-ended flashSize _ _ _ _ (sized (c .before)) (c .if2 .taken)
 
-slice-aggregate-take : tie.Need-slice-aggregate-take
-slice-aggregate-take c = search needs
-
 take-requires : tie.Need-take-requires
 take-requires c κs =
     let right = sizes-right flashSize _ _ (sized (c .before .before .before .before)) in
     (refl, right .0, right .1, c .before .before .before .if2 .left)
 
-same-length : tie.Need-same-length
-same-length c = search needs
-
-same-length-2 : tie.Need-same-length-2
-same-length-2 c = search needs
-
-returns-3 : tie.Need-returns-3
-returns-3 c = search needs
-
 pub record-spec : {M : Type 1} → statement M
 record-spec =
     tie.close
     (tie.spec
-    right-sizes-requires
+    (λ c κs. search needs)
     returns
     returns-2
-    slice-aggregate-take
+    (λ c. search needs)
     take-requires
-    same-length
-    same-length-2
-    returns-3)
+    (λ c. search needs)
+    (λ c. search needs)
+    (λ c. search needs))

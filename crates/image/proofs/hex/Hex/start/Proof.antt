@@ -28,23 +28,8 @@ module _ (size : ℕ) (image map : List ℕ) where
       let s = sizes-right size (length image) (length map) e in
       simp (ei, em, s .0, s .1, eq-eqb size size refl, eq-eqb (size / 8) (size / 8) refl)
 
-right-sizes-requires : tie.Need-right-sizes-requires
-right-sizes-requires c κs = search needs
-
 returns : tie.Need-returns
 returns c = start-size flashSize _ _ (sym (c .before .right-sizes .ensures) ∙ not-true _ (c .if1 .taken))
-
-fill-requires : tie.Need-fill-requires
-fill-requires c κs = search needs
-
-fill-requires-2 : tie.Need-fill-requires-2
-fill-requires-2 c κs = search needs
-
-same-length : tie.Need-same-length
-same-length c = search needs
-
-same-length-2 : tie.Need-same-length-2
-same-length-2 c = search needs
 
 returns-2 : tie.Need-returns-2
 returns-2 c =
@@ -57,10 +42,10 @@ pub start-spec : {M : Type 1} → statement M
 start-spec =
     tie.close
     (tie.spec
-    right-sizes-requires
+    (λ c κs. search needs)
     returns
-    fill-requires
-    fill-requires-2
-    same-length
-    same-length-2
+    (λ c κs. search needs)
+    (λ c κs. search needs)
+    (λ c. search needs)
+    (λ c. search needs)
     returns-2)

@@ -64,9 +64,6 @@ module _ (image m : List ℕ) (l : Listing) (h : Listed pages image m l) (more :
         omega (arith, f .2, packet-length, ap length s),
       )
 
-add-listed : tie.Need-add-listed
-add-listed c = search needs
-
 send-requires : tie.Need-send-requires
 send-requires c κs =
     let s = c .before .before .before .before .before .before in (
@@ -75,9 +72,6 @@ send-requires c κs =
       omega (arith, s .pre .2),
       listed-start pages (s .args .image .now) (s .args .map .now) (s .args .self) (s .pre .0) (s .pre .1),
     )
-
-cast-step-line : tie.Need-cast-step-line
-cast-step-line c = search needs
 
 slice-reshare-prefix-step-line : tie.Need-slice-reshare-prefix-step-line
 slice-reshare-prefix-step-line c =
@@ -122,12 +116,6 @@ after-requires c κs =
       listed-start pages (s .args .image .now) (s .args .map .now) (s .args .self) (s .pre .0) (s .pre .1),
     )
 
-same-length : tie.Need-same-length
-same-length c = search needs
-
-same-length-2 : tie.Need-same-length-2
-same-length-2 c = search needs
-
 returns : tie.Need-returns
 returns c =
     let s = c .before .before .before .before .before .before .before .before .before .before .before .before .before .before .before in
@@ -140,13 +128,13 @@ pub line-with-spec : {M : Type 1} → statement M
 line-with-spec =
     tie.close
     (tie.spec
-    add-listed
+    (λ c. search needs)
     send-requires
-    cast-step-line
+    (λ c. search needs)
     slice-reshare-prefix-step-line
     slice-aggregate-step-line
     step-line-requires
     after-requires
-    same-length
-    same-length-2
+    (λ c. search needs)
+    (λ c. search needs)
     returns)

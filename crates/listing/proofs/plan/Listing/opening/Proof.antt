@@ -5,13 +5,10 @@ use Rattle.listing.specs.Laws.Plan.{listing-first}
 use Rattle.listing.proofs.plan.Listing.opening.Statement.{statement}
 use Rattle.listing.proofs.plan.Listing.opening.Tie as tie
 
-after-requires : tie.Need-after-requires
-after-requires c κs = search needs
-
 returns : tie.Need-returns
 returns c =
     listing-first pages _ (c .before .before .pre .0) (c .before .before .pre .1) _ _ (c .after .ensures)
     (c .before .before .pre .2)
 
 pub opening-spec : {M : Type 1} → statement M
-opening-spec = tie.close (tie.spec after-requires returns)
+opening-spec = tie.close (tie.spec (λ c κs. search needs) returns)

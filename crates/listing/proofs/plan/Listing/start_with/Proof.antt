@@ -8,24 +8,12 @@ use Rattle.session.specs.Paper.{paperStepped}
 use Rattle.listing.proofs.plan.Listing.start_with.Statement.{statement}
 use Rattle.listing.proofs.plan.Listing.start_with.Tie as tie
 
-start-requires : tie.Need-start-requires
-start-requires c κs = search needs
-
-enum-known-next : tie.Need-enum-known-next
-enum-known-next c = search needs
-
 opening-requires : tie.Need-opening-requires
 opening-requires c κs =
     let a = c .before .before .before .before .before .before .before .before .before .before .args in
     let s = begins pages (a .image .now) (a .map .now) _ (c .before .next .given .0 .0)
     (sym (ap paperStepped (c .before .next .given .1))
     ∙ c .before .before .before .before .before .start .ensures .0) in (s .0 .long, s .0 .some, s .1)
-
-enum-known-x : tie.Need-enum-known-x
-enum-known-x c = search needs
-
-same-length : tie.Need-same-length
-same-length c = search needs
 
 returns : tie.Need-returns
 returns c =
@@ -34,9 +22,6 @@ returns c =
     (sym (ap paperStepped (c .before .before .next .given .1))
     ∙ c .before .before .before .before .before .before .start .ensures .0) in
     ap given (c .opening .ensures) ∙ sym (s .2)
-
-same-length-2 : tie.Need-same-length-2
-same-length-2 c = search needs
 
 returns-2 : tie.Need-returns-2
 returns-2 c =
@@ -49,11 +34,11 @@ pub start-with-spec : {M : Type 1} → statement M
 start-with-spec =
     tie.close
     (tie.spec
-    start-requires
-    enum-known-next
+    (λ c κs. search needs)
+    (λ c. search needs)
     opening-requires
-    enum-known-x
-    same-length
+    (λ c. search needs)
+    (λ c. search needs)
     returns
-    same-length-2
+    (λ c. search needs)
     returns-2)

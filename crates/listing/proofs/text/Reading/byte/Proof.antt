@@ -21,24 +21,6 @@ module _ (size : ℕ) (r : Reading) (line image map : List ℕ) where
       → state (stopped (paperBlame x)) line image map ≡ progressByte size (paperReading r) b line image map
   byte-refused b x e = rw e
 
-enum-known-self : tie.Need-enum-known-self
-enum-known-self c = search needs
-
-byte-requires : tie.Need-byte-requires
-byte-requires c κs = search needs
-
-enum-known-self-2 : tie.Need-enum-known-self-2
-enum-known-self-2 c = search needs
-
-same-length : tie.Need-same-length
-same-length c = search needs
-
-same-length-2 : tie.Need-same-length-2
-same-length-2 c = search needs
-
-same-length-3 : tie.Need-same-length-3
-same-length-3 c = search needs
-
 returns : tie.Need-returns
 returns c =
     byte-open _ _ _ _ _ _ _ _
@@ -52,11 +34,11 @@ pub byte-spec : {M : Type 1} → statement M
 byte-spec =
     tie.close
     (tie.spec
-    enum-known-self
-    byte-requires
-    enum-known-self-2
-    same-length
-    same-length-2
-    same-length-3
+    (λ c. search needs)
+    (λ c κs. search needs)
+    (λ c. search needs)
+    (λ c. search needs)
+    (λ c. search needs)
+    (λ c. search needs)
     returns
     returns-2)

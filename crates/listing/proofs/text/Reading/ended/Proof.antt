@@ -13,17 +13,8 @@ ended-refused : (r : Reading) (b : Blame) → r ≡ Reading.Refused b
     → stopped (paperBlame b) ≡ endedOf (paperReading r)
 ended-refused r b e = rw e
 
-enum-told : tie.Need-enum-told
-enum-told c = search needs
-
-enum-known-self : tie.Need-enum-known-self
-enum-known-self c = search needs
-
-returns : tie.Need-returns
-returns c = search needs
-
 returns-2 : tie.Need-returns-2
 returns-2 c = ended-refused _ _ (c .before .self .given .1)
 
 pub ended-spec : {M : Type 1} → statement M
-ended-spec = tie.close (tie.spec enum-told enum-known-self returns returns-2)
+ended-spec = tie.close (tie.spec (λ c. search needs) (λ c. search needs) (λ c. search needs) returns-2)

@@ -22,18 +22,6 @@ module _ (size : ℕ) (r : Reading) (line : List ℕ) where
   unfolding feedIn
   keep-refused b image map e = rw e
 
-enum-known-self : tie.Need-enum-known-self
-enum-known-self c = search needs
-
-keep-requires : tie.Need-keep-requires
-keep-requires c κs = search needs
-
-enum-known-self-2 : tie.Need-enum-known-self-2
-enum-known-self-2 c = search needs
-
-same-length : tie.Need-same-length
-same-length c = search needs
-
 returns : tie.Need-returns
 returns c =
     keep-open _ _ _ _ _ _ _ _ (c .before .before .before .before .before .self .given .1)
@@ -45,4 +33,4 @@ returns-2 c = (search needs, λ image map. keep-refused _ _ _ _ image map (c .be
 pub keep-spec : {M : Type 1} → statement M
 keep-spec =
     tie.close
-    (tie.spec enum-known-self keep-requires enum-known-self-2 same-length returns returns-2)
+    (tie.spec (λ c. search needs) (λ c κs. search needs) (λ c. search needs) (λ c. search needs) returns returns-2)

@@ -22,24 +22,6 @@ module _ (size : ℕ) (t : Text) (b : ℕ) (line image map : List ℕ) where
       (settled (recordIn size (t .hex) (trimmedOf (take (t .len) line)) image map) image map) (rw el at s)
       ∙ sym (byte-ends size t b line image map e)
 
-first-requires : tie.Need-first-requires
-first-requires c κs = search needs
-
-trimmed-requires : tie.Need-trimmed-requires
-trimmed-requires c κs = search needs
-
-take-requires : tie.Need-take-requires
-take-requires c κs = search needs
-
-same-length : tie.Need-same-length
-same-length c = search needs
-
-same-length-2 : tie.Need-same-length-2
-same-length-2 c = search needs
-
-same-length-3 : tie.Need-same-length-3
-same-length-3 c = search needs
-
 returns : tie.Need-returns
 returns c =
     ended-by _ _ _ _ _ _ _ _ _ _
@@ -47,12 +29,6 @@ returns c =
     (c .before .before .before .before .before .before .before .trimmed .ensures
     ∙ ap trimmedOf (c .before .before .before .before .before .before .before .before .first .ensures))
     (c .before .before .before .before .take .ensures)
-
-keep-one-requires : tie.Need-keep-one-requires
-keep-one-requires c κs = search needs
-
-same-length-4 : tie.Need-same-length-4
-same-length-4 c = search needs
 
 returns-2 : tie.Need-returns-2
 returns-2 c =
@@ -63,13 +39,13 @@ pub byte-spec : {M : Type 1} → statement M
 byte-spec =
     tie.close
     (tie.spec
-    first-requires
-    trimmed-requires
-    take-requires
-    same-length
-    same-length-2
-    same-length-3
+    (λ c κs. search needs)
+    (λ c κs. search needs)
+    (λ c κs. search needs)
+    (λ c. search needs)
+    (λ c. search needs)
+    (λ c. search needs)
     returns
-    keep-one-requires
-    same-length-4
+    (λ c κs. search needs)
+    (λ c. search needs)
     returns-2)

@@ -58,34 +58,10 @@ loop-holds : tie.Need-loop-holds Inv-loop μ-loop
 unfolding feedIn
 loop-holds c = (search needs, refl, λ image map. refl)
 
-add-loop : tie.Need-add-loop Inv-loop μ-loop
-add-loop c = search needs
-
-shared-slice-read-if1 : tie.Need-shared-slice-read-if1 Inv-loop μ-loop
-shared-slice-read-if1 c = search needs
-
-stretch-requires : tie.Need-stretch-requires Inv-loop μ-loop
-stretch-requires c κs = search needs
-
-same-length : tie.Need-same-length Inv-loop μ-loop
-same-length c = search needs
-
 returns : tie.Need-returns Inv-loop μ-loop
 returns c =
     gone-kept _ _ _ _ _ _ _ _ _ (c .stretch .ensures) (c .before .before .before .before .loop .inv .0)
     (c .before .before .before .before .loop .inv .2)
-
-shared-slice-read-keep-one : tie.Need-shared-slice-read-keep-one Inv-loop μ-loop
-shared-slice-read-keep-one c = search needs
-
-keep-one-requires : tie.Need-keep-one-requires Inv-loop μ-loop
-keep-one-requires c κs = search needs
-
-add-i : tie.Need-add-i Inv-loop μ-loop
-add-i c = search needs
-
-loop-less : tie.Need-loop-less Inv-loop μ-loop
-loop-less c = search needs
 
 loop-again : tie.Need-loop-again Inv-loop μ-loop
 loop-again c = (
@@ -95,12 +71,6 @@ loop-again c = (
       (c .before .before .before .before .before .if1 .left) (c .before .before .keep-one .ensures)
       (c .before .before .before .before .before .before .before .before .loop .inv .2),
 )
-
-stretch-requires-2 : tie.Need-stretch-requires-2 Inv-loop μ-loop
-stretch-requires-2 c κs = search needs
-
-same-length-2 : tie.Need-same-length-2 Inv-loop μ-loop
-same-length-2 c = search needs
 
 returns-2 : tie.Need-returns-2 Inv-loop μ-loop
 returns-2 c =
@@ -114,16 +84,16 @@ keep-spec =
     Inv-loop
     μ-loop
     loop-holds
-    add-loop
-    shared-slice-read-if1
-    stretch-requires
-    same-length
+    (λ c. search needs)
+    (λ c. search needs)
+    (λ c κs. search needs)
+    (λ c. search needs)
     returns
-    shared-slice-read-keep-one
-    keep-one-requires
-    add-i
-    loop-less
+    (λ c. search needs)
+    (λ c κs. search needs)
+    (λ c. search needs)
+    (λ c. search needs)
     loop-again
-    stretch-requires-2
-    same-length-2
+    (λ c κs. search needs)
+    (λ c. search needs)
     returns-2)

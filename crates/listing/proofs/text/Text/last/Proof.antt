@@ -31,18 +31,6 @@ module _ (size : ℕ) (t : Text) (line image map : List ℕ) where
 returns : tie.Need-returns
 returns c = last-none _ _ _ _ _ (omega (arith, c .if1 .taken))
 
-first-requires : tie.Need-first-requires
-first-requires c κs = search needs
-
-take-requires : tie.Need-take-requires
-take-requires c κs = search needs
-
-same-length : tie.Need-same-length
-same-length c = search needs
-
-same-length-2 : tie.Need-same-length-2
-same-length-2 c = search needs
-
 returns-2 : tie.Need-returns-2
 returns-2 c =
     last-line _ _ _ _ _ _ _ _ _ (c .before .before .before .before .before .before .before .before .if1 .left)
@@ -51,4 +39,4 @@ returns-2 c =
 
 pub last-spec : {M : Type 1} → statement M
 last-spec =
-    tie.close (tie.spec returns first-requires take-requires same-length same-length-2 returns-2)
+    tie.close (tie.spec returns (λ c κs. search needs) (λ c κs. search needs) (λ c. search needs) (λ c. search needs) returns-2)

@@ -15,15 +15,6 @@ shut-by : (t : Text) (a : Answer Hex) → a ≡ closeOf (t .hex) → afterClosin
 unfolding shutOf
 shut-by t a e = ap (afterClosing t) e
 
-close-requires : tie.Need-close-requires
-close-requires c κs = search needs
-
-enum-told : tie.Need-enum-told
-enum-told c = search needs
-
-enum-known-refusal : tie.Need-enum-known-refusal
-enum-known-refusal c = search needs
-
 returns : tie.Need-returns
 returns c = shut-by _ _ (sym (ap paperRead (c .enum-told .given .1)) ∙ c .before .before .close .ensures)
 
@@ -33,4 +24,4 @@ returns-2 c =
     ∙ c .before .before .before .close .ensures)
 
 pub shut-spec : {M : Type 1} → statement M
-shut-spec = tie.close (tie.spec close-requires enum-told enum-known-refusal returns returns-2)
+shut-spec = tie.close (tie.spec (λ c κs. search needs) (λ c. search needs) (λ c. search needs) returns returns-2)

@@ -16,35 +16,11 @@ took : (n k : ℕ) → n ≡ k → (r x : Read) (i m : List ℕ) (o : Settled) �
     → settledAs (paperRead r) i m ≡ o → Shown k (afterLine n (paperRead x)) i m o
 took n k e r x i m o f g = rw e (shown k r x i m o f g)
 
-wrapping-add-u64-requires : tie.Need-wrapping-add-u64-requires
-wrapping-add-u64-requires c κs = search needs
-
-record-requires : tie.Need-record-requires
-record-requires c κs = search needs
-
-enum-known-next : tie.Need-enum-known-next
-enum-known-next c = search needs
-
-enum-known-refusal : tie.Need-enum-known-refusal
-enum-known-refusal c = search needs
-
-same-length : tie.Need-same-length
-same-length c = search needs
-
-same-length-2 : tie.Need-same-length-2
-same-length-2 c = search needs
-
 returns : tie.Need-returns
 returns c =
     took _ _ (c .before .before .before .before .before .before .before .before .before .before .wrapping-add-u64 .ensures)
     _ _ _ _ _ (c .before .next .given .1)
     (c .before .before .before .before .before .before .before .«record» .ensures)
-
-same-length-3 : tie.Need-same-length-3
-same-length-3 c = search needs
-
-same-length-4 : tie.Need-same-length-4
-same-length-4 c = search needs
 
 returns-2 : tie.Need-returns-2
 returns-2 c =
@@ -56,13 +32,13 @@ pub take-spec : {M : Type 1} → statement M
 take-spec =
     tie.close
     (tie.spec
-    wrapping-add-u64-requires
-    record-requires
-    enum-known-next
-    enum-known-refusal
-    same-length
-    same-length-2
+    (λ c κs. search needs)
+    (λ c κs. search needs)
+    (λ c. search needs)
+    (λ c. search needs)
+    (λ c. search needs)
+    (λ c. search needs)
     returns
-    same-length-3
-    same-length-4
+    (λ c. search needs)
+    (λ c. search needs)
     returns-2)

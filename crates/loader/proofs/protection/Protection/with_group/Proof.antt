@@ -9,12 +9,6 @@ use lib.Pow.{shl-exact}
 use Rattle.loader.proofs.protection.Protection.with_group.Statement.{statement}
 use Rattle.loader.proofs.protection.Protection.with_group.Tie as tie
 
-cast-t3 : tie.Need-cast-t3
-cast-t3 c = search needs
-
-shl-t4 : tie.Need-shl-t4
-shl-t4 c = search needs
-
 returns : tie.Need-returns
 returns c = let a = c .before .before .args in
     let e : 1 * 2 ^ (a .group .0) % 2 ^ 64 ≡ 2 ^ (a .group .0) = shl-exact 1 (a .group .0) 64 (omega arith)
@@ -22,4 +16,4 @@ returns c = let a = c .before .before .args in
     ap (λ (x : ℕ). record { groups = bitOr (a .self .groups) x; read = a .self .read }) e
 
 pub with-group-spec : {M : Type 1} → statement M
-with-group-spec = tie.close (tie.spec cast-t3 shl-t4 returns)
+with-group-spec = tie.close (tie.spec (λ c. search needs) (λ c. search needs) returns)

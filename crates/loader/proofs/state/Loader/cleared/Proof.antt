@@ -4,9 +4,6 @@ use Rattle.loader.specs.State.{clearedKey}
 use Rattle.loader.proofs.state.Loader.cleared.Statement.{statement}
 use Rattle.loader.proofs.state.Loader.cleared.Tie as tie
 
-none-requires : tie.Need-none-requires
-none-requires c κs = search needs
-
 returns : tie.Need-returns
 returns c =
     λ i. record {
@@ -17,4 +14,4 @@ returns c =
     }
 
 pub cleared-spec : {M : Type 1} → statement M
-cleared-spec = tie.close (tie.spec none-requires returns)
+cleared-spec = tie.close (tie.spec (λ c κs. search needs) returns)

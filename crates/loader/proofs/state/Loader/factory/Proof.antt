@@ -5,12 +5,6 @@ use Rattle.loader.specs.declared.state.Condition.the-variants.{Waiting}
 use Rattle.loader.proofs.state.Loader.factory.Statement.{statement}
 use Rattle.loader.proofs.state.Loader.factory.Tie as tie
 
-closed-requires : tie.Need-closed-requires
-closed-requires c κs = search needs
-
-none-requires : tie.Need-none-requires
-none-requires c κs = search needs
-
 returns : tie.Need-returns
 returns c =
     λ i. record {
@@ -21,4 +15,4 @@ returns c =
     }
 
 pub factory-spec : {M : Type 1} → statement M
-factory-spec = tie.close (tie.spec closed-requires none-requires returns)
+factory-spec = tie.close (tie.spec (λ c κs. search needs) (λ c κs. search needs) returns)

@@ -3,12 +3,6 @@ use borrow.Author.Needs.{needs}
 use Rattle.loader.proofs.state.Loader.joined.Statement.{statement}
 use Rattle.loader.proofs.state.Loader.joined.Tie as tie
 
-closed-requires : tie.Need-closed-requires
-closed-requires c κs = search needs
-
-join-requires : tie.Need-join-requires
-join-requires c κs = search needs
-
 returns : tie.Need-returns
 returns c =
     λ i. record {
@@ -19,4 +13,4 @@ returns c =
     }
 
 pub joined-spec : {M : Type 1} → statement M
-joined-spec = tie.close (tie.spec closed-requires join-requires returns)
+joined-spec = tie.close (tie.spec (λ c κs. search needs) (λ c κs. search needs) returns)

@@ -4,9 +4,6 @@ use Rattle.loader.specs.declared.state.Condition.the-variants.{Waiting}
 use Rattle.loader.proofs.state.Loader.reset.Statement.{statement}
 use Rattle.loader.proofs.state.Loader.reset.Tie as tie
 
-closed-requires : tie.Need-closed-requires
-closed-requires c κs = search needs
-
 returns : tie.Need-returns
 returns c =
     λ i. record {
@@ -17,4 +14,4 @@ returns c =
     }
 
 pub reset-spec : {M : Type 1} → statement M
-reset-spec = tie.close (tie.spec closed-requires returns)
+reset-spec = tie.close (tie.spec (λ c κs. search needs) returns)

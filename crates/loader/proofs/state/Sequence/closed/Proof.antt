@@ -4,11 +4,8 @@ use borrow.Author.Needs.{needs}
 use Rattle.loader.proofs.state.Sequence.closed.Statement.{statement}
 use Rattle.loader.proofs.state.Sequence.closed.Tie as tie
 
-none-requires : tie.Need-none-requires
-none-requires c κs = search needs
-
 returns : tie.Need-returns
 returns c = λ i. record { opened = false; added = c .none .ensures i }
 
 pub closed-spec : {M : Type 1} → statement M
-closed-spec = tie.close (tie.spec none-requires returns)
+closed-spec = tie.close (tie.spec (λ c κs. search needs) returns)

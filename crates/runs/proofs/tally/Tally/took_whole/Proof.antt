@@ -7,27 +7,12 @@ use Rattle.runs.proofs.WordSteps.{word-whole}
 use Rattle.runs.proofs.tally.Tally.took_whole.Statement.{statement}
 use Rattle.runs.proofs.tally.Tally.took_whole.Tie as tie
 
-joins-requires : tie.Need-joins-requires
-joins-requires c κs = search needs
-
-add-t4 : tie.Need-add-t4
-add-t4 c = search needs
-
-add-t5 : tie.Need-add-t5
-add-t5 c = search needs
-
 sub-t6 : tie.Need-sub-t6
 sub-t6 c =
     let g = c .before .before .before .args in
     let j = c .before .before .joins in
     word-whole (g .cap) (2 ^ 64 - 1) (g .self) (omega arith) (omega arith) (omega arith) refl (j .result)
     (j .ensures) .0
-
-add-cut : tie.Need-add-cut
-add-cut c = search needs
-
-cut-requires : tie.Need-cut-requires
-cut-requires c κs = search needs
 
 returns : tie.Need-returns
 returns c =
@@ -38,4 +23,4 @@ returns c =
 
 pub took-whole-spec : {M : Type 1} → statement M
 took-whole-spec =
-    tie.close (tie.spec joins-requires add-t4 add-t5 sub-t6 add-cut cut-requires returns)
+    tie.close (tie.spec (λ c κs. search needs) (λ c. search needs) (λ c. search needs) sub-t6 (λ c. search needs) (λ c κs. search needs) returns)

@@ -14,9 +14,6 @@ returns c =
     let g = c .before .args in
     word-none (g .cap) (g .word) (g .self) (omega arith) (omega arith) (omega arith) (c .if1 .taken)
 
-took-whole-requires : tie.Need-took-whole-requires
-took-whole-requires c κs = search needs
-
 returns-2 : tie.Need-returns-2
 returns-2 c =
     let g = c .before .before .before .args in
@@ -64,7 +61,7 @@ took-word-spec =
     tie.close
     (tie.spec
     returns
-    took-whole-requires
+    (λ c κs. search needs)
     returns-2
     joins-requires
     add-t11

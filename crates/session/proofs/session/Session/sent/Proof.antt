@@ -36,9 +36,6 @@ send-requires c κs = let s = c .before .before .before .before .before in
           ∙ took-start pages m (s .pre .1) (s .args .self) (s .args .event) (s .pre .3),
     )
 
-same-length : tie.Need-same-length
-same-length c = search needs
-
 returns : tie.Need-returns
 returns c = let s = c .before .before .before .before .before .before .before .before .args in
     let e = c .before .before .before .before .took .ensures in (
@@ -52,4 +49,4 @@ returns c = let s = c .before .before .before .before .before .before .before .b
     )
 
 pub sent-spec : {M : Type 1} → statement M
-sent-spec = tie.close (tie.spec took-requires send-requires same-length returns)
+sent-spec = tie.close (tie.spec took-requires send-requires (λ c. search needs) returns)

@@ -52,9 +52,6 @@ right c =
 tells : (s : tie.After-survey) → Told (entry (s .before) .args .map .now) 0 (s .survey .result)
 tells s = told (entry (s .before) .args .map .now) 0 (s .survey .ensures)
 
-right-sizes-requires : tie.Need-right-sizes-requires
-right-sizes-requires c κs = search needs
-
 returns : tie.Need-returns
 returns c =
     left-alone _
@@ -75,9 +72,6 @@ slice-write-buffer c = omega (arith, right (c .before .before .before .before) .
 total-requires : tie.Need-total-requires
 total-requires c κs = let t = tells (c .before .before .before) in (t .runs-few, t .pieces-few)
 
-same-length : tie.Need-same-length
-same-length c = search needs
-
 returns-3 : tie.Need-returns-3
 returns-3 c = let e = c .before .before .before .before .before in
     let s = c .before .before .before .before in
@@ -93,11 +87,11 @@ pub start-spec : {M : Type 1} → statement M
 start-spec =
     tie.close
     (tie.spec
-    right-sizes-requires
+    (λ c κs. search needs)
     returns
     survey-requires
     returns-2
     slice-write-buffer
     total-requires
-    same-length
+    (λ c. search needs)
     returns-3)

@@ -37,16 +37,10 @@ fitted : (c : tie.Else3)
     → let a = entry (c .before .before .before .before) .args in fitsOf pages (a .map .now) (a .self) ≡ true
 fitted c = sym (c .before .fits2 .ensures) ∙ not-false _ (c .if3 .left)
 
-right-sizes-requires : tie.Need-right-sizes-requires
-right-sizes-requires c κs = search needs
-
 returns : tie.Need-returns
 returns c =
     left-alone _
     (step-size pages _ _ _ _ _ (sym (c .before .right-sizes .ensures) ∙ not-true _ (c .if1 .taken)))
-
-ended-requires : tie.Need-ended-requires
-ended-requires c κs = search needs
 
 returns-2 : tie.Need-returns-2
 returns-2 c =
@@ -62,16 +56,10 @@ returns-3 c =
     (step-foreign pages _ _ _ _ _ (sized (c .before .before .before .before)) (going (c .before .before))
     (sym (c .before .fits2 .ensures) ∙ not-true _ (c .if3 .taken)))
 
-classify-requires : tie.Need-classify-requires
-classify-requires c κs = search needs
-
 sent-requires : tie.Need-sent-requires
 sent-requires c κs =
     let z = right (c .before .before .before .before .before .before) in
     (z .0, z .1, z .2, fitted (c .before .before))
-
-same-length : tie.Need-same-length
-same-length c = search needs
 
 returns-4 : tie.Need-returns-4
 returns-4 c =
@@ -90,13 +78,13 @@ pub step-spec : {M : Type 1} → statement M
 step-spec =
     tie.close
     (tie.spec
-    right-sizes-requires
+    (λ c κs. search needs)
     returns
-    ended-requires
+    (λ c κs. search needs)
     returns-2
     fits-requires
     returns-3
-    classify-requires
+    (λ c κs. search needs)
     sent-requires
-    same-length
+    (λ c. search needs)
     returns-4)
