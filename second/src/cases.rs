@@ -19,27 +19,38 @@ use crate::session::{Event, Outcome, Phase, Run, Session};
 pub use buffers::{Buffer, Part, CAPACITY};
 use buffers::{Buffers, Stretch};
 
-/// Answers each line of the input; a remark is only printed again.
+const REMARK: &[u8] = b"#";
+const ARROW: &str = " -> ";
+
+/// Answers each line of the input.
 pub fn run(mut input: impl BufRead, output: &mut impl Write) -> io::Result<()> {
     let mut desk = Desk::new();
     let mut line = Vec::new();
     while input.read_until(b'\n', &mut line)? > 0 {
         line.pop_if(|last| *last == b'\n');
-        output.write_all(&line)?;
-        if !line.starts_with(b"#") {
-            output.write_all(result(desk.line(&line).as_ref()).as_bytes())?;
-        }
+        let answer = desk.line(&line);
+        output.write_all(&printed(&line, answer.as_ref()))?;
         output.write_all(b"\n")?;
         line.clear();
     }
     Ok(())
 }
 
-/// What is printed behind a line.
-pub fn result(answer: Option<&Answer>) -> String {
-    match answer {
-        Some(answer) => format!(" -> {answer}"),
-        None => String::from(" -> ?"),
+/// A line again with what came out; a remark as it is.
+pub fn printed(line: &[u8], answer: Option<&Answer>) -> Vec<u8> {
+    let mut printed = line.to_vec();
+    if !line.starts_with(REMARK) {
+        let result = answer.map_or_else(|| String::from("?"), Answer::to_string);
+        printed.extend(ARROW.bytes().chain(result.bytes()));
+    }
+    printed
+}
+
+/// The line that was asked, of one that was printed.
+pub fn asked(printed: &str) -> &str {
+    match printed.split_once(ARROW) {
+        Some((line, _)) if !line.as_bytes().starts_with(REMARK) => line,
+        _ => printed,
     }
 }
 

@@ -12,14 +12,8 @@ fn answered(input: &[u8]) -> String {
 
 #[test]
 fn every_line_gives_what_the_paper_says() {
-    let case = |line: &'static str| match line.split_once(" -> ") {
-        Some((case, _)) if !line.starts_with('#') => case,
-        _ => line,
-    };
-    let input: String = LIST
-        .lines()
-        .map(|line| format!("{}\n", case(line)))
-        .collect();
+    let lines = LIST.lines().map(cases::asked);
+    let input: String = lines.map(|line| format!("{line}\n")).collect();
     let output = answered(input.as_bytes());
     for (given, expected) in output.lines().zip(LIST.lines()) {
         assert_eq!(given, expected);

@@ -2,7 +2,7 @@
 
 use std::fs;
 
-use second::cases;
+use second::cases::{self, Desk};
 use second::listing::hex_digits;
 use second::loader::GREETING;
 use second::packet::{ADD, CLOSE, OPEN};
@@ -10,13 +10,12 @@ use second::units::FLASH_END;
 
 use crate::files;
 use crate::loaders::built;
-use crate::programs::alike;
 use crate::random::Random;
 use crate::root;
-use crate::wire::PROGRAM;
+use crate::wire::Wire;
 
 const LIST: &str = "tests/cases.txt";
-const SCRIPTS: u64 = 16;
+const SCRIPTS: u64 = 12;
 const EPISODES: u32 = 12;
 
 const PARTS: [(&str, u32); 7] = [
@@ -32,35 +31,38 @@ const PARTS: [(&str, u32); 7] = [
 /// Compares the stored list and gives its number of lines.
 pub fn compare_list() -> usize {
     let path = root::repository().join(LIST);
-    let list = fs::read(path).unwrap_or_else(|error| panic!("{LIST}: {error}"));
-    let list = String::from_utf8(list).expect("characters");
-    let case = |line| match str::split_once(line, " -> ") {
-        Some((case, _)) if !line.starts_with('#') => case,
-        _ => line,
-    };
-    let input: String = list
-        .lines()
-        .map(|line| format!("{}\n", case(line)))
-        .collect();
-    alike(PROGRAM, input.as_bytes(), list.as_bytes());
-    list.lines().count()
+    let list = fs::read_to_string(path).unwrap_or_else(|error| panic!("{LIST}: {error}"));
+    compare(list.lines().map(|line| {
+        let asked = cases::asked(line);
+        (asked.to_string(), line.as_bytes().to_vec())
+    }))
 }
 
 /// Compares random lines and gives their number.
 pub fn compare_random() -> usize {
     let scripts = (0..SCRIPTS).map(|seed| script(&mut Random::new(1000 + seed)));
-    scripts.map(|script| compare_input(script.as_bytes())).sum()
+    let compared = scripts.map(|script| {
+        let mut desk = Desk::new();
+        compare(script.into_iter().map(|line| {
+            let answer = desk.line(line.as_bytes());
+            let expected = cases::printed(line.as_bytes(), answer.as_ref());
+            (line, expected)
+        }))
+    });
+    compared.sum()
 }
 
-fn compare_input(input: &[u8]) -> usize {
-    let mut expected = Vec::new();
-    cases::run(input, &mut expected).expect("a vector takes all");
-    alike(PROGRAM, input, &expected);
-    input.iter().filter(|byte| **byte == b'\n').count()
+/// Compares lines, each with what must be printed, and gives their number.
+fn compare(lines: impl Iterator<Item = (String, Vec<u8>)>) -> usize {
+    let mut wire = Wire::open();
+    let sent = lines.take_while(|(line, expected)| wire.send(line.as_bytes(), expected.clone()));
+    let count = sent.count();
+    wire.close();
+    count
 }
 
 /// A file, a session over it and a loader, again and again.
-fn script(random: &mut Random) -> String {
+fn script(random: &mut Random) -> Vec<String> {
     let mut lines = Vec::new();
     for line in [
         "# no session yet",
@@ -84,7 +86,7 @@ fn script(random: &mut Random) -> String {
         rehearsals(random, &mut lines);
         desk(random, &mut lines);
     }
-    lines.join("\n") + "\n"
+    lines
 }
 
 fn bytes_and_packets(random: &mut Random, lines: &mut Vec<String>) {

@@ -31,9 +31,8 @@ impl Pair {
     }
 
     fn settle(&mut self) {
-        let settled = self.wire.take().map_or(Ok(()), Wire::close);
-        if let Err(difference) = settled {
-            panic!("{difference}");
+        if let Some(wire) = self.wire.take() {
+            wire.close();
         }
     }
 
@@ -62,8 +61,7 @@ impl Pair {
     fn ask(&mut self, line: impl Into<Vec<u8>>) -> Answer {
         let line = line.into();
         let answer = self.desk.line(&line);
-        let mut expected = line.clone();
-        expected.extend(cases::result(answer.as_ref()).bytes());
+        let expected = cases::printed(&line, answer.as_ref());
         let wire = self.wire.as_mut().expect("an open wire");
         if !wire.send(&line, expected) {
             self.settle();

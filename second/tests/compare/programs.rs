@@ -16,7 +16,7 @@ const PLANS: u32 = 700;
 const LOGS: u32 = 400;
 
 /// What a program prints for an input.
-pub fn printed(path: &str, input: &[u8]) -> Vec<u8> {
+fn printed(path: &str, input: &[u8]) -> Vec<u8> {
     let mut child = root::program(path)
         .stdin(Stdio::piped())
         .stdout(Stdio::piped())
@@ -35,7 +35,7 @@ pub fn printed(path: &str, input: &[u8]) -> Vec<u8> {
     output
 }
 
-pub fn alike(path: &str, input: &[u8], expected: &[u8]) {
+fn alike(path: &str, input: &[u8], expected: &[u8]) {
     let given = printed(path, input);
     if given != expected {
         panic!(

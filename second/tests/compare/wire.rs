@@ -59,8 +59,14 @@ impl Wire {
         }
     }
 
-    /// Waits for all that is printed and tells the first line that differs.
-    pub fn close(self) -> Result<(), String> {
+    /// Waits for all that is printed; a difference ends the test.
+    pub fn close(self) {
+        if let Err(difference) = self.settled() {
+            panic!("{difference}");
+        }
+    }
+
+    fn settled(self) -> Result<(), String> {
         let Wire {
             mut child,
             input,
