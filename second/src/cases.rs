@@ -146,7 +146,7 @@ impl Desk {
         let mut parts = line.splitn(2, |byte| *byte == b' ');
         let (name, rest) = (parts.next()?, parts.next());
         if name == b"record" {
-            return self.take_record(rest.unwrap_or_default());
+            return self.take_record(rest?);
         }
         let words: Vec<&str> = match rest {
             Some(rest) => std::str::from_utf8(rest).ok()?.split(' ').collect(),
@@ -157,7 +157,7 @@ impl Desk {
             (b"fill", [buffer, place, length, byte]) => {
                 self.fill(part(buffer, place, length)?, words::byte(byte)?)
             }
-            (b"put", [buffer, place, bytes @ ..]) => self.put(buffer, place, &words::last(bytes)?),
+            (b"put", [buffer, place, bytes]) => self.put(buffer, place, &words::bytes(bytes)?),
             (b"look", [buffer, place, length]) => {
                 let part = part(buffer, place, length)?;
                 Some(Answer::one(hex_digits(self.look(part))))
@@ -221,30 +221,28 @@ impl Desk {
         match (name, words) {
             (b"turned", [byte]) => self.turn(packet::turned, words::byte(byte)?),
             (b"restored", [byte]) => self.turn(packet::restored, words::byte(byte)?),
-            (b"build", [command, at, data @ ..]) => {
+            (b"build", [command, at, data]) => {
                 let (command, at) = (words::byte(command)?, words::address(at)?);
-                self.build(command, at, &words::last(data)?)
+                self.build(command, at, &words::bytes(data)?)
             }
-            (b"read", input) => self.read(&words::last(input)?),
+            (b"read", [input]) => self.read(&words::bytes(input)?),
             (b"factory", [byte]) => self.factory(words::byte(byte)?),
             (b"reset", []) => self.reset(),
-            (b"take", input) => self.take(&words::last(input)?),
+            (b"take", [input]) => self.take(&words::bytes(input)?),
             (b"hex", []) => self.start_hex(),
             (b"close", []) => self.close(),
             (b"write", [from]) => self.write(words::address(from)?),
             (b"start", [run]) => self.start(words::run(run)?),
-            (b"answer", answer) => self.step(0, &words::last(answer)?),
+            (b"answer", [answer]) => self.step(0, &words::bytes(answer)?),
             (b"silence", []) => self.step(1, &[]),
-            (b"event", [silent, answer @ ..]) => {
-                self.step(words::number(silent)?, &words::last(answer)?)
+            (b"event", [silent, answer]) => {
+                self.step(words::number(silent)?, &words::bytes(answer)?)
             }
             (b"proved", [at]) => self.proved(words::address(at)?),
             (b"outcome", []) => self.outcome(),
             (b"log", []) => self.write_log(),
-            (b"logread", input) => self.read_log(&words::last(input)?),
-            (b"rehearse", [run, losses @ ..]) => {
-                self.rehearse(words::run(run)?, &words::last(losses)?)
-            }
+            (b"logread", [input]) => self.read_log(&words::bytes(input)?),
+            (b"rehearse", [run, losses]) => self.rehearse(words::run(run)?, &words::bytes(losses)?),
             _ => None,
         }
     }

@@ -5,7 +5,7 @@ use std::str::FromStr;
 use crate::boundary;
 use crate::session::Run;
 
-/// An even number of upper-case digits.
+/// An even number of upper-case digits; no bytes are an empty word.
 pub fn bytes(word: &str) -> Option<Vec<u8>> {
     let digits = word.as_bytes();
     if !digits.len().is_multiple_of(2) {
@@ -21,15 +21,6 @@ fn upper_digit(digit: u8) -> Option<u8> {
     match digit {
         b'0'..=b'9' => Some(digit - b'0'),
         b'A'..=b'F' => Some(digit - b'A' + 10),
-        _ => None,
-    }
-}
-
-/// The bytes at a line's end; no bytes may leave no word.
-pub fn last(words: &[&str]) -> Option<Vec<u8>> {
-    match words {
-        [] => Some(vec![]),
-        [word] => bytes(word),
         _ => None,
     }
 }
