@@ -252,23 +252,12 @@ impl Buffers {
     pub fn keep(&mut self, name: Buffer, now: &[u8]) {
         let part = self.part(name);
         let Some(buffer) = part.buffer else { return };
-        let place = part.range().start;
         let kept = &mut self.bytes[buffer as usize][part.range()];
         let blocks = kept.chunks_mut(BLOCK).zip(now.chunks(BLOCK));
-        for (block, (old, new)) in blocks.enumerate() {
-            if old == new {
-                continue;
-            }
-            for (index, (old, new)) in old.iter_mut().zip(new).enumerate() {
-                if old != new {
-                    *old = *new;
-                    note(
-                        &mut self.changed,
-                        buffer,
-                        place + block * BLOCK + index,
-                        *new,
-                    );
-                }
+        for (place, (old, new)) in part.range().step_by(BLOCK).zip(blocks) {
+            if old != new {
+                note(&mut self.changed, (buffer, place), old, new);
+                old.copy_from_slice(new);
             }
         }
     }
@@ -291,13 +280,17 @@ impl Buffers {
     }
 }
 
-fn note(stretches: &mut Vec<Stretch>, buffer: Buffer, place: usize, byte: u8) {
-    match stretches.last_mut() {
-        Some(last) if last.ends_at(buffer, place) => last.bytes.push(byte),
-        _ => stretches.push(Stretch {
-            buffer,
-            place,
-            bytes: vec![byte],
-        }),
+/// Notes the bytes of a block that are not as they were.
+fn note(stretches: &mut Vec<Stretch>, (buffer, place): (Buffer, usize), old: &[u8], new: &[u8]) {
+    let bytes = (place..).zip(old.iter().zip(new));
+    for (place, (_, byte)) in bytes.filter(|(_, (old, new))| old != new) {
+        match stretches.last_mut() {
+            Some(last) if last.ends_at(buffer, place) => last.bytes.push(*byte),
+            _ => stretches.push(Stretch {
+                buffer,
+                place,
+                bytes: vec![*byte],
+            }),
+        }
     }
 }

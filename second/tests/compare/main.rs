@@ -1,7 +1,6 @@
 //! The product compared with the second program, call by call and byte by
-//! byte, on random requests that are the same in every run. The product's
-//! programs must have been built. With `--nocapture` the counts are
-//! printed.
+//! byte, on random case lines that are the same in every run. The product's
+//! programs must have been built. With `--nocapture` the counts are printed.
 
 mod caselines;
 mod examples;

@@ -134,17 +134,30 @@ fn file(pair: &mut Pair, random: &mut Random) {
 fn refused_over_an_empty_map(pair: &mut Pair, random: &mut Random) {
     for phase in 0..7 {
         for total in [0, 1, 3, 4] {
+            let place = random.pick(&[0, 0, 0, 40, 42]);
             let state = SessionRecord {
-                phase,
-                outcome: random.pick(&[0, 0, 0, 40, 42]),
                 acknowledged: random.pick(&[0, 1, total]),
                 total,
-                ..SessionRecord::default()
+                ..placed(phase, place)
             };
             step_right(pair, state);
             pair.proved(state, MAP, random.below(FLASH_END));
         }
     }
+}
+
+/// A phase with a value in the field that goes with it.
+fn placed(phase: u32, value: u32) -> SessionRecord {
+    let mut record = SessionRecord {
+        phase,
+        ..SessionRecord::default()
+    };
+    match phase {
+        1 => record.page = value,
+        2 | 3 => record.address = value,
+        _ => record.outcome = value,
+    }
+    record
 }
 
 /// Greetings with one byte other than it is, free or not.
