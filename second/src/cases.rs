@@ -197,9 +197,9 @@ impl Desk {
 
     fn changed(&self) -> Answer {
         let words = |stretch: &Stretch| {
-            let place = format!("{:08X}", stretch.place);
             let buffer = stretch.buffer.word().to_string();
-            [buffer, place, hex_digits(&stretch.bytes)]
+            let place = format!("{:08X}", stretch.places.start);
+            [buffer, place, hex_digits(self.buffers.bytes(stretch))]
         };
         let stretches = self.buffers.changed();
         Answer::done(stretches.iter().flat_map(words).collect())

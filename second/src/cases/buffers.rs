@@ -163,17 +163,30 @@ impl Part {
     }
 }
 
-/// Bytes that are not as before the call, with none like that next to them.
+/// Places of one buffer, not none.
 #[derive(Clone, Debug, PartialEq, Eq)]
 pub struct Stretch {
     pub buffer: Buffer,
-    pub place: usize,
-    pub bytes: Vec<u8>,
+    pub places: Range<usize>,
 }
 
 impl Stretch {
     fn ends_at(&self, buffer: Buffer, place: usize) -> bool {
-        self.buffer == buffer && self.place + self.bytes.len() == place
+        self.buffer == buffer && self.places.end == place
+    }
+
+    /// What is left of it below and above a part.
+    fn without(self, part: Part) -> impl Iterator<Item = Stretch> {
+        let (buffer, places, gone) = (self.buffer, self.places, part.range());
+        let left = match part.buffer == Some(buffer) {
+            true => [
+                places.start..places.end.min(gone.start),
+                places.start.max(gone.end)..places.end,
+            ],
+            false => [places, 0..0],
+        };
+        let left = left.into_iter().filter(|places| !places.is_empty());
+        left.map(move |places| Stretch { buffer, places })
     }
 }
 
@@ -182,6 +195,7 @@ pub struct Buffers {
     bytes: Vec<Vec<u8>>,
     /// What is lent for the part that has a buffer's name.
     lent: Vec<Option<Part>>,
+    /// Where bytes are not as before the last call.
     changed: Vec<Stretch>,
 }
 
@@ -207,7 +221,10 @@ impl Buffers {
         }
     }
 
+    /// The bytes of a part to be set by a line, not by a call.
     pub fn set(&mut self, part: Part) -> &mut [u8] {
+        let changed = std::mem::take(&mut self.changed).into_iter();
+        self.changed = changed.flat_map(|stretch| stretch.without(part)).collect();
         match part.buffer {
             Some(buffer) => &mut self.bytes[buffer as usize][part.range()],
             None => &mut [],
@@ -243,8 +260,8 @@ impl Buffers {
                 return None;
             }
         }
-        self.set(input).copy_from_slice(brought);
         self.changed.clear();
+        self.set(input).copy_from_slice(brought);
         Some(())
     }
 
@@ -262,34 +279,38 @@ impl Buffers {
         }
     }
 
-    /// What the last call changed, in the order of the buffers, ascending.
+    /// What the last call changed and no line has set since, in the order of
+    /// the buffers, ascending.
     pub fn changed(&self) -> Vec<Stretch> {
-        let mut pieces: Vec<&Stretch> = self.changed.iter().collect();
-        pieces.sort_by_key(|piece| (piece.buffer, piece.place));
+        let mut pieces = self.changed.clone();
+        pieces.sort_by_key(|piece| (piece.buffer, piece.places.start));
         let mut stretches: Vec<Stretch> = Vec::new();
         for piece in pieces {
             match stretches.last_mut() {
                 // two parts that lie side by side
-                Some(last) if last.ends_at(piece.buffer, piece.place) => {
-                    last.bytes.extend(&piece.bytes);
+                Some(last) if last.ends_at(piece.buffer, piece.places.start) => {
+                    last.places.end = piece.places.end;
                 }
-                _ => stretches.push(piece.clone()),
+                _ => stretches.push(piece),
             }
         }
         stretches
+    }
+
+    pub fn bytes(&self, stretch: &Stretch) -> &[u8] {
+        &self.bytes[stretch.buffer as usize][stretch.places.clone()]
     }
 }
 
 /// Notes the bytes of a block that are not as they were.
 fn note(stretches: &mut Vec<Stretch>, (buffer, place): (Buffer, usize), old: &[u8], new: &[u8]) {
     let bytes = (place..).zip(old.iter().zip(new));
-    for (place, (_, byte)) in bytes.filter(|(_, (old, new))| old != new) {
+    for (place, _) in bytes.filter(|(_, (old, new))| old != new) {
         match stretches.last_mut() {
-            Some(last) if last.ends_at(buffer, place) => last.bytes.push(*byte),
+            Some(last) if last.ends_at(buffer, place) => last.places.end += 1,
             _ => stretches.push(Stretch {
                 buffer,
-                place,
-                bytes: vec![*byte],
+                places: place..place + 1,
             }),
         }
     }

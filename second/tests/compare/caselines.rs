@@ -279,7 +279,7 @@ fn desk(random: &mut Random, lines: &mut Vec<String>) {
         lines.push(format!("look {buffer} {place:08X} {}", random.below(3)));
         let byte = random.byte();
         lines.push(format!("fill {buffer} {place:08X} {length} {byte:02X}"));
-        lines.push(format!("look {buffer} {place:08X} {}", random.below(4)));
+        lines.push("changed".to_string());
     }
     let record = random.pick(&[("loader", 7), ("reader", 4), ("session", 8)]);
     made_up(random, lines, record);
