@@ -14,7 +14,7 @@ pub const IMAGE: Part = Part::new(Buffer::Image, 333, FLASH_END);
 pub const MAP: Part = Part::new(Buffer::Map, 4001, MAP_BYTES as u32);
 /// The image as it is lent with a byte too many, which nothing may meet.
 pub const NEXT_TO_IMAGE: Part = Part::new(Buffer::Image, 333, FLASH_END + 1);
-const RECORD: Part = Part::new(Buffer::Record, 100, 60);
+const RECORD: Part = Part::new(Buffer::Record, 101, 60);
 
 const FILES: u32 = 240;
 pub const END: &[u8] = b":00000001FF";
@@ -215,6 +215,7 @@ pub fn encoded(address: u16, kind: u8, data: &[u8]) -> Vec<u8> {
     format!(":{}", hex_digits(&bytes)).into_bytes()
 }
 
+/// Records from all addresses; image and map are only read and may overlap.
 fn write(pair: &mut Pair, random: &mut Random) {
     let bytes = random.bytes(FLASH_END);
     pair.set(IMAGE, &bytes);
@@ -225,7 +226,10 @@ fn write(pair: &mut Pair, random: &mut Random) {
         let near = random.within(0xF7E0, 0xF804);
         let inside = random.below(FLASH_END);
         let from = random.pick(&[0, any, near, near, inside, inside, inside]);
-        let (image, map) = lent(random);
+        let (image, map) = match random.once_in(10) {
+            true => (IMAGE, IMAGE.with_length(MAP.length())),
+            false => lent(random),
+        };
         let buffer = match random.below(8) {
             0 => RECORD.with_length(random.within(40, 44)),
             1 => RECORD.with_length(random.below(44)),

@@ -9,10 +9,10 @@ use crate::packets::seal;
 use crate::pair::Pair;
 use crate::random::Random;
 
-pub const FLASH: Part = Part::new(Buffer::Flash, 1000, FLASH_END);
+pub const FLASH: Part = Part::new(Buffer::Flash, 1001, FLASH_END);
 /// The flash as it is lent with a byte too many, which nothing may meet.
-const NEXT_TO_FLASH: Part = Part::new(Buffer::Flash, 1000, FLASH_END + 1);
-const ANSWER: Part = Part::new(Buffer::Answer, 500, 24);
+const NEXT_TO_FLASH: Part = Part::new(Buffer::Flash, 1001, FLASH_END + 1);
+const ANSWER: Part = Part::new(Buffer::Answer, 503, 24);
 
 const RUNS: u32 = 12;
 const INPUTS: u32 = 2500;

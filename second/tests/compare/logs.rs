@@ -6,7 +6,7 @@ use second::cases::{Buffer, Part};
 use crate::pair::Pair;
 use crate::random::Random;
 
-const RECORD: Part = Part::new(Buffer::Log, 60, 10);
+const RECORD: Part = Part::new(Buffer::Log, 61, 10);
 
 pub fn compare(pair: &mut Pair) {
     let mut random = Random::new(5);

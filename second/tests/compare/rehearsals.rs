@@ -12,9 +12,9 @@ use crate::pair::Pair;
 use crate::random::Random;
 use crate::sessions::PACKET;
 
-const ANSWER: Part = Part::new(Buffer::Answer, 40, 24);
-const LOG: Part = Part::new(Buffer::Log, 8, 10);
-const FLASH: Part = Part::new(Buffer::Flash, 2222, FLASH_END);
+const ANSWER: Part = Part::new(Buffer::Answer, 41, 24);
+const LOG: Part = Part::new(Buffer::Log, 9, 10);
+const FLASH: Part = Part::new(Buffer::Flash, 2223, FLASH_END);
 
 const KINDS: [Exchange; 2] = [Exchange::PacketLost, Exchange::AnswerLost];
 

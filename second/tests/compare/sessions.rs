@@ -11,7 +11,7 @@ use crate::maps;
 use crate::pair::Pair;
 use crate::random::Random;
 
-pub const PACKET: Part = Part::new(Buffer::Packet, 500, 259);
+pub const PACKET: Part = Part::new(Buffer::Packet, 501, 259);
 /// The map of another file over the same image, much like the session's.
 const OTHER_MAP: Part = Part::new(Buffer::Other, 77, MAP_BYTES as u32);
 /// A map of any kind.
