@@ -1,390 +1,484 @@
 //! Case lines: each line is printed again with what came out.
 
-use std::io::{self, Write};
+mod buffers;
+mod words;
 
+use std::fmt;
+use std::io::{self, BufRead, Write};
+
+use crate::boundary::{LoaderRecord, ReaderRecord, SessionRecord};
 use crate::hex::{self, Reader};
 use crate::line::{self, Exchange};
-use crate::listing::{hex_digits, lines, log_line};
-use crate::loader::{Loader, GREETING};
+use crate::listing::{hex_digits, log_line};
+use crate::loader::Loader;
 use crate::log;
 use crate::packet;
 use crate::refusal::Refusal;
-use crate::session::{Event, Phase, Run, Session};
-use crate::units::{FLASH_BYTES, MAP_BYTES};
+use crate::session::{Event, Outcome, Phase, Run, Session};
 
-/// What fills the packet buffer before a packet is built.
-const BEFOREHAND: u8 = 0xAA;
+pub use buffers::{Buffer, Part, CAPACITY};
+use buffers::{Buffers, Stretch};
 
-/// The values a line brings out, or its refusal with any answer.
-type Shown = Result<Vec<String>, (Refusal, String)>;
+const REMARK: &[u8] = b"#";
+const ARROW: &str = " -> ";
 
-/// Answers every line of the input.
-pub fn run(input: &[u8], output: &mut impl Write) -> io::Result<()> {
+/// Answers each line of the input.
+pub fn run(mut input: impl BufRead, output: &mut impl Write) -> io::Result<()> {
     let mut desk = Desk::new();
-    for line in lines(input) {
-        let line = line.strip_suffix(b"\n").unwrap_or(line);
-        output.write_all(line)?;
-        match desk.line(line) {
-            Some(shown) => writeln!(output, " -> {}", in_words(shown))?,
-            None => writeln!(output, " -> ?")?,
-        }
+    let mut line = Vec::new();
+    while input.read_until(b'\n', &mut line)? > 0 {
+        line.pop_if(|last| *last == b'\n');
+        let answer = desk.line(&line);
+        output.write_all(&printed(&line, answer.as_ref()))?;
+        output.write_all(b"\n")?;
+        line.clear();
     }
     Ok(())
 }
 
-/// The number, then what has any bytes, with single spaces.
-fn in_words(shown: Shown) -> String {
-    let (number, values) = match shown {
-        Ok(values) => (0, values),
-        Err((refusal, answer)) => (refusal.number(), vec![answer]),
-    };
-    let mut words = number.to_string();
-    for value in values.iter().filter(|value| !value.is_empty()) {
-        words.push(' ');
-        words.push_str(value);
+/// A line again with what came out; a remark as it is.
+pub fn printed(line: &[u8], answer: Option<&Answer>) -> Vec<u8> {
+    let mut printed = line.to_vec();
+    if !line.starts_with(REMARK) {
+        let result = answer.map_or_else(|| String::from("?"), Answer::to_string);
+        printed.extend(ARROW.bytes().chain(result.bytes()));
     }
-    words
+    printed
 }
 
-/// A buffer of its first length plus one, and how much of it is lent.
-struct Buffer {
-    bytes: Vec<u8>,
-    lent: usize,
+/// The line that was asked, of one that was printed.
+pub fn asked(printed: &str) -> &str {
+    match printed.split_once(ARROW) {
+        Some((line, _)) if !line.as_bytes().starts_with(REMARK) => line,
+        _ => printed,
+    }
 }
 
-impl Buffer {
-    fn new(length: usize, filling: u8) -> Buffer {
-        Buffer {
-            bytes: vec![filling; length + 1],
-            lent: length,
+/// What came out of a line.
+#[derive(Clone, Debug, PartialEq, Eq)]
+pub struct Answer {
+    /// That of the refusal, 0 when it was done.
+    pub number: u8,
+    pub values: Vec<String>,
+}
+
+impl Answer {
+    fn done(values: Vec<String>) -> Answer {
+        Answer { number: 0, values }
+    }
+
+    fn one(value: String) -> Answer {
+        Answer::done(vec![value])
+    }
+
+    fn nothing() -> Answer {
+        Answer::done(vec![])
+    }
+
+    fn of(done: Result<Vec<String>, Refusal>) -> Answer {
+        match done {
+            Ok(values) => Answer::done(values),
+            Err(refusal) => Answer {
+                number: refusal.number(),
+                values: vec![],
+            },
         }
     }
+}
 
-    fn lent(&self) -> &[u8] {
-        &self.bytes[..self.lent]
-    }
-
-    fn lent_mut(&mut self) -> &mut [u8] {
-        &mut self.bytes[..self.lent]
-    }
-
-    /// The bytes of the first length, however much is lent.
-    fn look(&self, from: usize, count: usize) -> Option<String> {
-        let whole = &self.bytes[..self.bytes.len() - 1];
-        let end = from.checked_add(count)?;
-        whole.get(from..end).map(hex_digits)
+/// The number, then each value that is not empty behind a single space.
+impl fmt::Display for Answer {
+    fn fmt(&self, out: &mut fmt::Formatter) -> fmt::Result {
+        write!(out, "{}", self.number)?;
+        let mut shown = self.values.iter().filter(|value| !value.is_empty());
+        shown.try_for_each(|value| write!(out, " {value}"))
     }
 }
 
-struct Desk {
-    loader: Loader,
-    flash: Buffer,
-    answer: Buffer,
-    reader: Reader,
-    image: Buffer,
-    map: Buffer,
-    session: Option<Session>,
-    packet: Buffer,
-    record: Buffer,
-    log: Buffer,
+/// What is kept from line to line.
+pub struct Desk {
+    buffers: Buffers,
+    loader: LoaderRecord,
+    reader: ReaderRecord,
+    session: Option<SessionRecord>,
+}
+
+impl Default for Desk {
+    fn default() -> Desk {
+        Desk::new()
+    }
 }
 
 impl Desk {
-    fn new() -> Desk {
-        let mut image = Buffer::new(FLASH_BYTES, 0xFF);
-        let mut map = Buffer::new(MAP_BYTES, 0);
-        let reader = Reader::start(image.lent_mut(), map.lent_mut()).expect("right sizes");
+    pub fn new() -> Desk {
         Desk {
-            loader: Loader::factory(),
-            flash: Buffer::new(FLASH_BYTES, 0xFF),
-            answer: Buffer::new(GREETING.len(), 0),
-            reader,
-            image,
-            map,
+            buffers: Buffers::new(),
+            loader: Loader::factory().into(),
+            reader: ReaderRecord::default(),
             session: None,
-            packet: Buffer::new(packet::LONGEST, 0),
-            record: Buffer::new(hex::RECORD_BUFFER, 0),
-            log: Buffer::new(log::RECORD, 0),
         }
     }
 
+    pub fn loader(&self) -> LoaderRecord {
+        self.loader
+    }
+
+    pub fn reader(&self) -> ReaderRecord {
+        self.reader
+    }
+
+    pub fn session(&self) -> Option<SessionRecord> {
+        self.session
+    }
+
+    /// The bytes of a part as they stand.
+    pub fn look(&self, part: Part) -> &[u8] {
+        self.buffers.look(part)
+    }
+
+    /// What is lent under a name.
+    pub fn lent(&self, name: Buffer) -> Part {
+        self.buffers.part(name)
+    }
+
     /// Does one line; a line that is no case gives nothing.
-    fn line(&mut self, line: &[u8]) -> Option<Shown> {
+    pub fn line(&mut self, line: &[u8]) -> Option<Answer> {
         let mut parts = line.splitn(2, |byte| *byte == b' ');
         let (name, rest) = (parts.next()?, parts.next());
         if name == b"record" {
-            return Some(self.take_record(rest.unwrap_or(&[])));
+            return self.take_record(rest?);
         }
         let words: Vec<&str> = match rest {
             Some(rest) => std::str::from_utf8(rest).ok()?.split(' ').collect(),
             None => vec![],
         };
-        match (name, words.as_slice()) {
-            (b"lend", [which, length]) => self.lend(which, number(length)?),
-            (b"turned", [byte]) => Some(one(hex_digits(&[packet::turned(single(byte)?)]))),
-            (b"restored", [byte]) => Some(one(hex_digits(&[packet::restored(single(byte)?)]))),
-            (b"build", [command, at]) => self.build(command, at, ""),
-            (b"build", [command, at, data]) => self.build(command, at, data),
-            (b"read", input) => Some(read(&bytes(lone(input)?)?)),
-            (b"factory", [byte]) => self.factory(single(byte)?),
-            (b"reset", []) => self.reset(),
-            (b"take", input) => Some(self.take(&bytes(lone(input)?)?)),
-            (b"flash", [at, count]) => look(&self.flash, address(at)?, number(count)?),
-            (b"hex", []) => Some(self.start_hex()),
-            (b"close", []) => Some(nothing(self.reader.close())),
-            (b"image", [at, count]) => look(&self.image, address(at)?, number(count)?),
-            (b"map", [from, count]) => {
-                let from = u32::try_from(number(from)?).ok()?;
-                look(&self.map, from, number(count)?)
+        match (name, &words[..]) {
+            (b"lend", [name, part @ ..]) => self.lend(name, part),
+            (b"fill", [buffer, place, length, byte]) => {
+                self.fill(part(buffer, place, length)?, words::byte(byte)?)
             }
-            (b"write", [from]) => Some(self.write(address(from)?)),
-            (b"start", [run]) => Some(self.start(kind(run)?)),
-            (b"answer", answer) => self.step(Event::Answer(&bytes(lone(answer)?)?)),
-            (b"silence", []) => self.step(Event::Silence),
-            (b"proved", [at]) => self.proved(address(at)?),
-            (b"log", []) => self.write_log(),
-            (b"logread", input) => Some(read_log(&bytes(lone(input)?)?)),
-            (b"rehearse", [run]) => Some(self.rehearse(kind(run)?, &[])),
-            (b"rehearse", [run, list]) => Some(self.rehearse(kind(run)?, &exchanges(list)?)),
-            _ => None,
+            (b"put", [buffer, place, bytes]) => self.put(buffer, place, &words::bytes(bytes)?),
+            (b"look", [buffer, place, length]) => {
+                let part = part(buffer, place, length)?;
+                Some(Answer::one(hex_digits(self.look(part))))
+            }
+            (b"changed", []) => Some(self.changed()),
+            (b"loader", []) => Some(shown(&self.loader.fields())),
+            (b"reader", []) => Some(shown(&self.reader.fields())),
+            (b"session", []) => Some(shown(&self.session?.fields())),
+            (b"loader" | b"reader" | b"session", fields) => self.set_record(name, fields),
+            (name, words) => self.ask(name, words),
         }
     }
 
-    fn lend(&mut self, which: &str, length: usize) -> Option<Shown> {
-        let buffer = match which {
-            "flash" => &mut self.flash,
-            "answer" => &mut self.answer,
-            "image" => &mut self.image,
-            "map" => &mut self.map,
-            "packet" => &mut self.packet,
-            "record" => &mut self.record,
-            "log" => &mut self.log,
+    fn lend(&mut self, name: &str, words: &[&str]) -> Option<Answer> {
+        let name = Buffer::from_word(name)?;
+        let part = match words {
+            ["null"] => Part::NULL,
+            [length] => Part::within(name, 0, words::number(length)?)?,
+            [buffer, place, length] => part(buffer, place, length)?,
             _ => return None,
         };
-        if length > buffer.bytes.len() {
-            return None;
+        self.buffers.lend(name, part)?;
+        Some(Answer::nothing())
+    }
+
+    fn fill(&mut self, part: Part, byte: u8) -> Option<Answer> {
+        self.buffers.set(part).fill(byte);
+        Some(Answer::nothing())
+    }
+
+    fn put(&mut self, buffer: &str, place: &str, bytes: &[u8]) -> Option<Answer> {
+        let (buffer, place) = (Buffer::from_word(buffer)?, words::address(place)?);
+        let part = Part::within(buffer, place, bytes.len().try_into().ok()?)?;
+        self.buffers.set(part).copy_from_slice(bytes);
+        Some(Answer::nothing())
+    }
+
+    fn changed(&self) -> Answer {
+        let words = |stretch: &Stretch| {
+            let buffer = stretch.buffer.word().to_string();
+            let place = format!("{:08X}", stretch.places.start);
+            [buffer, place, hex_digits(self.buffers.bytes(stretch))]
+        };
+        let stretches = self.buffers.changed();
+        Answer::done(stretches.iter().flat_map(words).collect())
+    }
+
+    fn set_record(&mut self, name: &[u8], fields: &[&str]) -> Option<Answer> {
+        let fields: Option<Vec<u64>> = fields.iter().map(|word| words::number(word)).collect();
+        let fields = fields?;
+        match name {
+            b"loader" => self.loader = LoaderRecord::of_fields(&fields)?,
+            b"reader" => self.reader = ReaderRecord::of_fields(&fields)?,
+            _ => self.session = Some(SessionRecord::of_fields(&fields)?),
         }
-        buffer.lent = length;
-        Some(Ok(vec![]))
+        Some(Answer::nothing())
     }
 
-    fn build(&mut self, command: &str, at: &str, data: &str) -> Option<Shown> {
-        let (command, at, data) = (single(command)?, address(at)?, bytes(data)?);
-        let buffer = self.packet.lent_mut();
-        buffer.fill(BEFOREHAND);
-        Some(match packet::build(buffer, command, at, &data) {
-            Ok(length) => one(hex_digits(&buffer[..length])),
-            Err(refusal) => refused(refusal),
-        })
-    }
-
-    fn factory(&mut self, filling: u8) -> Option<Shown> {
-        self.loader = Loader::factory();
-        self.flash.bytes.fill(filling);
-        Some(Ok(vec![]))
-    }
-
-    fn reset(&mut self) -> Option<Shown> {
-        self.loader.reset();
-        Some(Ok(vec![]))
-    }
-
-    fn take(&mut self, input: &[u8]) -> Shown {
-        let answer = self.answer.lent_mut();
-        match self.loader.take(input, self.flash.lent_mut(), answer) {
-            Ok(length) => one(hex_digits(&answer[..length])),
-            Err(refusal) if refusal.answered() => Err((refusal, hex_digits(&answer[..1]))),
-            Err(refusal) => refused(refusal),
-        }
-    }
-
-    fn start_hex(&mut self) -> Shown {
-        let started = Reader::start(self.image.lent_mut(), self.map.lent_mut());
-        nothing(started.map(|reader| self.reader = reader))
-    }
-
-    fn take_record(&mut self, text: &[u8]) -> Shown {
-        let (image, map) = (self.image.lent_mut(), self.map.lent_mut());
-        nothing(self.reader.record(text, image, map))
-    }
-
-    fn write(&mut self, from: u32) -> Shown {
-        let record = self.record.lent_mut();
-        match hex::write(self.image.lent(), self.map.lent(), from, record) {
-            Ok((length, next)) => {
-                let text = record[..length].strip_suffix(b"\n").unwrap_or(&[]);
-                let text = text.iter().map(|byte| char::from(*byte)).collect();
-                Ok(vec![text, format!("{next:08X}")])
+    /// Asks one part for something.
+    fn ask(&mut self, name: &[u8], words: &[&str]) -> Option<Answer> {
+        match (name, words) {
+            (b"turned", [byte]) => self.turn(packet::turned, words::byte(byte)?),
+            (b"restored", [byte]) => self.turn(packet::restored, words::byte(byte)?),
+            (b"build", [command, at, data]) => {
+                let (command, at) = (words::byte(command)?, words::address(at)?);
+                self.build(command, at, &words::bytes(data)?)
             }
-            Err(refusal) => refused(refusal),
-        }
-    }
-
-    fn start(&mut self, run: Run) -> Shown {
-        let packet = self.packet.lent_mut();
-        match Session::start(run, self.image.lent(), self.map.lent(), packet) {
-            Ok((session, length)) => {
-                self.session = Some(session);
-                one(hex_digits(&packet[..length]))
+            (b"read", [input]) => self.read(&words::bytes(input)?),
+            (b"factory", [byte]) => self.factory(words::byte(byte)?),
+            (b"reset", []) => self.reset(),
+            (b"take", [input]) => self.take(&words::bytes(input)?),
+            (b"hex", []) => self.start_hex(),
+            (b"close", []) => self.close(),
+            (b"write", [from]) => self.write(words::address(from)?),
+            (b"start", [run]) => self.start(words::run(run)?),
+            (b"answer", [answer]) => self.step(0, &words::bytes(answer)?),
+            (b"silence", []) => self.step(1, &[]),
+            (b"event", [silent, answer]) => {
+                self.step(words::number(silent)?, &words::bytes(answer)?)
             }
-            Err(refusal) => refused(refusal),
-        }
-    }
-
-    fn step(&mut self, event: Event) -> Option<Shown> {
-        let session = self.session?;
-        let packet = self.packet.lent_mut();
-        Some(
-            match session.step(event, self.image.lent(), self.map.lent(), packet) {
-                Ok((next, length)) => {
-                    self.session = Some(next);
-                    match next.phase {
-                        Phase::Ended(outcome) => one(format!("ended {}", outcome.number())),
-                        _ => one(hex_digits(&packet[..length])),
-                    }
-                }
-                Err(refusal) => refused(refusal),
-            },
-        )
-    }
-
-    fn proved(&self, at: u32) -> Option<Shown> {
-        let session = self.session?;
-        Some(match session.proved(self.map.lent(), at) {
-            Ok(proved) => one(u8::from(proved).to_string()),
-            Err(refusal) => refused(refusal),
-        })
-    }
-
-    fn write_log(&mut self) -> Option<Shown> {
-        let session = self.session?;
-        let buffer = self.log.lent_mut();
-        Some(match log::write(&session, buffer) {
-            Ok(length) => one(hex_digits(&buffer[..length])),
-            Err(refusal) => refused(refusal),
-        })
-    }
-
-    fn rehearse(&mut self, run: Run, exchanges: &[Exchange]) -> Shown {
-        let (image, map) = (self.image.lent(), self.map.lent());
-        let flash = self.flash.lent_mut();
-        match line::rehearse(run, image, map, &mut self.loader, flash, exchanges) {
-            Ok(session) => Ok(vec![ending(&session), session.acknowledged.to_string()]),
-            Err(refusal) => refused(refusal),
-        }
-    }
-}
-
-fn ending(session: &Session) -> String {
-    match session.phase {
-        Phase::Ended(outcome) => format!("ended {}", outcome.number()),
-        _ => String::new(),
-    }
-}
-
-fn read(input: &[u8]) -> Shown {
-    match packet::read(input) {
-        Ok(packet) => Ok(vec![
-            hex_digits(&[packet.command.byte()]),
-            format!("{:08X}", packet.address),
-            packet.place.to_string(),
-            packet.length.to_string(),
-        ]),
-        Err(refusal) => refused(refusal),
-    }
-}
-
-fn read_log(input: &[u8]) -> Shown {
-    match log::read(input) {
-        Ok(entry) => one(log_line(&entry)),
-        Err(refusal) => refused(refusal),
-    }
-}
-
-fn look(buffer: &Buffer, from: u32, count: usize) -> Option<Shown> {
-    buffer.look(from as usize, count).map(one)
-}
-
-fn one(value: String) -> Shown {
-    Ok(vec![value])
-}
-
-fn nothing(done: Result<(), Refusal>) -> Shown {
-    match done {
-        Ok(()) => Ok(vec![]),
-        Err(refusal) => refused(refusal),
-    }
-}
-
-fn refused(refusal: Refusal) -> Shown {
-    Err((refusal, String::new()))
-}
-
-/// The one word of a line; no bytes may leave none.
-fn lone<'a>(words: &[&'a str]) -> Option<&'a str> {
-    match words {
-        [] => Some(""),
-        [word] => Some(word),
-        _ => None,
-    }
-}
-
-fn bytes(word: &str) -> Option<Vec<u8>> {
-    let digits = word.as_bytes();
-    if !digits.len().is_multiple_of(2) {
-        return None;
-    }
-    digits
-        .chunks_exact(2)
-        .map(|pair| Some(upper_digit(pair[0])? << 4 | upper_digit(pair[1])?))
-        .collect()
-}
-
-fn upper_digit(digit: u8) -> Option<u8> {
-    match digit {
-        b'0'..=b'9' => Some(digit - b'0'),
-        b'A'..=b'F' => Some(digit - b'A' + 10),
-        _ => None,
-    }
-}
-
-fn single(word: &str) -> Option<u8> {
-    match bytes(word)?[..] {
-        [byte] => Some(byte),
-        _ => None,
-    }
-}
-
-fn address(word: &str) -> Option<u32> {
-    let bytes: [u8; 4] = bytes(word)?.try_into().ok()?;
-    Some(u32::from_be_bytes(bytes))
-}
-
-/// A decimal number without leading zeros.
-fn number(word: &str) -> Option<usize> {
-    let plain = word.bytes().all(|digit| digit.is_ascii_digit());
-    if !plain || (word.len() > 1 && word.starts_with('0')) {
-        return None;
-    }
-    word.parse().ok()
-}
-
-fn kind(word: &str) -> Option<Run> {
-    match word {
-        "reset" => Some(Run::Reset),
-        "jump" => Some(Run::Jump),
-        _ => None,
-    }
-}
-
-fn exchanges(word: &str) -> Option<Vec<Exchange>> {
-    bytes(word)?
-        .into_iter()
-        .map(|byte| match byte {
-            0 => Some(Exchange::Whole),
-            1 => Some(Exchange::PacketLost),
-            2 => Some(Exchange::AnswerLost),
+            (b"proved", [at]) => self.proved(words::address(at)?),
+            (b"outcome", []) => self.outcome(),
+            (b"log", []) => self.write_log(),
+            (b"logread", [input]) => self.read_log(&words::bytes(input)?),
+            (b"rehearse", [run, losses]) => self.rehearse(words::run(run)?, &words::bytes(losses)?),
             _ => None,
+        }
+    }
+
+    fn turn(&mut self, turn: fn(u8) -> u8, byte: u8) -> Option<Answer> {
+        self.buffers.call(&[], &[], &[])?;
+        Some(Answer::one(hex_digits(&[turn(byte)])))
+    }
+
+    fn build(&mut self, command: u8, at: u32, data: &[u8]) -> Option<Answer> {
+        self.buffers.call(data, &[Buffer::Packet], &[])?;
+        let mut packet = self.buffers.lent(Buffer::Packet).to_vec();
+        let built = packet::build(&mut packet, command, at, data);
+        self.buffers.keep(Buffer::Packet, &packet);
+        let shown = built.map(|length| vec![hex_digits(&packet[..length])]);
+        Some(Answer::of(shown))
+    }
+
+    fn read(&mut self, input: &[u8]) -> Option<Answer> {
+        self.buffers.call(input, &[], &[])?;
+        Some(Answer::of(packet::read(input).map(|packet| {
+            vec![
+                hex_digits(&[packet.command.byte()]),
+                format!("{:08X}", packet.address),
+                packet.place.to_string(),
+                packet.length.to_string(),
+            ]
+        })))
+    }
+
+    fn factory(&mut self, filling: u8) -> Option<Answer> {
+        self.buffers.call(&[], &[], &[])?;
+        self.loader = Loader::factory().into();
+        self.fill(Part::new(Buffer::Flash, 0, CAPACITY), filling)
+    }
+
+    fn reset(&mut self) -> Option<Answer> {
+        self.buffers.call(&[], &[], &[])?;
+        let mut loader = self.loader.meaning();
+        loader.reset();
+        self.loader = loader.into();
+        Some(Answer::nothing())
+    }
+
+    fn take(&mut self, input: &[u8]) -> Option<Answer> {
+        self.buffers
+            .call(input, &[Buffer::Flash, Buffer::Answer], &[])?;
+        let mut loader = self.loader.meaning();
+        let mut flash = self.buffers.lent(Buffer::Flash).to_vec();
+        let mut answer = self.buffers.lent(Buffer::Answer).to_vec();
+        let taken = loader.take(input, &mut flash, &mut answer);
+        self.buffers.keep(Buffer::Flash, &flash);
+        self.buffers.keep(Buffer::Answer, &answer);
+        let (number, answered) = match taken {
+            Ok(length) => {
+                self.loader = self.loader.followed_by(loader);
+                (0, length)
+            }
+            Err(refusal) => (refusal.number(), refusal.answered().into()),
+        };
+        Some(Answer {
+            number,
+            values: vec![hex_digits(&answer[..answered])],
         })
-        .collect()
+    }
+
+    fn start_hex(&mut self) -> Option<Answer> {
+        self.over_file(&[], |_, image, map| Reader::start(image, map))
+    }
+
+    fn take_record(&mut self, text: &[u8]) -> Option<Answer> {
+        self.over_file(text, |mut reader, image, map| {
+            reader.record(text, image, map).map(|()| reader)
+        })
+    }
+
+    /// Makes a call that gives a reader and may write image and map.
+    fn over_file(
+        &mut self,
+        brought: &[u8],
+        call: impl Fn(Reader, &mut [u8], &mut [u8]) -> Result<Reader, Refusal>,
+    ) -> Option<Answer> {
+        self.buffers
+            .call(brought, &[Buffer::Image, Buffer::Map], &[])?;
+        let mut image = self.buffers.lent(Buffer::Image).to_vec();
+        let mut map = self.buffers.lent(Buffer::Map).to_vec();
+        let given = call(self.reader.meaning(), &mut image, &mut map);
+        self.buffers.keep(Buffer::Image, &image);
+        self.buffers.keep(Buffer::Map, &map);
+        Some(self.read_on(given))
+    }
+
+    fn close(&mut self) -> Option<Answer> {
+        self.buffers.call(&[], &[], &[])?;
+        let reader = self.reader.meaning();
+        Some(self.read_on(reader.close().map(|()| reader)))
+    }
+
+    fn read_on(&mut self, given: Result<Reader, Refusal>) -> Answer {
+        Answer::of(given.map(|reader| {
+            self.reader = reader.into();
+            vec![]
+        }))
+    }
+
+    fn write(&mut self, from: u32) -> Option<Answer> {
+        let file = [Buffer::Image, Buffer::Map];
+        self.buffers.call(&[], &[Buffer::Record], &file)?;
+        let mut record = self.buffers.lent(Buffer::Record).to_vec();
+        let (image, map) = self.file();
+        let written = hex::write(image, map, from, &mut record);
+        self.buffers.keep(Buffer::Record, &record);
+        Some(Answer::of(written.map(|(length, next)| {
+            let text = record[..length].strip_suffix(b"\n").unwrap_or_default();
+            let text = text.iter().map(|byte| char::from(*byte)).collect();
+            vec![text, format!("{next:08X}")]
+        })))
+    }
+
+    fn start(&mut self, run: Run) -> Option<Answer> {
+        self.send(&[], |image, map, packet| {
+            Session::start(run, image, map, packet)
+        })
+    }
+
+    /// A step; the flag goes above the answer.
+    fn step(&mut self, silent: u8, answer: &[u8]) -> Option<Answer> {
+        let session = self.session?.meaning();
+        let event = match silent {
+            0 => Event::Answer(answer),
+            _ => Event::Silence,
+        };
+        self.send(answer, |image, map, packet| {
+            session.step(event, image, map, packet)
+        })
+    }
+
+    /// Makes a call that gives a session and may write a packet.
+    fn send(
+        &mut self,
+        brought: &[u8],
+        call: impl Fn(&[u8], &[u8], &mut [u8]) -> Result<(Session, usize), Refusal>,
+    ) -> Option<Answer> {
+        let file = [Buffer::Image, Buffer::Map];
+        self.buffers.call(brought, &[Buffer::Packet], &file)?;
+        let mut packet = self.buffers.lent(Buffer::Packet).to_vec();
+        let (image, map) = self.file();
+        let given = call(image, map, &mut packet);
+        self.buffers.keep(Buffer::Packet, &packet);
+        Some(Answer::of(given.map(|(session, length)| {
+            self.session = Some(session.into());
+            match session.phase {
+                Phase::Ended(outcome) => vec![ended(outcome)],
+                _ => vec![hex_digits(&packet[..length])],
+            }
+        })))
+    }
+
+    fn proved(&mut self, at: u32) -> Option<Answer> {
+        let session = self.session?.meaning();
+        self.buffers.call(&[], &[], &[Buffer::Map])?;
+        let proved = session.proved(self.buffers.lent(Buffer::Map), at);
+        let shown = proved.map(|proved| vec![u8::from(proved).to_string()]);
+        Some(Answer::of(shown))
+    }
+
+    fn outcome(&mut self) -> Option<Answer> {
+        let session = self.session?.meaning();
+        self.buffers.call(&[], &[], &[])?;
+        Some(Answer::of(match session.phase {
+            Phase::Ended(outcome) => Ok(vec![ended(outcome)]),
+            _ => Err(Refusal::NoLog),
+        }))
+    }
+
+    fn write_log(&mut self) -> Option<Answer> {
+        let session = self.session?.meaning();
+        self.buffers.call(&[], &[Buffer::Log], &[])?;
+        let mut record = self.buffers.lent(Buffer::Log).to_vec();
+        let written = log::write(&session, &mut record);
+        self.buffers.keep(Buffer::Log, &record);
+        let shown = written.map(|length| vec![hex_digits(&record[..length])]);
+        Some(Answer::of(shown))
+    }
+
+    fn read_log(&mut self, input: &[u8]) -> Option<Answer> {
+        self.buffers.call(input, &[], &[])?;
+        let shown = log::read(input).map(|entry| vec![log_line(&entry)]);
+        Some(Answer::of(shown))
+    }
+
+    fn rehearse(&mut self, run: Run, losses: &[u8]) -> Option<Answer> {
+        let file = [Buffer::Image, Buffer::Map];
+        self.buffers.call(losses, &[Buffer::Flash], &file)?;
+        let exchanges: Vec<Exchange> = losses.iter().map(exchange).collect();
+        let mut loader = self.loader.meaning();
+        let mut flash = self.buffers.lent(Buffer::Flash).to_vec();
+        let (image, map) = self.file();
+        let given = line::rehearse(run, image, map, &mut loader, &mut flash, &exchanges);
+        self.buffers.keep(Buffer::Flash, &flash);
+        Some(Answer::of(given.map(|session| {
+            self.loader = loader.into();
+            self.session = Some(session.into());
+            let acknowledged = session.acknowledged.to_string();
+            match session.phase {
+                Phase::Ended(outcome) => vec![ended(outcome), acknowledged],
+                _ => vec![acknowledged],
+            }
+        })))
+    }
+
+    /// Image and map as they are lent.
+    fn file(&self) -> (&[u8], &[u8]) {
+        let lent = &self.buffers;
+        (lent.lent(Buffer::Image), lent.lent(Buffer::Map))
+    }
+}
+
+/// So many bytes from a place of a buffer on, which must lie in it.
+fn part(buffer: &str, place: &str, length: &str) -> Option<Part> {
+    let (buffer, place) = (Buffer::from_word(buffer)?, words::address(place)?);
+    Part::within(buffer, place, words::number(length)?)
+}
+
+fn shown(fields: &[u64]) -> Answer {
+    Answer::done(fields.iter().map(u64::to_string).collect())
+}
+
+fn ended(outcome: Outcome) -> String {
+    format!("ended {}", outcome.number())
+}
+
+fn exchange(loss: &u8) -> Exchange {
+    match loss {
+        0 => Exchange::Whole,
+        1 => Exchange::PacketLost,
+        _ => Exchange::AnswerLost,
+    }
 }

@@ -219,7 +219,8 @@ fn write_data(buffer: &mut [u8], address: u16, data: &[u8]) -> usize {
     line_end + 1
 }
 
-fn upper(digit: u8) -> u8 {
+/// The upper-case digit of a value under 16.
+pub fn upper(digit: u8) -> u8 {
     b"0123456789ABCDEF"[usize::from(digit)]
 }
 

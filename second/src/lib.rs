@@ -2,6 +2,7 @@
 //! nothing is shared with the product.
 
 pub mod bench;
+pub mod boundary;
 pub mod cases;
 pub mod hex;
 pub mod line;

@@ -2,7 +2,7 @@
 
 use std::fmt::Write;
 
-use crate::hex::Reader;
+use crate::hex::{upper, Reader};
 use crate::loader::{ACK, GREETING};
 use crate::log::{self, Entry};
 use crate::packet::LONGEST;
@@ -48,7 +48,9 @@ pub fn log_line(entry: &Entry) -> String {
 pub fn hex_digits(bytes: &[u8]) -> String {
     let mut digits = String::with_capacity(2 * bytes.len());
     for byte in bytes {
-        write!(digits, "{byte:02X}").expect("a string takes all");
+        for digit in [byte >> 4, byte & 0x0F] {
+            digits.push(char::from(upper(digit)));
+        }
     }
     digits
 }

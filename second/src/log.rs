@@ -69,7 +69,7 @@ pub fn read(input: &[u8]) -> Result<Entry, Refusal> {
         return Err(Refusal::LogVersion);
     }
     let entry = Entry {
-        outcome: outcome(input[3]).ok_or(Refusal::LogFalse)?,
+        outcome: Outcome::from_number(input[3]).ok_or(Refusal::LogFalse)?,
         acknowledged: number(input, 4),
         total: number(input, 6),
         named: number(input, 8),
@@ -83,16 +83,4 @@ pub fn read(input: &[u8]) -> Result<Entry, Refusal> {
 
 fn number(input: &[u8], at: usize) -> u16 {
     u16::from_be_bytes([input[at], input[at + 1]])
-}
-
-fn outcome(number: u8) -> Option<Outcome> {
-    [
-        Outcome::Valid,
-        Outcome::Silent,
-        Outcome::Refused,
-        Outcome::WrongGreeting,
-        Outcome::WrongAnswer,
-    ]
-    .into_iter()
-    .find(|outcome| outcome.number() == number)
 }

@@ -32,7 +32,7 @@ fn print(listing: impl Fn(&[u8]) -> String) -> io::Result<()> {
 
 fn run_cases() -> io::Result<()> {
     let mut output = BufWriter::new(io::stdout().lock());
-    cases::run(&input()?, &mut output)?;
+    cases::run(io::stdin().lock(), &mut output)?;
     output.flush()
 }
 

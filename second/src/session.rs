@@ -39,8 +39,21 @@ pub enum Outcome {
 }
 
 impl Outcome {
+    const ALL: [Outcome; 5] = [
+        Outcome::Valid,
+        Outcome::Silent,
+        Outcome::Refused,
+        Outcome::WrongGreeting,
+        Outcome::WrongAnswer,
+    ];
+
     pub fn number(self) -> u8 {
         self as u8
+    }
+
+    pub fn from_number(number: u8) -> Option<Outcome> {
+        let mut all = Outcome::ALL.into_iter();
+        all.find(|outcome| outcome.number() == number)
     }
 }
 

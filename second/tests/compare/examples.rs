@@ -3,9 +3,10 @@
 use std::fs;
 use std::path::PathBuf;
 
+use second::cases::Buffer;
 use second::listing;
 
-use crate::files::{line, IMAGE, MAP};
+use crate::files::{IMAGE, MAP};
 use crate::pair::Pair;
 use crate::root;
 use crate::sessions;
@@ -40,7 +41,7 @@ pub fn texts() -> impl Iterator<Item = Vec<u8>> {
 }
 
 pub fn compare(pair: &mut Pair) {
-    for buffer in 0..4 {
+    for buffer in [Buffer::Image, Buffer::Map] {
         pair.fill_buffer(buffer, 0x5A);
     }
     for (name, expected) in EXAMPLES {
@@ -55,15 +56,15 @@ fn text(name: &str) -> Vec<u8> {
 
 /// Reads a file to its end or first refusal, then walks its session.
 fn read(pair: &mut Pair, text: &[u8]) -> Read {
-    let (_, mut state) = pair.hex_start(IMAGE, MAP);
+    let mut state = pair.hex(IMAGE, MAP);
     for (index, ended) in listing::lines(text).enumerate() {
         let record = listing::without_end(ended);
-        let (number, next) = line(pair, state, record, IMAGE, MAP);
+        let (number, next) = pair.record(state, record, IMAGE, MAP);
         if number != 0 {
             return refused(index + 1, number);
         }
         state = next;
     }
-    assert_eq!(pair.hex_close(state), 0);
+    assert_eq!(pair.close_file(state), 0);
     Read::Named(sessions::walk(pair))
 }

@@ -1,27 +1,27 @@
 //! Hex files: the reader, the writer, and what is written read back.
 
+use second::boundary::ReaderRecord;
+use second::cases::{Buffer, Part};
 use second::listing::hex_digits;
 use second::packet::checksum;
 use second::units::{FLASH_END, MAP_BYTES};
 
-use crate::boundary::ReaderState;
 use crate::maps;
-use crate::pair::{Pair, Part};
+use crate::pair::Pair;
 use crate::random::Random;
 
-pub const IMAGE: Part = Part::new(0, 333, FLASH_END);
-pub const MAP: Part = Part::new(1, 4001, MAP_BYTES as u32);
+pub const IMAGE: Part = Part::new(Buffer::Image, 333, FLASH_END);
+pub const MAP: Part = Part::new(Buffer::Map, 4001, MAP_BYTES as u32);
 /// The image as it is lent with a byte too many, which nothing may meet.
-pub const NEXT_TO_IMAGE: Part = Part::new(0, 333, FLASH_END + 1);
-const LINE: Part = Part::new(2, 9, 2000);
-const RECORD: Part = Part::new(3, 100, 60);
+pub const NEXT_TO_IMAGE: Part = Part::new(Buffer::Image, 333, FLASH_END + 1);
+const RECORD: Part = Part::new(Buffer::Record, 101, 60);
 
 const FILES: u32 = 240;
 pub const END: &[u8] = b":00000001FF";
 
 pub fn compare(pair: &mut Pair) {
     let mut random = Random::new(3);
-    for buffer in 0..4 {
+    for buffer in [Buffer::Image, Buffer::Map] {
         pair.fill_buffer(buffer, 0x5A);
     }
     for _ in 0..FILES {
@@ -29,14 +29,14 @@ pub fn compare(pair: &mut Pair) {
     }
     for _ in 0..1000 {
         let state = made_up(&mut random);
-        pair.hex_close(state);
+        pair.close_file(state);
         let (image, map) = lent(&mut random);
-        pair.hex_start(image, map);
+        pair.hex(image, map);
     }
     for _ in 0..60 {
         let (image, map) = (wrong(&mut random, IMAGE), wrong(&mut random, MAP));
-        pair.hex_start(image, MAP);
-        pair.hex_start(IMAGE, map);
+        pair.hex(image, MAP);
+        pair.hex(IMAGE, map);
     }
     for _ in 0..30 {
         write(pair, &mut random);
@@ -48,7 +48,7 @@ pub fn compare(pair: &mut Pair) {
 
 /// One file from its start to its closing, records of all kinds between.
 fn file(pair: &mut Pair, random: &mut Random) {
-    let (_, mut state) = pair.hex_start(IMAGE, MAP);
+    let mut state = pair.hex(IMAGE, MAP);
     let records = random.below(140);
     for _ in 0..records {
         let text = text(random);
@@ -58,42 +58,23 @@ fn file(pair: &mut Pair, random: &mut Random) {
             record(pair, random, made_up, &text);
         }
         if random.once_in(100) {
-            pair.hex_close(state);
+            pair.close_file(state);
         }
     }
     if !random.once_in(4) {
-        (_, state) = line(pair, state, END, IMAGE, MAP);
+        (_, state) = pair.record(state, END, IMAGE, MAP);
         let after = random.below(4);
         for _ in 0..after {
             let text = text(random);
             state = record(pair, random, state, &text);
         }
     }
-    pair.hex_close(state);
+    pair.close_file(state);
 }
 
-fn record(pair: &mut Pair, random: &mut Random, state: ReaderState, text: &[u8]) -> ReaderState {
+fn record(pair: &mut Pair, random: &mut Random, state: ReaderRecord, text: &[u8]) -> ReaderRecord {
     let (image, map) = lent(random);
-    line(pair, state, text, image, map).1
-}
-
-pub fn line(
-    pair: &mut Pair,
-    state: ReaderState,
-    text: &[u8],
-    image: Part,
-    map: Part,
-) -> (u8, ReaderState) {
-    let part = match text.len() as u32 {
-        0 => Part::NULL,
-        length if length % 7 == 0 => NEXT_TO_IMAGE.behind(length),
-        length if length % 7 == 1 => MAP.before(length),
-        length => LINE.with_length(length),
-    };
-    if !text.is_empty() {
-        pair.set(part, text);
-    }
-    pair.hex_record(state, part, image, map)
+    pair.record(state, text, image, map).1
 }
 
 /// Image and map, at times of a wrong size.
@@ -116,11 +97,11 @@ fn wrong(random: &mut Random, part: Part) -> Part {
     }
 }
 
-fn made_up(random: &mut Random) -> ReaderState {
+fn made_up(random: &mut Random) -> ReaderRecord {
     let (low, any) = (random.below(0x800), random.word());
     let base = [0, 0, low, 0xF7F0, 0xF800, 0xFFFF_0000, u32::MAX, any];
     let flag = [0, 0, 0, 1, random.byte()];
-    ReaderState {
+    ReaderRecord {
         linear: random.pick(&base),
         segment: random.pick(&base),
         ended: random.pick(&flag),
@@ -128,8 +109,17 @@ fn made_up(random: &mut Random) -> ReaderState {
     }
 }
 
-/// A record's text, right or wrong in one of the table's ways.
+/// A record's text, right or wrong in one of the table's ways. A line end in
+/// it would end the case line.
 pub fn text(random: &mut Random) -> Vec<u8> {
+    let mut text = any_text(random);
+    for character in text.iter_mut().filter(|character| **character == b'\n') {
+        *character = b'\r';
+    }
+    text
+}
+
+fn any_text(random: &mut Random) -> Vec<u8> {
     let text = sound(random);
     match random.below(24) {
         way @ 0..=8 => spoiled(random, text, way),
@@ -167,7 +157,7 @@ fn spoiled(random: &mut Random, mut text: Vec<u8>, way: u32) -> Vec<u8> {
         }
         5 => {
             let place = random.place(&text);
-            text[place] = random.pick(b"/:@G`gZ \r\n");
+            text[place] = random.pick(b"/:@G`gZ \r\0");
         }
         6 => text.extend(b"00"),
         7 => text.truncate(text.len() - 2),
@@ -225,6 +215,7 @@ pub fn encoded(address: u16, kind: u8, data: &[u8]) -> Vec<u8> {
     format!(":{}", hex_digits(&bytes)).into_bytes()
 }
 
+/// Records from all addresses; image and map are only read and may overlap.
 fn write(pair: &mut Pair, random: &mut Random) {
     let bytes = random.bytes(FLASH_END);
     pair.set(IMAGE, &bytes);
@@ -235,7 +226,10 @@ fn write(pair: &mut Pair, random: &mut Random) {
         let near = random.within(0xF7E0, 0xF804);
         let inside = random.below(FLASH_END);
         let from = random.pick(&[0, any, near, near, inside, inside, inside]);
-        let (image, map) = lent(random);
+        let (image, map) = match random.once_in(10) {
+            true => (IMAGE, IMAGE.with_length(MAP.length())),
+            false => lent(random),
+        };
         let buffer = match random.below(8) {
             0 => RECORD.with_length(random.within(40, 44)),
             1 => RECORD.with_length(random.below(44)),
@@ -244,7 +238,7 @@ fn write(pair: &mut Pair, random: &mut Random) {
             3 => MAP.before(44),
             _ => RECORD.with_length(random.within(44, 60)),
         };
-        pair.hex_write(image, map, from, buffer);
+        pair.write(image, map, from, buffer);
     }
 }
 
@@ -257,21 +251,20 @@ fn write_and_read_back(pair: &mut Pair, random: &mut Random) {
     let mut lines = Vec::new();
     let mut from = 0;
     loop {
-        let (_, length, next) = pair.hex_write(IMAGE, MAP, from, RECORD);
-        if length == 0 {
+        let (text, next) = pair.write(IMAGE, MAP, from, RECORD).expect("right sizes");
+        if text.is_empty() {
             break;
         }
-        let text = pair.look(RECORD.with_length(length as u32 - 1));
-        lines.push(text.to_vec());
+        lines.push(text);
         from = next;
     }
-    let (_, mut state) = pair.hex_start(IMAGE, MAP);
+    let mut state = pair.hex(IMAGE, MAP);
     for text in &lines {
-        let (number, next) = line(pair, state, text, IMAGE, MAP);
+        let (number, next) = pair.record(state, text.as_bytes(), IMAGE, MAP);
         assert_eq!(number, 0, "a record that was written");
         state = next;
     }
-    assert_eq!(pair.hex_close(state), 0);
+    assert_eq!(pair.close_file(state), 0);
     assert!(pair.look(MAP) == map, "the map that was written");
     for (place, byte) in pair.look(IMAGE).iter().enumerate() {
         let named = map[place / 8] >> (place % 8) & 1 != 0;

@@ -1,80 +1,79 @@
 //! The loader: long runs of mixed inputs over one flash.
 
+use second::boundary::LoaderRecord;
+use second::cases::{Buffer, Part};
 use second::packet::{self, turned, ADD, CLOSE, OPEN};
 use second::units::{FLASH_END, GROUP_BYTES, PAGE_BYTES};
 
-use crate::boundary::LoaderState;
 use crate::packets::seal;
-use crate::pair::{Pair, Part};
+use crate::pair::Pair;
 use crate::random::Random;
 
-pub const FLASH: Part = Part::new(0, 1000, FLASH_END);
-const INPUT: Part = Part::new(1, 3, 300);
-const ANSWER: Part = Part::new(2, 500, 24);
+pub const FLASH: Part = Part::new(Buffer::Flash, 1001, FLASH_END);
+/// The flash as it is lent with a byte too many, which nothing may meet.
+const NEXT_TO_FLASH: Part = Part::new(Buffer::Flash, 1001, FLASH_END + 1);
+const ANSWER: Part = Part::new(Buffer::Answer, 503, 24);
 
 const RUNS: u32 = 12;
 const INPUTS: u32 = 2500;
 
 pub fn compare(pair: &mut Pair) {
     let mut random = Random::new(2);
+    for filling in 0..=255 {
+        pair.factory(filling);
+    }
     for run in 0..RUNS {
-        pair.fill_buffer(0, random.byte());
-        pair.fill_buffer(2, 0xAA);
+        let mut state = pair.factory(random.byte());
         if run % 2 == 0 {
             let bytes = random.bytes(FLASH_END);
             pair.set(FLASH, &bytes);
         }
-        let mut state = pair.loader_new();
         for _ in 0..INPUTS {
             state = one_input(pair, &mut random, state);
         }
     }
 }
 
-fn one_input(pair: &mut Pair, random: &mut Random, state: LoaderState) -> LoaderState {
-    let bytes = input(pair, random, state);
-    let length = bytes.len() as u32;
-    let mut input = match random.below(8) {
-        0 | 1 => FLASH.before(length),
-        2 => ANSWER.before(length),
-        _ => INPUT.with_length(length),
-    };
-    pair.set(input, &bytes);
-    if bytes.is_empty() && random.once_in(2) {
-        input = Part::NULL;
-    }
+fn one_input(pair: &mut Pair, random: &mut Random, state: LoaderRecord) -> LoaderRecord {
+    let input = input(pair, random, state);
     if random.once_in(12) {
         let made_up = made_up(random, state);
-        pair.loader_take(made_up, input, FLASH, ANSWER);
-        pair.loader_reset(made_up);
+        pair.take(made_up, &input, FLASH, ANSWER);
+        pair.reset(made_up);
     }
-    let (flash, answer) = lent(random);
-    let (_, _, next) = pair.loader_take(state, input, flash, answer);
+    let (flash, answer) = lent(random, &input);
+    let (_, next) = pair.take(state, &input, flash, answer);
     let leaves = next.condition == 2;
     if (leaves && random.once_in(2)) || random.once_in(150) {
-        return pair.loader_reset(next);
+        return pair.reset(next);
     }
     next
 }
 
-/// Flash and answer buffer, at times of a wrong size.
-fn lent(random: &mut Random) -> (Part, Part) {
+/// Flash and answer buffer, at times side by side or of a wrong size.
+fn lent(random: &mut Random, input: &[u8]) -> (Part, Part) {
     let length = random.within(24, 40);
-    let whole = (FLASH, ANSWER.with_length(length));
+    let answer = match random.below(8) {
+        0 => NEXT_TO_FLASH.behind(length),
+        1 => FLASH.before(length),
+        2 => Part::new(Buffer::Input, input.len() as u32, length),
+        _ => ANSWER.with_length(length),
+    };
     match random.below(60) {
-        0 => (FLASH.with_length(FLASH_END - 1), whole.1),
-        1 => (FLASH.with_length(FLASH_END + 1), whole.1),
-        2 => (FLASH.with_length(random.below(FLASH_END)), whole.1),
-        3 => (Part::NULL, whole.1),
-        4 => (FLASH, ANSWER.with_length(random.below(24))),
+        0 => (FLASH.with_length(FLASH_END - 1), answer),
+        1 => (FLASH.with_length(FLASH_END + 1), answer),
+        2 => (FLASH.with_length(random.below(FLASH_END)), answer),
+        3 => (Part::NULL, answer),
+        4 => (FLASH, answer.with_length(random.below(24))),
         5 => (FLASH, Part::NULL),
-        _ => whole,
+        6 | 7 => (FLASH, FLASH.behind(length)),
+        _ => (FLASH, answer),
     }
 }
 
 /// A state near this one, or nothing like it.
-fn made_up(random: &mut Random, state: LoaderState) -> LoaderState {
-    let other = LoaderState {
+fn made_up(random: &mut Random, state: LoaderRecord) -> LoaderRecord {
+    let other = LoaderRecord {
         groups: random.long() & random.long(),
         added: random.long() & random.long(),
         key: random.word(),
@@ -84,11 +83,11 @@ fn made_up(random: &mut Random, state: LoaderState) -> LoaderState {
         added_read: flag(random),
     };
     match random.below(4) {
-        0 => LoaderState {
+        0 => LoaderRecord {
             condition: other.condition,
             ..state
         },
-        1 => LoaderState {
+        1 => LoaderRecord {
             opened: other.opened,
             added: other.added,
             added_read: other.added_read,
@@ -103,7 +102,7 @@ fn flag(random: &mut Random) -> u8 {
     random.pick(&[0, 0, 0, 1, any])
 }
 
-fn input(pair: &Pair, random: &mut Random, state: LoaderState) -> Vec<u8> {
+fn input(pair: &Pair, random: &mut Random, state: LoaderRecord) -> Vec<u8> {
     if state.condition == 0 && !random.once_in(4) {
         return vec![0x08];
     }
@@ -141,7 +140,7 @@ fn outside_the_table(random: &mut Random, mut packet: Vec<u8>) -> Vec<u8> {
 }
 
 /// A packet of the table, with an eye on an open sequence.
-fn packet(pair: &Pair, random: &mut Random, state: LoaderState) -> Vec<u8> {
+fn packet(pair: &Pair, random: &mut Random, state: LoaderRecord) -> Vec<u8> {
     let address = address(random);
     if state.opened != 0 && !random.once_in(4) {
         let kind = random.pick(&[ADD, ADD, CLOSE, OPEN]);

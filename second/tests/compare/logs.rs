@@ -1,16 +1,16 @@
 //! The service log: records written from sessions, and read.
 
-use crate::boundary::SessionState;
-use crate::pair::{Pair, Part};
+use second::boundary::SessionRecord;
+use second::cases::{Buffer, Part};
+
+use crate::pair::Pair;
 use crate::random::Random;
 
-const RECORD: Part = Part::new(0, 60, 10);
-const INPUT: Part = Part::new(1, 7, 20);
+const RECORD: Part = Part::new(Buffer::Log, 61, 10);
 
 pub fn compare(pair: &mut Pair) {
     let mut random = Random::new(5);
-    pair.fill_buffer(0, 0x5A);
-    for _ in 0..6000 {
+    for _ in 0..7000 {
         write(pair, &mut random);
     }
     for _ in 0..150 {
@@ -21,9 +21,9 @@ pub fn compare(pair: &mut Pair) {
         let mut bytes = random.bytes(length);
         bytes[..3].copy_from_slice(&[0, 8, 1]);
         bytes[3] = random.pick(&[0, 40, 41, 42, 43, bytes[3]]);
-        read(pair, &bytes);
+        pair.read_log(&bytes);
     }
-    pair.log_read(Part::NULL);
+    pair.read_log(&[]);
 }
 
 fn write(pair: &mut Pair, random: &mut Random) {
@@ -33,16 +33,15 @@ fn write(pair: &mut Pair, random: &mut Random) {
         0 => Part::NULL,
         _ => RECORD.with_length(length),
     };
-    let written = pair.log_write(state, buffer);
-    pair.session_outcome(state);
-    if written > 0 {
-        let bytes = pair.look(buffer).to_vec();
-        read(pair, &bytes);
+    let bytes = pair.log(state, buffer);
+    pair.outcome(state);
+    if !bytes.is_empty() {
+        pair.read_log(&bytes);
     }
 }
 
 /// A session that has mostly ended, with counts around each limit.
-fn session(random: &mut Random) -> SessionState {
+fn session(random: &mut Random) -> SessionRecord {
     let (any, low) = (random.word(), random.below(70_000));
     let total = random.pick(&[0, 3, 4, 5, 6, 510, 0xFFFF, 0x1_0000, 0x1_0004, low, any]);
     let acknowledged = match random.below(6) {
@@ -52,10 +51,13 @@ fn session(random: &mut Random) -> SessionState {
         3 => any,
         _ => total,
     };
-    SessionState {
+    let outcome = random.pick(&[0, 0, 0, 0, 40, 41, 42, 43, 44, 39, any]);
+    SessionRecord {
         run: random.below(3),
         phase: random.pick(&[5, 5, 5, 5, 5, 5, 5, 0, 1, 4, 6, any]),
-        place: random.pick(&[0, 0, 0, 0, 40, 41, 42, 43, 44, 39, any]),
+        page: if random.once_in(20) { any } else { 0 },
+        address: if random.once_in(20) { any } else { 0 },
+        outcome,
         acknowledged,
         total,
         named: random.pick(&[0, 1, 2, 63_488, 63_489, 65_535, 65_536, 65_537, low]),
@@ -76,21 +78,15 @@ fn read_damaged(pair: &mut Pair, random: &mut Random) {
     for count in [acknowledged, total, named] {
         valid.extend(count.to_be_bytes());
     }
-    read(pair, &valid);
+    pair.read_log(&valid);
     for place in 0..valid.len() {
         for bit in 0..8 {
             let mut damaged = valid.clone();
             damaged[place] ^= 1 << bit;
-            read(pair, &damaged);
+            pair.read_log(&damaged);
         }
-        read(pair, &valid[..place]);
+        pair.read_log(&valid[..place]);
     }
     valid.extend(random.bytes(1));
-    read(pair, &valid);
-}
-
-fn read(pair: &mut Pair, bytes: &[u8]) {
-    let part = INPUT.with_length(bytes.len() as u32);
-    pair.set(part, bytes);
-    pair.log_read(part);
+    pair.read_log(&valid);
 }

@@ -1,9 +1,7 @@
 //! The product compared with the second program, call by call and byte by
-//! byte, on random requests that are the same in every run. The product's
-//! driver and programs must have been built. With `--nocapture` the counts are
-//! printed.
+//! byte, on random case lines that are the same in every run. The product's
+//! programs must have been built. With `--nocapture` the counts are printed.
 
-mod boundary;
 mod caselines;
 mod examples;
 mod files;
@@ -26,6 +24,11 @@ use pair::Pair;
 use tally::Tally;
 
 type Compare = fn(&mut Pair);
+
+/// How often each number of each function must be seen.
+const OFTEN: u64 = 100;
+/// The same of each program, which is started anew for each input.
+const OFTEN_IN_PROGRAMS: u64 = 5;
 
 const PARTS: [(&str, Compare); 7] = [
     ("packet", packets::compare),
@@ -54,22 +57,27 @@ fn library() {
         whole.add(tally);
     }
     println!("{:10} {:7} {}", "all", whole.compared, whole.line());
-    whole.check();
+    whole.check(&tally::LIBRARY, OFTEN);
 }
 
 #[test]
 fn plan() {
-    println!("plan: {} texts", programs::compare_plan());
+    let tally = programs::compare_plan();
+    println!("plan: {} texts {}", tally.compared, tally.line());
+    tally.check(&tally::PLAN, OFTEN_IN_PROGRAMS);
 }
 
 #[test]
 fn readlog() {
-    println!("readlog: {} inputs", programs::compare_readlog());
+    let tally = programs::compare_readlog();
+    println!("readlog: {} inputs {}", tally.compared, tally.line());
+    tally.check(&tally::READLOG, OFTEN_IN_PROGRAMS);
 }
 
 #[test]
 fn cases() {
-    println!("cases: {} lines", caselines::compare());
+    println!("stored cases: {} lines", caselines::compare_list());
+    println!("random cases: {} lines", caselines::compare_random());
 }
 
 fn compared(compare: Compare) -> Tally {

@@ -1,13 +1,13 @@
 //! Packets: turned bytes, the builder and the reader.
 
+use second::cases::{Buffer, Part};
 use second::packet::{self, ADD, CLOSE, OPEN};
 
-use crate::pair::{Pair, Part};
+use crate::pair::Pair;
 use crate::random::Random;
 
 const COMMANDS: [u8; 5] = *b"EWVPR";
-const OUTPUT: Part = Part::new(0, 777, 300);
-const INPUT: Part = Part::new(1, 5, 300);
+const OUTPUT: Part = Part::new(Buffer::Packet, 777, 300);
 
 pub fn compare(pair: &mut Pair) {
     let mut random = Random::new(1);
@@ -15,7 +15,6 @@ pub fn compare(pair: &mut Pair) {
         pair.turned(byte);
         pair.restored(byte);
     }
-    pair.fill_buffer(0, 0xAA);
     build_each(pair, &mut random);
     build_any(pair, &mut random);
     read(pair, &mut random);
@@ -25,75 +24,73 @@ pub fn compare(pair: &mut Pair) {
 fn build_each(pair: &mut Pair, random: &mut Random) {
     for command in 0..=255 {
         for length in [0, 1, 2, 250, 251] {
-            build(pair, random, OUTPUT, command, length);
+            build(pair, random, OUTPUT.length(), command, length);
         }
     }
     for command in COMMANDS {
         for length in 0..=300 {
-            build(pair, random, OUTPUT, command, length);
+            build(pair, random, OUTPUT.length(), command, length);
         }
         for length in 0..=300 {
             let plain = random.within(0, 2);
-            build(pair, random, OUTPUT.with_length(length), command, plain);
+            build(pair, random, length, command, plain);
         }
     }
     for kind in 0..=255 {
-        pair.set(INPUT.with_length(1), &[kind]);
-        pair.packet_build(OUTPUT, b'P', random.word(), INPUT.with_length(1));
+        pair.build(OUTPUT, b'P', random.word(), &[kind]);
     }
-    pair.packet_build(Part::NULL, b'R', 1, Part::NULL);
-    pair.packet_build(OUTPUT, b'R', 1, Part::NULL);
+    pair.build(Part::NULL, b'R', 1, &[]);
+    pair.build(OUTPUT, b'R', 1, &[]);
 }
 
 fn build_any(pair: &mut Pair, random: &mut Random) {
     for _ in 0..3000 {
-        let output = OUTPUT.with_length(random.within(250, 300));
+        let output = random.within(250, 300);
         let command = random.pick(&COMMANDS);
         let length = random.within(0, 252);
         build(pair, random, output, command, length);
     }
 }
 
-fn build(pair: &mut Pair, random: &mut Random, output: Part, command: u8, length: u32) {
-    let input = random.pick(&[
-        INPUT.with_length(length),
-        output.before(length),
-        output.behind(length),
+/// Builds into a buffer of this length, which may lie right behind the data.
+fn build(pair: &mut Pair, random: &mut Random, output: u32, command: u8, length: u32) {
+    let output = random.pick(&[
+        OUTPUT.with_length(output),
+        Part::new(Buffer::Input, length, output),
     ]);
     let mut plain = random.bytes(length);
     if command == b'P' && length == 1 {
         plain[0] = random.pick(&[OPEN, ADD, CLOSE, 0x02, 0x10]);
     }
-    pair.set(input, &plain);
-    pair.packet_build(output, command, random.word(), input);
+    pair.build(output, command, random.word(), &plain);
 }
 
 fn read(pair: &mut Pair, random: &mut Random) {
-    pair.packet_read(Part::NULL);
+    pair.read(&[]);
     for count in 0..=255 {
         for command in COMMANDS {
-            read_input(pair, &raw(random, command, count));
+            pair.read(&raw(random, command, count));
             for _ in 0..8 {
                 let mut input = raw(random, command, count);
                 random.damage(&mut input);
-                read_input(pair, &input);
+                pair.read(&input);
             }
         }
         for length in 0..=12 {
             let mut input = raw(random, b'W', count);
             input.truncate(length);
-            read_input(pair, &input);
+            pair.read(&input);
         }
     }
     for command in 0..=255 {
         let count = random.within(5, 8) as u8;
-        read_input(pair, &raw(random, command, count));
+        pair.read(&raw(random, command, count));
     }
     for kind in 0..=255 {
         let mut input = raw(random, b'P', 6);
         input[packet::FRONT] = kind;
         seal(&mut input);
-        read_input(pair, &input);
+        pair.read(&input);
     }
     for _ in 0..3000 {
         let length = random.within(0, 12);
@@ -101,14 +98,8 @@ fn read(pair: &mut Pair, random: &mut Random) {
         for (byte, start) in input.iter_mut().zip([0x07, 0x0E]) {
             *byte = if random.once_in(8) { *byte } else { start };
         }
-        read_input(pair, &input);
+        pair.read(&input);
     }
-}
-
-fn read_input(pair: &mut Pair, input: &[u8]) {
-    let part = INPUT.with_length(input.len() as u32);
-    pair.set(part, input);
-    pair.packet_read(part);
 }
 
 /// A packet with this count, right in its sum if in nothing else.

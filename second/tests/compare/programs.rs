@@ -10,12 +10,13 @@ use crate::examples;
 use crate::files;
 use crate::random::Random;
 use crate::root;
+use crate::tally::Tally;
 
 const PLANS: u32 = 700;
 const LOGS: u32 = 400;
 
 /// What a program prints for an input.
-pub fn printed(path: &str, input: &[u8]) -> Vec<u8> {
+fn printed(path: &str, input: &[u8]) -> Vec<u8> {
     let mut child = root::program(path)
         .stdin(Stdio::piped())
         .stdout(Stdio::piped())
@@ -34,7 +35,7 @@ pub fn printed(path: &str, input: &[u8]) -> Vec<u8> {
     output
 }
 
-pub fn alike(path: &str, input: &[u8], expected: &[u8]) {
+fn alike(path: &str, input: &[u8], expected: &[u8]) {
     let given = printed(path, input);
     if given != expected {
         panic!(
@@ -46,26 +47,41 @@ pub fn alike(path: &str, input: &[u8], expected: &[u8]) {
     }
 }
 
-pub fn compare_plan() -> usize {
+pub fn compare_plan() -> Tally {
     let mut random = Random::new(7);
     let fixed: [&[u8]; 4] = [b"", b"\n", b"\r\n", b":020200001234B6\n:00000001FF\n"];
     let mut texts: Vec<Vec<u8>> = fixed.map(<[u8]>::to_vec).into();
     texts.extend(examples::texts());
     texts.extend((0..PLANS).map(|_| plan_text(&mut random)));
-    for text in &texts {
-        alike("target/bin/plan", text, listing::plan(text).as_bytes());
-    }
-    texts.len()
+    compare("plan", listing::plan, &texts)
 }
 
-pub fn compare_readlog() -> usize {
+pub fn compare_readlog() -> Tally {
     let mut random = Random::new(8);
-    for _ in 0..LOGS {
-        let input = log_input(&mut random);
-        let expected = listing::readlog(&input);
-        alike("target/bin/readlog", &input, expected.as_bytes());
+    let inputs: Vec<Vec<u8>> = (0..LOGS).map(|_| log_input(&mut random)).collect();
+    compare("readlog", listing::readlog, &inputs)
+}
+
+/// Runs a program on each input and counts the numbers that it prints.
+fn compare(name: &'static str, listing: fn(&[u8]) -> String, inputs: &[Vec<u8>]) -> Tally {
+    let mut tally = Tally::default();
+    for input in inputs {
+        let expected = listing(input);
+        alike(&format!("target/bin/{name}"), input, expected.as_bytes());
+        tally.count(name, number(&expected));
     }
-    LOGS as usize
+    tally
+}
+
+/// The number of a refusal, the last word of its line; 0 where there is none.
+fn number(printed: &str) -> u8 {
+    match printed.trim_end().strip_prefix("REFUSED ") {
+        Some(words) => {
+            let last = words.split(' ').next_back().expect("a word");
+            last.parse().expect("a number")
+        }
+        None => 0,
+    }
 }
 
 /// A hex file, right or wrong in some way, with line ends of some kind.

@@ -1,26 +1,26 @@
 //! Whole loads: the product's session and loader joined, with losses.
 
+use second::boundary::{LoaderRecord, SessionRecord};
+use second::cases::{Buffer, Part};
 use second::line::Exchange;
 use second::map::Map;
 use second::units::{FLASH_END, MAP_BYTES};
 
-use crate::boundary::{LoaderState, SessionState};
 use crate::files::{lent, IMAGE, MAP};
 use crate::maps;
-use crate::pair::{Pair, Part};
+use crate::pair::Pair;
 use crate::random::Random;
 use crate::sessions::PACKET;
 
-const ANSWER: Part = Part::new(2, 40, 24);
-const LOG: Part = Part::new(4, 8, 10);
-const LOSSES: Part = Part::new(2, 300, 0);
-const FLASH: Part = Part::new(5, 2222, FLASH_END);
+const ANSWER: Part = Part::new(Buffer::Answer, 41, 24);
+const LOG: Part = Part::new(Buffer::Log, 9, 10);
+const FLASH: Part = Part::new(Buffer::Flash, 2223, FLASH_END);
 
 const KINDS: [Exchange; 2] = [Exchange::PacketLost, Exchange::AnswerLost];
 
 pub fn compare(pair: &mut Pair) {
     let mut random = Random::new(6);
-    for buffer in 0..6 {
+    for buffer in [Buffer::Flash, Buffer::Image, Buffer::Map] {
         pair.fill_buffer(buffer, 0xC3);
     }
     for _ in 0..24 {
@@ -83,14 +83,14 @@ fn refused(pair: &mut Pair, random: &mut Random) {
     ];
     for flash in wrong.into_iter().chain([FLASH; 3]) {
         let loader = loader(random);
-        pair.rehearse(random.word(), loader, Part::NULL, (IMAGE, MAP), flash);
+        pair.rehearse(random.word(), loader, &[], (IMAGE, MAP), flash);
         let file = lent(random);
-        pair.rehearse(random.word(), loader, Part::NULL, file, flash);
+        pair.rehearse(random.word(), loader, &[], file, flash);
     }
     pair.fill(MAP, 0);
     for flash in wrong.into_iter().chain([FLASH; 6]) {
         let loader = loader(random);
-        pair.rehearse(random.word(), loader, Part::NULL, (IMAGE, MAP), flash);
+        pair.rehearse(random.word(), loader, &[], (IMAGE, MAP), flash);
     }
 }
 
@@ -100,14 +100,7 @@ fn rehearse(pair: &mut Pair, random: &mut Random, losses: &[u8]) {
     pair.fill(FLASH, filling);
     let told = random.below(3);
     let loader = loader(random);
-    let list = match losses.len() as u32 {
-        0 => Part::NULL,
-        length => LOSSES.with_length(length),
-    };
-    if !losses.is_empty() {
-        pair.set(list, losses);
-    }
-    let whole = pair.rehearse(told, loader, list, (IMAGE, MAP), FLASH);
+    let whole = pair.rehearse(told, loader, losses, (IMAGE, MAP), FLASH);
     let flash = pair.look(FLASH).to_vec();
     pair.fill(FLASH, filling);
     let (state, session) = exchange_by_exchange(pair, random, told, loader, losses);
@@ -120,40 +113,40 @@ fn exchange_by_exchange(
     pair: &mut Pair,
     random: &mut Random,
     told: u32,
-    loader: LoaderState,
+    loader: LoaderRecord,
     losses: &[u8],
-) -> (LoaderState, SessionState) {
-    let (_, mut session) = pair.session_start(told, IMAGE, MAP, PACKET);
-    let mut state = pair.loader_reset(loader);
+) -> (LoaderRecord, SessionRecord) {
+    let (_, mut session) = pair.start(told, IMAGE, MAP, PACKET);
+    let mut state = pair.reset(loader);
     let mut length = 1;
     let mut losses = losses.iter();
     while session.phase != 5 {
         let loss = losses.next().copied().unwrap_or(0);
-        let mut heard = Part::NULL;
+        let mut heard = Vec::new();
         if loss != 1 {
-            let packet = PACKET.with_length(length as u32);
-            let (_, answered, next) = pair.loader_take(state, packet, FLASH, ANSWER);
+            let packet = pair.look(PACKET.with_length(length)).to_vec();
+            let (answered, next) = pair.take(state, &packet, FLASH, ANSWER);
             state = next;
             if loss == 0 {
-                heard = ANSWER.with_length(answered as u32);
+                heard = pair.look(ANSWER.with_length(answered)).to_vec();
             }
         }
-        let silent = u8::from(heard.length() == 0);
-        (_, length, session) = pair.session_step(session, silent, heard, (IMAGE, MAP), PACKET);
-        pair.log_write(session, LOG);
+        let silent = u8::from(heard.is_empty());
+        (length, session) = pair.step(session, silent, &heard, (IMAGE, MAP), PACKET);
+        pair.log(session, LOG);
         for _ in 0..2 {
             let named = maps::named_from(pair.look(MAP), random.below(FLASH_END));
-            pair.session_proved(session, MAP, named);
+            pair.proved(session, MAP, named);
         }
     }
-    pair.session_outcome(session);
+    pair.outcome(session);
     (state, session)
 }
 
 /// Any loader, at times with protection that refuses some packets.
-fn loader(random: &mut Random) -> LoaderState {
+fn loader(random: &mut Random) -> LoaderRecord {
     let some = 1 << random.below(31);
-    LoaderState {
+    LoaderRecord {
         groups: random.pick(&[0, 0, 0, some]),
         added: 0,
         key: random.word(),

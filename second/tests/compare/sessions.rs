@@ -1,49 +1,53 @@
 //! The host session: starts, steps, made-up sessions and marks.
 
+use second::boundary::SessionRecord;
+use second::cases::{Buffer, Part};
 use second::loader::{ACK, BEL, GREETING};
 use second::session::{Event, Phase};
-use second::units::{FLASH_END, MAP_BYTES};
+use second::units::{FLASH_END, MAP_BYTES, PAGE_BYTES};
 
-use crate::boundary::SessionState;
 use crate::files::{lent, IMAGE, MAP, NEXT_TO_IMAGE};
 use crate::maps;
-use crate::pair::{Pair, Part};
+use crate::pair::Pair;
 use crate::random::Random;
 
-const HEARD: Part = Part::new(2, 21, 64);
-pub const PACKET: Part = Part::new(3, 500, 259);
+pub const PACKET: Part = Part::new(Buffer::Packet, 501, 259);
 /// The map of another file over the same image, much like the session's.
-const OTHER_MAP: Part = Part::new(4, 77, MAP_BYTES as u32);
+const OTHER_MAP: Part = Part::new(Buffer::Other, 77, MAP_BYTES as u32);
 /// A map of any kind.
-const ANY_MAP: Part = Part::new(4, 20_000, MAP_BYTES as u32);
+const ANY_MAP: Part = Part::new(Buffer::Other, 20_000, MAP_BYTES as u32);
 
 /// So many states of a file are looked at.
 const STATES: u32 = 60;
 
-/// Phases with their places: each end, those that have no place, and records
-/// next to them that mean no session.
-const ENDS_AND_PLACELESS: [(u32, u32); 16] = [
-    (5, 0),
-    (5, 40),
-    (5, 41),
-    (5, 42),
-    (5, 43),
-    (5, 1),
-    (5, 39),
-    (5, 44),
-    (5, u32::MAX),
-    (0, 0),
-    (0, 1),
-    (4, 0),
-    (4, 1),
-    (6, 0),
-    (6, 40),
-    (u32::MAX, 0),
+/// Phases with page, address and outcome: each end, those that use none of
+/// them, and records next to them that mean no session.
+const ENDS_AND_PLACELESS: [(u32, u32, u32, u32); 20] = [
+    (5, 0, 0, 0),
+    (5, 0, 0, 40),
+    (5, 0, 0, 41),
+    (5, 0, 0, 42),
+    (5, 0, 0, 43),
+    (5, 0, 0, 1),
+    (5, 0, 0, 39),
+    (5, 0, 0, 44),
+    (5, 0, 0, u32::MAX),
+    (5, 1, 0, 40),
+    (5, 0, 1, 40),
+    (0, 0, 0, 0),
+    (0, 1, 0, 0),
+    (0, 0, 1, 0),
+    (0, 0, 0, 40),
+    (4, 0, 0, 0),
+    (4, 0, 1, 0),
+    (6, 0, 0, 0),
+    (6, 0, 0, 40),
+    (u32::MAX, 0, 0, 0),
 ];
 
 pub fn compare(pair: &mut Pair) {
     let mut random = Random::new(4);
-    for buffer in 0..5 {
+    for buffer in [Buffer::Image, Buffer::Map] {
         pair.fill_buffer(buffer, 0x5A);
     }
     for kind in 0..64 {
@@ -59,7 +63,7 @@ pub fn compare(pair: &mut Pair) {
     pair.fill(MAP, 0);
     for _ in 0..100 {
         let told = run(&mut random);
-        pair.session_start(told, IMAGE, MAP, PACKET);
+        pair.start(told, IMAGE, MAP, PACKET);
         refused_over_an_empty_map(pair, &mut random);
     }
 }
@@ -100,14 +104,15 @@ fn file(pair: &mut Pair, random: &mut Random) {
         let (image, map) = lent(random);
         let told = run(random);
         let buffer = buffer(random);
-        pair.session_start(told, image, map, buffer);
+        pair.start(told, image, map, buffer);
     }
     let told = run(random);
-    let (number, start) = pair.session_start(told, IMAGE, MAP, PACKET);
+    let (number, start) = pair.start(told, IMAGE, MAP, PACKET);
     if number != 0 {
         refused_over_an_empty_map(pair, random);
         return;
     }
+    greetings(pair, random, start);
     bounds(pair, random, start);
     let states = states(pair, start);
     if states.len() <= STATES as usize {
@@ -129,23 +134,45 @@ fn file(pair: &mut Pair, random: &mut Random) {
 fn refused_over_an_empty_map(pair: &mut Pair, random: &mut Random) {
     for phase in 0..7 {
         for total in [0, 1, 3, 4] {
-            let state = SessionState {
-                run: 1,
-                phase,
-                place: random.pick(&[0, 0, 0, 40, 42]),
+            let place = random.pick(&[0, 0, 0, 40, 42]);
+            let state = SessionRecord {
                 acknowledged: random.pick(&[0, 1, total]),
                 total,
-                named: 0,
+                ..placed(phase, place)
             };
             step_right(pair, state);
-            pair.session_proved(state, MAP, random.below(FLASH_END));
+            pair.proved(state, MAP, random.below(FLASH_END));
         }
     }
 }
 
+/// A phase with a value in the field that goes with it.
+fn placed(phase: u32, value: u32) -> SessionRecord {
+    let mut record = SessionRecord {
+        phase,
+        ..SessionRecord::default()
+    };
+    match phase {
+        1 => record.page = value,
+        2 | 3 => record.address = value,
+        _ => record.outcome = value,
+    }
+    record
+}
+
+/// Greetings with one byte other than it is, free or not.
+fn greetings(pair: &mut Pair, random: &mut Random, start: SessionRecord) {
+    for _ in 0..4 {
+        let mut greeting = *GREETING;
+        let place = random.place(&greeting);
+        greeting[place] ^= 1 << random.below(8);
+        pair.step(start, 0, &greeting, (IMAGE, MAP), PACKET);
+    }
+}
+
 /// Marks of records on both sides of each bound, over the file's own map.
-fn bounds(pair: &mut Pair, random: &mut Random, start: SessionState) {
-    let SessionState { total, named, .. } = start;
+fn bounds(pair: &mut Pair, random: &mut Random, start: SessionRecord) {
+    let SessionRecord { total, named, .. } = start;
     let counts = [
         (total, named),
         (total + 1, named),
@@ -153,26 +180,28 @@ fn bounds(pair: &mut Pair, random: &mut Random, start: SessionState) {
         (total, named + 1),
         (total, named - 1),
     ];
-    for (phase, place) in ENDS_AND_PLACELESS {
+    for (phase, page, address, outcome) in ENDS_AND_PLACELESS {
         for acknowledged in [0, 1, total - 1, total, total + 1, u32::MAX] {
             for (total, named) in counts {
-                let state = SessionState {
+                let state = SessionRecord {
                     run: start.run,
                     phase,
-                    place,
+                    page,
+                    address,
+                    outcome,
                     acknowledged,
                     total,
                     named,
                 };
                 let address = maps::named_from(pair.look(MAP), random.below(FLASH_END));
-                pair.session_proved(state, MAP, address);
+                pair.proved(state, MAP, address);
             }
         }
     }
 }
 
 /// Each state that a start and acknowledgements lead to, the valid end last.
-fn states(pair: &Pair, start: SessionState) -> Vec<SessionState> {
+fn states(pair: &Pair, start: SessionRecord) -> Vec<SessionRecord> {
     let (image, map) = (pair.look(IMAGE), pair.look(MAP));
     let mut buffer = [0; 259];
     let mut session = start.meaning();
@@ -195,22 +224,22 @@ fn expected(phase: Phase) -> &'static [u8] {
 
 /// Goes through the whole session of the file and gives its named bytes.
 pub fn walk(pair: &mut Pair) -> u32 {
-    let (_, mut state) = pair.session_start(1, IMAGE, MAP, PACKET);
+    let (_, mut state) = pair.start(0, IMAGE, MAP, PACKET);
     while state.phase != 5 {
-        (_, _, state) = step_right(pair, state);
+        state = step_right(pair, state);
     }
-    pair.session_outcome(state);
+    pair.outcome(state);
     state.named
 }
 
 /// One state of the file: what it answers to, and what is near it.
-fn look_at(pair: &mut Pair, random: &mut Random, state: SessionState) {
-    pair.session_outcome(state);
-    let (_, _, next) = step_right(pair, state);
-    pair.session_outcome(next);
+fn look_at(pair: &mut Pair, random: &mut Random, state: SessionRecord) {
+    pair.outcome(state);
+    let next = step_right(pair, state);
+    pair.outcome(next);
     for _ in 0..3 {
         let next = step_any(pair, random, state);
-        pair.session_outcome(next);
+        pair.outcome(next);
         if next != state && random.once_in(4) {
             step_any(pair, random, next);
         }
@@ -219,32 +248,29 @@ fn look_at(pair: &mut Pair, random: &mut Random, state: SessionState) {
     for _ in 0..4 {
         let made_up = made_up(random, state);
         step_right(pair, made_up);
-        pair.session_outcome(made_up);
+        pair.outcome(made_up);
     }
     let made_up = made_up(random, state);
     step_any(pair, random, made_up);
     marks(pair, random, made_up);
     let ended = said_to_have_ended(random, state);
     step_any(pair, random, ended);
-    pair.session_outcome(ended);
+    pair.outcome(ended);
     marks(pair, random, ended);
-    let file = (IMAGE, OTHER_MAP);
-    let part = heard(pair, answer(state));
-    pair.session_step(state, 0, part, file, PACKET);
+    pair.step(state, 0, answer(state), (IMAGE, OTHER_MAP), PACKET);
     marks(pair, random, state);
 }
 
-fn answer(state: SessionState) -> &'static [u8] {
+fn answer(state: SessionRecord) -> &'static [u8] {
     expected(state.meaning().phase)
 }
 
-fn step_right(pair: &mut Pair, state: SessionState) -> (u8, usize, SessionState) {
-    let part = heard(pair, answer(state));
-    pair.session_step(state, 0, part, (IMAGE, MAP), PACKET)
+fn step_right(pair: &mut Pair, state: SessionRecord) -> SessionRecord {
+    pair.step(state, 0, answer(state), (IMAGE, MAP), PACKET).1
 }
 
 /// A step with any answer, silence and buffers of wrong sizes among them.
-fn step_any(pair: &mut Pair, random: &mut Random, state: SessionState) -> SessionState {
+fn step_any(pair: &mut Pair, random: &mut Random, state: SessionRecord) -> SessionRecord {
     let mut bytes = match random.below(4) {
         0 => vec![BEL],
         1 => vec![ACK],
@@ -258,20 +284,12 @@ fn step_any(pair: &mut Pair, random: &mut Random, state: SessionState) -> Sessio
         _ => {}
     }
     let silent = random.pick(&[0, 0, 0, 0, 1, 0x80]);
-    let part = heard(pair, &bytes);
-    let (image, map) = lent(random);
-    let buffer = buffer(random);
-    pair.session_step(state, silent, part, (image, map), buffer)
-        .2
-}
-
-fn heard(pair: &mut Pair, bytes: &[u8]) -> Part {
-    if bytes.is_empty() {
-        return Part::NULL;
-    }
-    let part = HEARD.with_length(bytes.len() as u32);
-    pair.set(part, bytes);
-    part
+    let file = lent(random);
+    let buffer = match random.once_in(8) {
+        true => Part::new(Buffer::Input, bytes.len() as u32, 259),
+        false => buffer(random),
+    };
+    pair.step(state, silent, &bytes, file, buffer).1
 }
 
 fn run(random: &mut Random) -> u32 {
@@ -290,16 +308,18 @@ fn buffer(random: &mut Random) -> Part {
 }
 
 /// A session off by a little, or with fields of any value.
-fn made_up(random: &mut Random, state: SessionState) -> SessionState {
+fn made_up(random: &mut Random, state: SessionRecord) -> SessionRecord {
     let mut made_up = state;
-    let changes = random.pick(&[1, 1, 1, 2, 3, 6]);
+    let changes = random.pick(&[1, 1, 1, 2, 3, 8]);
     for _ in 0..changes {
-        let field = match random.below(6) {
+        let field = match random.below(8) {
             0 => &mut made_up.run,
             1 => &mut made_up.phase,
-            2 => &mut made_up.place,
-            3 => &mut made_up.acknowledged,
-            4 => &mut made_up.total,
+            2 => &mut made_up.page,
+            3 => &mut made_up.address,
+            4 => &mut made_up.outcome,
+            5 => &mut made_up.acknowledged,
+            6 => &mut made_up.total,
             _ => &mut made_up.named,
         };
         let any = random.word();
@@ -317,12 +337,14 @@ fn made_up(random: &mut Random, state: SessionState) -> SessionState {
 }
 
 /// A record of an end, its counts mostly the file's and else next to them.
-fn said_to_have_ended(random: &mut Random, state: SessionState) -> SessionState {
-    let SessionState { total, named, .. } = state;
+fn said_to_have_ended(random: &mut Random, state: SessionRecord) -> SessionRecord {
+    let SessionRecord { total, named, .. } = state;
     let reached = state.acknowledged;
-    SessionState {
+    SessionRecord {
         phase: 5,
-        place: random.pick(&[0, 0, 40, 41, 42, 43, 44]),
+        page: 0,
+        address: 0,
+        outcome: random.pick(&[0, 0, 40, 41, 42, 43, 44]),
         acknowledged: random.pick(&[0, 1, reached, reached, total - 1, total, total + 1]),
         total: random.pick(&[total, total, total, total, total + 1, total - 1]),
         named: random.pick(&[named, named, named, named, named + 1, named - 1]),
@@ -332,22 +354,27 @@ fn said_to_have_ended(random: &mut Random, state: SessionState) -> SessionState 
 
 /// Marks of bytes of every kind, over the session's own map and over others,
 /// which are refused unless they lead to the session too.
-fn marks(pair: &mut Pair, random: &mut Random, state: SessionState) {
+fn marks(pair: &mut Pair, random: &mut Random, state: SessionRecord) {
+    // where the packet that is waited on begins
+    let sent = match state.phase {
+        1 => state.page.wrapping_mul(PAGE_BYTES),
+        _ => state.address,
+    };
     for _ in 0..6 {
         let map = random.pick(&[MAP, MAP, OTHER_MAP, ANY_MAP]);
         let any = random.word();
         let inside = random.below(FLASH_END);
         let near = random.within(FLASH_END - 2, FLASH_END + 2);
-        let sent = state.place.wrapping_add(random.below(256));
-        let before = state.place.wrapping_sub(random.below(256));
+        let from = sent.wrapping_add(random.below(256));
+        let before = sent.wrapping_sub(random.below(256));
         let named = maps::named_from(pair.look(map), inside);
-        let address = random.pick(&[any, inside, near, sent, before, named, named]);
+        let address = random.pick(&[any, inside, near, from, before, named, named]);
         let lent = match random.below(24) {
             0 => map.with_length(map.length() - 1),
             1 => map.with_length(map.length() + 1),
             2 => Part::NULL,
             _ => map,
         };
-        pair.session_proved(state, lent, address);
+        pair.proved(state, lent, address);
     }
 }

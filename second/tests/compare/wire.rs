@@ -1,104 +1,123 @@
-//! The driver that calls the product's library, and the check of its answers.
+//! The program that asks case lines of the product's library, and the check
+//! of what it prints.
 
-use std::io::{BufReader, BufWriter, Read, Write};
+use std::collections::VecDeque;
+use std::io::{BufRead, BufReader, BufWriter, Write};
 use std::process::{Child, ChildStdin, ChildStdout, Stdio};
-use std::sync::mpsc::{channel, Receiver, Sender};
+use std::sync::mpsc::{sync_channel, Receiver, SyncSender, TrySendError};
 use std::thread::{self, JoinHandle};
-
-use second::listing::hex_digits;
 
 use crate::root;
 
+pub const PROGRAM: &str = "target/c/cases";
+
 const BUFFER: usize = 65_536;
-/// How many bytes a message shows: a request's last, an answer's first.
+/// So many lines run ahead of what was read; far more than a program keeps
+/// back before it prints.
+const IN_FLIGHT: usize = 65_536;
+/// How many lines a message shows, and how much of each.
+const SHOWN_LINES: usize = 12;
 const SHOWN: usize = 400;
 
-/// A request and the answer that is expected for it.
-struct Exchange {
-    request: Vec<u8>,
-    expected: Vec<u8>,
-}
-
-/// Requests run ahead of the answers, which a thread of its own checks.
+/// Lines run ahead of what is printed, which a thread of its own checks.
 pub struct Wire {
     child: Child,
     input: BufWriter<ChildStdin>,
-    exchanges: Sender<Exchange>,
+    expected: SyncSender<Vec<u8>>,
     checker: JoinHandle<Result<(), String>>,
 }
 
 impl Wire {
     pub fn open() -> Wire {
-        let mut child = root::program("target/c/driver")
+        let mut child = root::program(PROGRAM)
             .stdin(Stdio::piped())
             .stdout(Stdio::piped())
             .spawn()
-            .expect("the driver starts");
+            .expect("the program starts");
         let input = child.stdin.take().expect("a pipe");
         let output = child.stdout.take().expect("a pipe");
-        let (exchanges, expected) = channel();
+        let (expected, lines) = sync_channel(IN_FLIGHT);
         Wire {
             child,
             input: BufWriter::with_capacity(BUFFER, input),
-            exchanges,
-            checker: thread::spawn(move || check(output, expected)),
+            expected,
+            checker: thread::spawn(move || check(output, lines)),
         }
     }
 
-    /// Sends a request; false when the answers were found to differ.
-    pub fn send(&mut self, request: Vec<u8>, expected: Vec<u8>) -> bool {
-        self.input.write_all(&request).is_ok()
-            && self.exchanges.send(Exchange { request, expected }).is_ok()
+    /// Sends a line with what must be printed for it; false when a difference
+    /// was found.
+    pub fn send(&mut self, line: &[u8], expected: Vec<u8>) -> bool {
+        let sent = self.input.write_all(line).is_ok() && self.input.write_all(b"\n").is_ok();
+        sent && match self.expected.try_send(expected) {
+            Ok(()) => true,
+            // what is waited for must have gone out
+            Err(TrySendError::Full(expected)) => {
+                self.input.flush().is_ok() && self.expected.send(expected).is_ok()
+            }
+            Err(TrySendError::Disconnected(_)) => false,
+        }
     }
 
-    /// Waits for all answers and tells the first that differs.
-    pub fn close(self) -> Result<(), String> {
+    /// Waits for all that is printed; a difference ends the test.
+    pub fn close(self) {
+        if let Err(difference) = self.settled() {
+            panic!("{difference}");
+        }
+    }
+
+    fn settled(self) -> Result<(), String> {
         let Wire {
             mut child,
             input,
-            exchanges,
+            expected,
             checker,
         } = self;
         drop(input);
-        drop(exchanges);
+        drop(expected);
         checker.join().expect("the checker ends")?;
         let status = child.wait().map_err(|error| error.to_string())?;
         match status.success() {
             true => Ok(()),
-            false => Err(format!("the driver ended with {status}")),
+            false => Err(format!("{PROGRAM} ended with {status}")),
         }
     }
 }
 
-fn check(output: ChildStdout, exchanges: Receiver<Exchange>) -> Result<(), String> {
+fn check(output: ChildStdout, lines: Receiver<Vec<u8>>) -> Result<(), String> {
     let mut output = BufReader::with_capacity(BUFFER, output);
     let mut given = Vec::new();
-    for exchange in exchanges {
-        given.resize(exchange.expected.len(), 0);
-        if output.read_exact(&mut given).is_err() {
-            return Err(exchange.message("nothing more"));
+    let mut before = VecDeque::new();
+    for expected in lines {
+        given.clear();
+        let read = output.read_until(b'\n', &mut given);
+        let ended = given.pop_if(|last| *last == b'\n').is_some();
+        if read.is_err() || !ended || given != expected {
+            return Err(difference(&before, &expected, &given));
         }
-        if given != exchange.expected {
-            return Err(exchange.message(&head(&given)));
+        if before.len() == SHOWN_LINES {
+            before.pop_front();
         }
+        before.push_back(expected);
     }
-    match output.read(&mut [0]) {
-        Ok(0) => Ok(()),
-        _ => Err(String::from("the driver says more than it was asked")),
+    match output.fill_buf() {
+        Ok([]) => Ok(()),
+        _ => Err(format!("{PROGRAM} says more than it was asked")),
     }
 }
 
-impl Exchange {
-    fn message(&self, given: &str) -> String {
-        let from = self.request.len().saturating_sub(SHOWN);
-        format!(
-            "the answer differs\nrequest  {}\nexpected {}\ngiven    {given}",
-            hex_digits(&self.request[from..]),
-            head(&self.expected)
-        )
-    }
+fn difference(before: &VecDeque<Vec<u8>>, expected: &[u8], given: &[u8]) -> String {
+    let before: Vec<String> = before.iter().map(|line| head(line)).collect();
+    format!(
+        "{PROGRAM} differs\n{}\nexpected {}\ngiven    {}",
+        before.join("\n"),
+        head(expected),
+        head(given)
+    )
 }
 
-fn head(bytes: &[u8]) -> String {
-    hex_digits(&bytes[..bytes.len().min(SHOWN)])
+/// A line as far as it is shown.
+fn head(line: &[u8]) -> String {
+    let shown = &line[..line.len().min(SHOWN)];
+    String::from_utf8_lossy(shown).into_owned()
 }

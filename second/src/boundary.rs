@@ -1,0 +1,350 @@
+//! Records as a C caller keeps them, with any value in any field, and what
+//! they mean.
+
+use crate::hex::Reader;
+use crate::loader::{Condition, Loader, Protection};
+use crate::session::{Outcome, Phase, Run, Session};
+use crate::units::{ByteAddress, Page};
+
+/// What a record that came from no start counts as: the wait for the erase of
+/// a page that no board has.
+const NOWHERE: Phase = Phase::Erase(Page(u32::MAX));
+
+#[derive(Clone, Copy, Debug, PartialEq, Eq)]
+pub struct LoaderRecord {
+    pub groups: u64,
+    pub added: u64,
+    pub key: u32,
+    pub condition: u8,
+    pub read: u8,
+    pub opened: u8,
+    pub added_read: u8,
+}
+
+impl LoaderRecord {
+    pub fn fields(&self) -> [u64; 7] {
+        [
+            self.groups,
+            self.added,
+            self.key.into(),
+            self.condition.into(),
+            self.read.into(),
+            self.opened.into(),
+            self.added_read.into(),
+        ]
+    }
+
+    /// None where there are more or fewer fields, or one is too large.
+    pub fn of_fields(fields: &[u64]) -> Option<LoaderRecord> {
+        let [groups, added, key, condition, read, opened, added_read] = *fields else {
+            return None;
+        };
+        Some(LoaderRecord {
+            groups,
+            added,
+            key: key.try_into().ok()?,
+            condition: condition.try_into().ok()?,
+            read: read.try_into().ok()?,
+            opened: opened.try_into().ok()?,
+            added_read: added_read.try_into().ok()?,
+        })
+    }
+
+    pub fn meaning(&self) -> Loader {
+        let added = Protection {
+            groups: self.added,
+            read: self.added_read != 0,
+        };
+        Loader {
+            condition: match self.condition {
+                0 => Condition::Waiting,
+                1 => Condition::Serving,
+                _ => Condition::Left,
+            },
+            protection: Protection {
+                groups: self.groups,
+                read: self.read != 0,
+            },
+            key: self.key,
+            sequence: (self.opened != 0).then_some(added),
+        }
+    }
+
+    /// The record after an input that was accepted. What is said to be added
+    /// with no sequence open has no meaning and stays.
+    pub fn followed_by(&self, next: Loader) -> LoaderRecord {
+        let after = LoaderRecord::from(next);
+        if self.opened != 0 || after.opened != 0 {
+            return after;
+        }
+        LoaderRecord {
+            added: self.added,
+            added_read: (self.added_read != 0).into(),
+            ..after
+        }
+    }
+}
+
+impl From<Loader> for LoaderRecord {
+    fn from(loader: Loader) -> LoaderRecord {
+        let added = loader.sequence.unwrap_or_default();
+        LoaderRecord {
+            groups: loader.protection.groups,
+            added: added.groups,
+            key: loader.key,
+            condition: match loader.condition {
+                Condition::Waiting => 0,
+                Condition::Serving => 1,
+                Condition::Left => 2,
+            },
+            read: loader.protection.read.into(),
+            opened: loader.sequence.is_some().into(),
+            added_read: added.read.into(),
+        }
+    }
+}
+
+#[derive(Clone, Copy, Debug, Default, PartialEq, Eq)]
+pub struct ReaderRecord {
+    pub linear: u32,
+    pub segment: u32,
+    pub ended: u8,
+    pub taken: u8,
+}
+
+impl ReaderRecord {
+    pub fn fields(&self) -> [u64; 4] {
+        [
+            self.linear.into(),
+            self.segment.into(),
+            self.ended.into(),
+            self.taken.into(),
+        ]
+    }
+
+    pub fn of_fields(fields: &[u64]) -> Option<ReaderRecord> {
+        let [linear, segment, ended, taken] = *fields else {
+            return None;
+        };
+        Some(ReaderRecord {
+            linear: linear.try_into().ok()?,
+            segment: segment.try_into().ok()?,
+            ended: ended.try_into().ok()?,
+            taken: taken.try_into().ok()?,
+        })
+    }
+
+    pub fn meaning(&self) -> Reader {
+        Reader {
+            linear: self.linear,
+            segment: self.segment,
+            ended: self.ended != 0,
+            taken: self.taken != 0,
+        }
+    }
+}
+
+impl From<Reader> for ReaderRecord {
+    fn from(reader: Reader) -> ReaderRecord {
+        ReaderRecord {
+            linear: reader.linear,
+            segment: reader.segment,
+            ended: reader.ended.into(),
+            taken: reader.taken.into(),
+        }
+    }
+}
+
+#[derive(Clone, Copy, Debug, Default, PartialEq, Eq)]
+pub struct SessionRecord {
+    pub run: u32,
+    pub phase: u32,
+    pub page: u32,
+    pub address: u32,
+    pub outcome: u32,
+    pub acknowledged: u32,
+    pub total: u32,
+    pub named: u32,
+}
+
+impl SessionRecord {
+    pub fn fields(&self) -> [u64; 8] {
+        [
+            self.run,
+            self.phase,
+            self.page,
+            self.address,
+            self.outcome,
+            self.acknowledged,
+            self.total,
+            self.named,
+        ]
+        .map(u64::from)
+    }
+
+    pub fn of_fields(fields: &[u64]) -> Option<SessionRecord> {
+        let fields: Result<Vec<u32>, _> = fields.iter().map(|field| (*field).try_into()).collect();
+        let [run, phase, page, address, outcome, acknowledged, total, named] = fields.ok()?[..]
+        else {
+            return None;
+        };
+        Some(SessionRecord {
+            run,
+            phase,
+            page,
+            address,
+            outcome,
+            acknowledged,
+            total,
+            named,
+        })
+    }
+
+    /// A field that the phase does not use must be 0.
+    pub fn meaning(&self) -> Session {
+        let phase = match (self.phase, self.page, self.address, self.outcome) {
+            (0, 0, 0, 0) => Phase::Greeting,
+            (1, page, 0, 0) => Phase::Erase(Page(page)),
+            (2, 0, address, 0) => Phase::Write(ByteAddress(address)),
+            (3, 0, address, 0) => Phase::Verify(ByteAddress(address)),
+            (4, 0, 0, 0) => Phase::Run,
+            (5, 0, 0, number) => outcome(number).map_or(NOWHERE, Phase::Ended),
+            _ => NOWHERE,
+        };
+        Session {
+            run: run(self.run),
+            phase,
+            acknowledged: self.acknowledged,
+            total: self.total,
+            named: self.named,
+        }
+    }
+}
+
+impl From<Session> for SessionRecord {
+    fn from(session: Session) -> SessionRecord {
+        let record = SessionRecord {
+            run: match session.run {
+                Run::Reset => 0,
+                Run::Jump => 1,
+            },
+            acknowledged: session.acknowledged,
+            total: session.total,
+            named: session.named,
+            ..SessionRecord::default()
+        };
+        let (phase, page, address, outcome) = match session.phase {
+            Phase::Greeting => (0, 0, 0, 0),
+            Phase::Erase(first) => (1, first.0, 0, 0),
+            Phase::Write(start) => (2, 0, start.0, 0),
+            Phase::Verify(start) => (3, 0, start.0, 0),
+            Phase::Run => (4, 0, 0, 0),
+            Phase::Ended(outcome) => (5, 0, 0, outcome.number().into()),
+        };
+        SessionRecord {
+            phase,
+            page,
+            address,
+            outcome,
+            ..record
+        }
+    }
+}
+
+/// The run kind under its number; any other is the default.
+pub fn run(number: u32) -> Run {
+    match number {
+        0 => Run::Reset,
+        1 => Run::Jump,
+        _ => Run::default(),
+    }
+}
+
+fn outcome(number: u32) -> Option<Outcome> {
+    u8::try_from(number).ok().and_then(Outcome::from_number)
+}
+
+#[cfg(test)]
+mod tests {
+    use super::*;
+    use crate::map;
+    use crate::packet::LONGEST;
+    use crate::refusal::Refusal;
+    use crate::session::Event;
+    use crate::units::{FLASH_BYTES, MAP_BYTES};
+
+    fn waiting_for(phase: u32, page: u32, address: u32, outcome: u32) -> SessionRecord {
+        SessionRecord {
+            phase,
+            page,
+            address,
+            outcome,
+            total: 4,
+            named: 1,
+            ..SessionRecord::default()
+        }
+    }
+
+    /// Neither a step nor a mark is given of a record that no call hands out.
+    #[test]
+    fn what_means_no_session_is_refused() {
+        let mut map = vec![0; MAP_BYTES];
+        map::name(&mut map, 0);
+        let image = vec![0; FLASH_BYTES];
+        for (phase, page, address, outcome) in [
+            (0, 1, 0, 0),
+            (0, 0, 1, 0),
+            (0, 0, 0, 40),
+            (1, 0, 1, 0),
+            (1, 0, 0, 40),
+            (2, 1, 0, 0),
+            (2, 0, 0, 1),
+            (3, 1, 0, 0),
+            (3, 0, 0, 1),
+            (4, 1, 0, 0),
+            (4, 0, 1, 0),
+            (4, 0, 0, 40),
+            (5, 1, 0, 40),
+            (5, 0, 1, 40),
+            (5, 0, 0, 1),
+            (5, 0, 0, 39),
+            (5, 0, 0, 44),
+            (5, 0, 0, 256),
+            (5, 0, 0, u32::MAX),
+            (6, 0, 0, 0),
+            (u32::MAX, 0, 0, 0),
+        ] {
+            for acknowledged in [0, 1, 2, 3, 4, u32::MAX] {
+                let record = SessionRecord {
+                    acknowledged,
+                    ..waiting_for(phase, page, address, outcome)
+                };
+                let session = record.meaning();
+                let stepped = session.step(Event::Silence, &image, &map, &mut [0; LONGEST]);
+                assert_eq!(stepped, Err(Refusal::OtherFile), "{record:?}");
+                let proved = session.proved(&map, 0);
+                assert_eq!(proved, Err(Refusal::OtherFile), "{record:?}");
+            }
+        }
+    }
+
+    #[test]
+    fn a_session_is_what_its_record_means() {
+        for (phase, page, address, outcome) in [
+            (0, 0, 0, 0),
+            (1, 7, 0, 0),
+            (2, 0, 7, 0),
+            (3, 0, 7, 0),
+            (4, 0, 0, 0),
+            (5, 0, 0, 0),
+            (5, 0, 0, 43),
+        ] {
+            let record = waiting_for(phase, page, address, outcome);
+            assert_eq!(SessionRecord::from(record.meaning()), record);
+        }
+        assert_eq!(
+            [0, 1, 2, u32::MAX].map(run),
+            [Run::Reset, Run::Jump, Run::Reset, Run::Reset]
+        );
+    }
+}

@@ -1,0 +1,55 @@
+//! The words of case lines.
+
+use std::str::FromStr;
+
+use crate::boundary;
+use crate::session::Run;
+
+/// An even number of upper-case digits; no bytes are an empty word.
+pub fn bytes(word: &str) -> Option<Vec<u8>> {
+    let digits = word.as_bytes();
+    if !digits.len().is_multiple_of(2) {
+        return None;
+    }
+    digits
+        .chunks_exact(2)
+        .map(|pair| Some(upper_digit(pair[0])? << 4 | upper_digit(pair[1])?))
+        .collect()
+}
+
+fn upper_digit(digit: u8) -> Option<u8> {
+    match digit {
+        b'0'..=b'9' => Some(digit - b'0'),
+        b'A'..=b'F' => Some(digit - b'A' + 10),
+        _ => None,
+    }
+}
+
+pub fn byte(word: &str) -> Option<u8> {
+    match bytes(word)?[..] {
+        [byte] => Some(byte),
+        _ => None,
+    }
+}
+
+pub fn address(word: &str) -> Option<u32> {
+    let bytes: [u8; 4] = bytes(word)?.try_into().ok()?;
+    Some(u32::from_be_bytes(bytes))
+}
+
+/// A decimal number without leading zeros, as large as its type allows.
+pub fn number<N: FromStr>(word: &str) -> Option<N> {
+    let plain = word.bytes().all(|digit| digit.is_ascii_digit());
+    if !plain || (word.len() > 1 && word.starts_with('0')) {
+        return None;
+    }
+    word.parse().ok()
+}
+
+pub fn run(word: &str) -> Option<Run> {
+    match word {
+        "reset" => Some(Run::Reset),
+        "jump" => Some(Run::Jump),
+        _ => number(word).map(boundary::run),
+    }
+}

@@ -1,0 +1,77 @@
+/* The structs of include/gremolunde.h, each with its size, and its fields in the order of the header, each with its
+ * place and its size. Define STRUCT(type, size) and FIELD(type, name, place, size), then include this. */
+
+STRUCT(gremolunde_loader, 24)
+FIELD(gremolunde_loader, groups, 0, 8)
+FIELD(gremolunde_loader, added, 8, 8)
+FIELD(gremolunde_loader, key, 16, 4)
+FIELD(gremolunde_loader, condition, 20, 1)
+FIELD(gremolunde_loader, read, 21, 1)
+FIELD(gremolunde_loader, opened, 22, 1)
+FIELD(gremolunde_loader, added_read, 23, 1)
+
+STRUCT(gremolunde_hex, 12)
+FIELD(gremolunde_hex, linear, 0, 4)
+FIELD(gremolunde_hex, segment, 4, 4)
+FIELD(gremolunde_hex, ended, 8, 1)
+FIELD(gremolunde_hex, taken, 9, 1)
+
+STRUCT(gremolunde_session, 32)
+FIELD(gremolunde_session, run, 0, 4)
+FIELD(gremolunde_session, phase, 4, 4)
+FIELD(gremolunde_session, page, 8, 4)
+FIELD(gremolunde_session, address, 12, 4)
+FIELD(gremolunde_session, outcome, 16, 4)
+FIELD(gremolunde_session, acknowledged, 20, 4)
+FIELD(gremolunde_session, total, 24, 4)
+FIELD(gremolunde_session, named, 28, 4)
+
+STRUCT(gremolunde_length, 16)
+FIELD(gremolunde_length, number, 0, 4)
+FIELD(gremolunde_length, length, 8, 8)
+
+STRUCT(gremolunde_parts, 32)
+FIELD(gremolunde_parts, number, 0, 4)
+FIELD(gremolunde_parts, command, 4, 1)
+FIELD(gremolunde_parts, address, 8, 4)
+FIELD(gremolunde_parts, place, 16, 8)
+FIELD(gremolunde_parts, length, 24, 8)
+
+STRUCT(gremolunde_taken, 40)
+FIELD(gremolunde_taken, number, 0, 4)
+FIELD(gremolunde_taken, answered, 8, 8)
+FIELD(gremolunde_taken, loader, 16, 24)
+
+STRUCT(gremolunde_hex_read, 16)
+FIELD(gremolunde_hex_read, number, 0, 4)
+FIELD(gremolunde_hex_read, reader, 4, 12)
+
+STRUCT(gremolunde_hex_written, 16)
+FIELD(gremolunde_hex_written, number, 0, 4)
+FIELD(gremolunde_hex_written, next, 4, 4)
+FIELD(gremolunde_hex_written, length, 8, 8)
+
+STRUCT(gremolunde_session_stepped, 48)
+FIELD(gremolunde_session_stepped, number, 0, 4)
+FIELD(gremolunde_session_stepped, length, 8, 8)
+FIELD(gremolunde_session_stepped, session, 16, 32)
+
+STRUCT(gremolunde_session_mark, 8)
+FIELD(gremolunde_session_mark, number, 0, 4)
+FIELD(gremolunde_session_mark, proved, 4, 1)
+
+STRUCT(gremolunde_log, 20)
+FIELD(gremolunde_log, number, 0, 4)
+FIELD(gremolunde_log, version, 4, 1)
+FIELD(gremolunde_log, outcome, 5, 1)
+FIELD(gremolunde_log, acknowledged, 8, 4)
+FIELD(gremolunde_log, total, 12, 4)
+FIELD(gremolunde_log, bytes, 16, 4)
+
+STRUCT(gremolunde_rehearsal, 64)
+FIELD(gremolunde_rehearsal, number, 0, 4)
+FIELD(gremolunde_rehearsal, loader, 8, 24)
+FIELD(gremolunde_rehearsal, session, 32, 32)
+
+#undef STRUCT
+#undef FIELD
