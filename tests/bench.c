@@ -114,7 +114,7 @@ static gremolunde_session_stepped step(gremolunde_session session, const uint8_t
 static gremolunde_session session_at(uint32_t piece, uint32_t pieces, uint32_t apart, int verifying) {
     gremolunde_session session = begun;
     session.phase = verifying ? GREMOLUNDE_VERIFY : GREMOLUNDE_WRITE;
-    session.place = piece * apart;
+    session.address = piece * apart;
     session.acknowledged = 1 + piece + (verifying ? pieces : 0);
     return session;
 }

@@ -6,16 +6,22 @@ use Rattle.gremolunde.specs.Answers.{hexAnswer}
 use Rattle.gremolunde.proofs.files.gremolunde_hex_record.Statement.{statement}
 use Rattle.gremolunde.proofs.files.gremolunde_hex_record.Tie as tie
 
+abbrev call : tie.After-hex-answer → tie.After-record
+call c = c .before .before .before .before .before
+
+abbrev meant : tie.After-hex-answer → tie.After-hex-meant
+meant c = call c .before .before .before
+
+abbrev entry : tie.After-hex-answer → tie.Start
+entry c = meant c .before .before .before .before
+
 returns : tie.Need-returns
 returns c =
-    let call = c .before .before .before .before .before in
-    let meant = call .before .before .before in
-    let entry = meant .before .before .before .before in
-    let o = call .«record» .ensures in
-    rw (sym (meant .hex-meant .ensures)) (
-      c .hex-answer .ensures ∙ (λ i. hexAnswer (entry .args .reader) (o i .answer)),
-      (λ i. o i .image),
-      (λ i. o i .map),
+    rw (sym (meant c .hex-meant .ensures)) (
+      c .hex-answer .ensures
+          ∙ (λ i. hexAnswer (entry c .args .reader) (call c .«record» .ensures i .answer)),
+      (λ i. call c .«record» .ensures i .image),
+      (λ i. call c .«record» .ensures i .map),
     )
 
 pub gremolunde-hex-record-spec : {M : Type 1} → statement M

@@ -6,14 +6,21 @@ use Rattle.gremolunde.specs.Answers.{steppedAnswer}
 use Rattle.gremolunde.proofs.sessions.gremolunde_session_step.Statement.{statement}
 use Rattle.gremolunde.proofs.sessions.gremolunde_session_step.Tie as tie
 
+abbrev call : tie.After-stepped-answer → tie.After-step
+call c = c .before .before .before
+
+abbrev meant : tie.After-stepped-answer → tie.After-session-meant
+meant c = call c .before .before
+
+abbrev entry : tie.After-stepped-answer → tie.Start
+entry c = meant c .before .before .before .before .before
+
 returns : tie.Need-returns
 returns c =
-    let call = c .before .before .before in
-    let meant = call .before .before in
-    let entry = meant .before .before .before .before .before in
-    rw (sym (meant .session-meant .ensures)) (
-      c .stepped-answer .ensures ∙ (λ i. steppedAnswer (entry .args .session) (call .step .ensures .0 i)),
-      call .step .ensures .1,
+    rw (sym (meant c .session-meant .ensures)) (
+      c .stepped-answer .ensures
+          ∙ (λ i. steppedAnswer (entry c .args .session) (call c .step .ensures .0 i)),
+      call c .step .ensures .1,
     )
 
 pub gremolunde-session-step-spec : {M : Type 1} → statement M
