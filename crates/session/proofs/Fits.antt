@@ -12,6 +12,8 @@ use Rattle.basis.specs.Board.{pages, flashSize, mapSize}
 use Rattle.basis.specs.Choice.{both}
 use Rattle.basis.specs.Laws.Choice.{decide, both-false}
 use Rattle.basis.specs.Units.{pageOf, startOf}
+use Rattle.basis.specs.declared.kind.RunKind.{RunKind}
+use Rattle.events.specs.Endings.{endsAt, asked}
 use Rattle.runs.specs.Laws.Files.{bytes-past, pages-past}
 use Rattle.runs.specs.Laws.Pieces.{starts-fail}
 use Rattle.runs.specs.Map.{named}
@@ -19,12 +21,10 @@ use Rattle.runs.specs.Pages.{touched}
 use Rattle.runs.specs.Pieces.{pieceMost, namedCount}
 use Rattle.runs.specs.Survey.{surveyOf}
 use Rattle.runs.specs.declared.survey.Surveyed.{Surveyed}
-use Rattle.session.specs.Endings.{endsAt}
-use Rattle.session.specs.Phases.{placeOf, standsAt, asked}
+use Rattle.session.specs.Phases.{placeOf, standsAt}
 use Rattle.session.specs.Plan.{total}
 use Rattle.session.specs.Session.{cameAt, fitsOf}
 use Rattle.session.specs.declared.phase.Phase.{Phase}
-use Rattle.session.specs.declared.phase.RunKind.{RunKind}
 use Rattle.session.specs.declared.session.Session.{Session}
 use Rattle.session.proofs.Surveys.{Told, told}
 

@@ -5,15 +5,15 @@ use mathlib.Core.List.{List, []}
 use lib.Dec.{eqb, leb, ltb}
 use Rattle.basis.specs.Choice.{pick, both}
 use Rattle.basis.specs.Units.{startOf}
+use Rattle.basis.specs.declared.kind.RunKind.{RunKind}
+use Rattle.events.specs.declared.ending.Awaited.{Awaited}
+use Rattle.events.specs.declared.ending.Outcome.{Outcome}
 use Rattle.runs.specs.Map.{named}
 use Rattle.runs.specs.Pages.{touched}
 use Rattle.runs.specs.Pieces.{pieceMost, pieceStarts, runStarts, runCount}
 use Rattle.runs.specs.Runs.{count, next, select, follow}
 use Rattle.session.specs.Plan.{erasePacket, writePacket, verifyPacket, runPacket, beforeR, beforeVerify}
-use Rattle.session.specs.declared.ending.Awaited.{Awaited}
-use Rattle.session.specs.declared.ending.Outcome.{Outcome}
 use Rattle.session.specs.declared.phase.Phase.{Phase}
-use Rattle.session.specs.declared.phase.RunKind.{RunKind}
 
 abbrev pub ended : Phase → Bool
 ended Phase.Greeting = false
@@ -32,10 +32,6 @@ awaitsOf (Phase.Verify a) = Awaited.Ack
 awaitsOf Phase.Run = Awaited.Ack
 -- never asked: 44 comes first
 awaitsOf (Phase.Ended o) = Awaited.Ack
-
--- the ending that was asked for: ACK to R ends valid, whatever the run kind
-abbrev pub asked : RunKind → Outcome
-asked kind = Outcome.Valid
 
 -- the packet that is out for its answer; an ending has none
 abbrev pub packetOut : ℕ → List ℕ → List ℕ → RunKind → Phase → List ℕ

@@ -7,10 +7,10 @@ use lib.Dec.{eqb}
 use lib.ListN.{take, drop}
 use Rattle.basis.specs.Choice.{pick, either}
 use Rattle.basis.specs.Units.{startOf}
+use Rattle.basis.specs.declared.kind.RunKind.{RunKind}
 use Rattle.packet.specs.Packet.{packet}
 use Rattle.packet.specs.Table.{eraseByte, writeByte, verifyByte, runByte}
 use Rattle.runs.specs.Pieces.{pieceStarts, pieceLen, runStarts, runLen, runCount, pieceCount}
-use Rattle.session.specs.declared.phase.RunKind.{RunKind}
 
 -- the bytes of the piece at an address
 abbrev pub pieceBytes : List ℕ → List ℕ → ℕ → List ℕ

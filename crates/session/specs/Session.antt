@@ -9,18 +9,18 @@ use Rattle.basis.specs.Board.{openingByte}
 use Rattle.basis.specs.Choice.{pick, both}
 use Rattle.basis.specs.Refusals.{Answer, refused, given, _when_, first}
 use Rattle.basis.specs.Units.{startOf, mapBytes, rightSizesIn}
+use Rattle.basis.specs.declared.kind.RunKind.{RunKind}
+use Rattle.events.specs.Endings.{goesOn, acknowledges, endingOf, failing, endsAt, asked}
+use Rattle.events.specs.declared.ending.Awaited.{Awaited}
+use Rattle.events.specs.declared.ending.Outcome.{Outcome}
+use Rattle.events.specs.declared.event.Event.{Event}
 use Rattle.packet.specs.Packet.{packetMost}
 use Rattle.runs.specs.Map.{named}
 use Rattle.runs.specs.Pieces.{pieceStarts, namedCount, pieceLen}
 use Rattle.runs.specs.Runs.{count}
-use Rattle.session.specs.Endings.{goesOn, acknowledges, endingOf, failing, endsAt}
-use Rattle.session.specs.Phases.{ended, packetOut, phaseAt, afterOf, standsAt, verifyAt, awaitsOf, asked}
+use Rattle.session.specs.Phases.{ended, packetOut, phaseAt, afterOf, standsAt, verifyAt, awaitsOf}
 use Rattle.session.specs.Plan.{total, beforeVerify}
-use Rattle.session.specs.declared.ending.Awaited.{Awaited}
-use Rattle.session.specs.declared.event.Event.{Event}
-use Rattle.session.specs.declared.ending.Outcome.{Outcome}
 use Rattle.session.specs.declared.phase.Phase.{Phase}
-use Rattle.session.specs.declared.phase.RunKind.{RunKind}
 use Rattle.session.specs.declared.session.Next.{Next}
 use Rattle.session.specs.declared.session.Session.{Session}
 

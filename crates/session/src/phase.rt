@@ -1,28 +1,10 @@
 // Where a session stands: what it waits for, with the cursor in the file, or how it ended.
 ghost use mathlib.Core.Path.{_≡_};
-ghost use Rattle.session.specs.Phases.{asked, ended, awaitsOf};
-use crate::ending::Awaited;
-use crate::ending::Outcome;
+ghost use Rattle.session.specs.Phases.{ended, awaitsOf};
 use basis::units::Address;
 use basis::units::Page;
-
-// What the board does after the last packet.
-pub enum RunKind {
-    Reset,
-    Jump,
-}
-
-impl RunKind {
-    // The ending that was asked for.
-    pub fn asked(self) -> Outcome
-        ensures { λ r. ⌜ r ≡ asked self ⌝ }
-    {
-        match self {
-            RunKind::Reset => Outcome::Valid,
-            RunKind::Jump => Outcome::Valid,
-        }
-    }
-}
+use events::ending::Awaited;
+use events::ending::Outcome;
 
 // What a session waits for: the greeting, or the answer to E for the run at a page,
 // to W or V for the piece at an address, to R.

@@ -7,27 +7,27 @@ ghost use lib.ListN.{length};
 ghost use Rattle.basis.specs.Board.{flashSize, mapSize, pages};
 ghost use Rattle.basis.specs.Choice.{pick, both};
 ghost use Rattle.basis.specs.Lists.{overlay};
+ghost use Rattle.events.specs.Endings.{endsAt, asked};
+ghost use Rattle.events.specs.Events.{classifyOf};
+ghost use Rattle.events.specs.declared.ending.Awaited.{Awaited};
 ghost use Rattle.packet.specs.Packet.{packetMost};
-ghost use Rattle.session.specs.Events.{classifyOf};
-ghost use Rattle.session.specs.Endings.{endsAt};
 ghost use Rattle.session.specs.Paper.{paperRefusal, paperStepped, paperMark};
-ghost use Rattle.session.specs.Phases.{atStart, asked};
+ghost use Rattle.session.specs.Phases.{atStart};
 ghost use Rattle.session.specs.Session.{measured, sentBytes, rightSizes, started, movedOf, overOf, heardBy, tookOf, sentOf, fitsOf, stepOf, marked, provedOf};
-ghost use Rattle.session.specs.declared.ending.Awaited.{Awaited};
 use crate::cursor::after;
 use crate::cursor::place;
-use crate::ending::Awaited;
-use crate::ending::Outcome;
-use crate::ending::ending;
-use crate::event::Event;
-use crate::event::classify;
 use crate::phase::Phase;
-use crate::phase::RunKind;
 use crate::sending::send;
 use basis::board::END;
 use basis::board::MAP;
 use basis::board::OPENING;
+use basis::kind::RunKind;
 use basis::units::Address;
+use events::ending::Awaited;
+use events::ending::Outcome;
+use events::ending::ending;
+use events::event::Event;
+use events::event::classify;
 use packet::build::PACKET;
 use runs::map::named;
 use runs::survey::Counts;
@@ -196,7 +196,7 @@ impl Session {
         ensures { λ r. ⌜ r ≡ endsAt (asked (self .kind)) (self .total) outcome (self .acknowledged) ⌝ }
     {
         let kind = self.kind;
-        outcome.follows(kind.asked(), self.total, self.acknowledged)
+        outcome.follows(Outcome::asked(kind), self.total, self.acknowledged)
     }
 
     // An event that is not refused.

@@ -13,23 +13,23 @@ use Rattle.basis.specs.Laws.Choice.{decide, true-false}
 use Rattle.basis.specs.Laws.Refusals.{passed, given-one}
 use Rattle.basis.specs.Refusals.{given}
 use Rattle.basis.specs.Units.{mapBytes}
+use Rattle.basis.specs.declared.kind.RunKind.{RunKind}
+use Rattle.events.specs.Endings.{failing, endsAt, asked}
+use Rattle.events.specs.Laws.Endings.{outcome-one, ends-by, fails-ends}
+use Rattle.events.specs.Laws.Events.{ack-or, greeting-or}
+use Rattle.events.specs.declared.ending.Outcome.{Outcome}
+use Rattle.events.specs.declared.event.Event.{Event}
 use Rattle.runs.specs.Pieces.{namedCount}
-use Rattle.session.specs.Endings.{failing, endsAt}
-use Rattle.session.specs.Laws.Determined.{outcome-one}
-use Rattle.session.specs.Laws.Endings.{ends-by, fails-ends}
 use Rattle.session.specs.Laws.Fits.{Fitting, fitting, fits-by, came-open, came-ended}
 use Rattle.session.specs.Laws.Marks.{marked-held, proved-is}
 use Rattle.session.specs.Laws.Phases.{greeted, stands-below, stands-at}
-use Rattle.session.specs.Laws.Series.{came, acks-state, acks-valid, event-taken, series-nil, series-ack, series-last, series-first, series-fails, first-fails, ack-or, greeting-or}
+use Rattle.session.specs.Laws.Series.{came, acks-state, acks-valid, event-taken, series-nil, series-ack, series-last, series-first, series-fails, first-fails}
 use Rattle.session.specs.Laws.States.{stands-greeting, phase-open, phase-later, ack-next, greeting-state, waiting-fits, state-fits}
 use Rattle.session.specs.Laws.Steps.{step-taken}
-use Rattle.session.specs.Phases.{ended, phaseAt, asked}
+use Rattle.session.specs.Phases.{ended, phaseAt}
 use Rattle.session.specs.Plan.{total, beforeR}
 use Rattle.session.specs.Session.{sessionWith, atGreeting, stateAt, rightSizes, tookOf, sentOf, cameAt, fitsOf, stepOf, series, marked, provedOf, Came, waits, stands, fails, ends, Acknowledged, Shown}
-use Rattle.session.specs.declared.event.Event.{Event}
-use Rattle.session.specs.declared.ending.Outcome.{Outcome}
 use Rattle.session.specs.declared.phase.Phase.{Phase}
-use Rattle.session.specs.declared.phase.RunKind.{RunKind}
 use Rattle.session.specs.declared.session.Session.{Session}
 
 -- one series behind another

@@ -9,17 +9,17 @@ use lib.Dec.{eqb, ltb}
 use lib.ListN.{length}
 use Rattle.basis.specs.Laws.Choice.{decide, both-true, true-false}
 use Rattle.basis.specs.Units.{mapBytes}
+use Rattle.basis.specs.declared.kind.RunKind.{RunKind}
+use Rattle.events.specs.Endings.{goesOn, endsAt, asked}
+use Rattle.events.specs.Laws.Endings.{ends-by}
+use Rattle.events.specs.declared.ending.Outcome.{Outcome}
+use Rattle.events.specs.declared.event.Event.{Event}
 use Rattle.runs.specs.Pieces.{namedCount}
-use Rattle.session.specs.Endings.{goesOn, endsAt}
-use Rattle.session.specs.Laws.Endings.{ends-by}
 use Rattle.session.specs.Laws.Phases.{after-start, after-ended, stands-start, stands-below}
-use Rattle.session.specs.Phases.{ended, atStart, afterOf, standsAt, awaitsOf, asked}
+use Rattle.session.specs.Phases.{ended, atStart, afterOf, standsAt, awaitsOf}
 use Rattle.session.specs.Plan.{total}
 use Rattle.session.specs.Session.{tookOf, cameAt, fitsOf}
-use Rattle.session.specs.declared.event.Event.{Event}
-use Rattle.session.specs.declared.ending.Outcome.{Outcome}
 use Rattle.session.specs.declared.phase.Phase.{Phase}
-use Rattle.session.specs.declared.phase.RunKind.{RunKind}
 use Rattle.session.specs.declared.session.Session.{Session}
 
 -- the file has a named byte, the session's counts are the file's, and its phase is one to which events lead

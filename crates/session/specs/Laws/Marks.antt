@@ -12,6 +12,7 @@ use Rattle.basis.specs.Laws.Choice.{decide, both-true, both-second, both-false}
 use Rattle.basis.specs.Laws.Refusals.{skip, done}
 use Rattle.basis.specs.Refusals.{given}
 use Rattle.basis.specs.Units.{startOf, mapBytes}
+use Rattle.basis.specs.declared.kind.RunKind.{RunKind}
 use Rattle.runs.specs.Laws.Files.{bytes-past}
 use Rattle.runs.specs.Laws.Pieces.{piece-passes, in-piece, rank-in, rank-some, passes-below}
 use Rattle.runs.specs.Laws.Runs.{count-mono}
@@ -26,7 +27,6 @@ use Rattle.session.specs.Phases.{packetOut, verifyAt, standsAt}
 use Rattle.session.specs.Plan.{verifyPacket, plan, total, beforeR, beforeVerify}
 use Rattle.session.specs.Session.{cameAt, fitsOf, marked, provedOf, Held, markedFrom}
 use Rattle.session.specs.declared.phase.Phase.{Phase}
-use Rattle.session.specs.declared.phase.RunKind.{RunKind}
 use Rattle.session.specs.declared.session.Session.{Session}
 
 module _ (board : ℕ) (m : List ℕ) where

@@ -10,12 +10,12 @@ use lib.ListN.{length, getD, length-append, length-map, List·getD-append}
 use lib.Seq.{getD-append-seam, getD-append-add}
 use Rattle.basis.specs.Laws.Choice.{decide}
 use Rattle.basis.specs.Units.{startOf}
+use Rattle.basis.specs.declared.kind.RunKind.{RunKind}
 use Rattle.runs.specs.Laws.Runs.{count-zero, count-yes, count-no}
 use Rattle.runs.specs.Pieces.{pieceStarts, runStarts, runCount, pieceCount}
 use Rattle.runs.specs.Runs.{count, select}
 use Rattle.session.specs.Phases.{phaseAt, packetAt}
 use Rattle.session.specs.Plan.{erasePacket, writePacket, verifyPacket, places, plan, total, beforeR, beforeVerify}
-use Rattle.session.specs.declared.phase.RunKind.{RunKind}
 
 -- the places that pass are as many as are counted, and the k-th is the one of rank k
 places-length : (p : ℕ → Bool) (n : ℕ) → length (places p n) ≡ count p n

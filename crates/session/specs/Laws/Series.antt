@@ -11,17 +11,19 @@ use lib.ListN.{length, replicate}
 use Rattle.basis.specs.Choice.{pick}
 use Rattle.basis.specs.Laws.Choice.{decide, true-false}
 use Rattle.basis.specs.Units.{mapBytes}
+use Rattle.basis.specs.declared.kind.RunKind.{RunKind}
+use Rattle.events.specs.Endings.{failing}
+use Rattle.events.specs.Events.{isGreeting, isAck}
+use Rattle.events.specs.Laws.Events.{ack-or, greeting-or}
+use Rattle.events.specs.declared.ending.Awaited.{Awaited}
+use Rattle.events.specs.declared.ending.Outcome.{Outcome}
+use Rattle.events.specs.declared.event.Event.{Event}
 use Rattle.runs.specs.Pieces.{namedCount}
-use Rattle.session.specs.Endings.{isGreeting, isAck, failing}
 use Rattle.session.specs.Laws.States.{phase-open, phase-later, greeting-state, ack-next, ack-last}
 use Rattle.session.specs.Phases.{ended, phaseAt, awaitsOf}
 use Rattle.session.specs.Plan.{total, beforeR}
 use Rattle.session.specs.Session.{sessionWith, atGreeting, stateAt, valid, heardBy, tookOf, series, Came, waits, stands, fails, ends}
-use Rattle.session.specs.declared.ending.Awaited.{Awaited}
-use Rattle.session.specs.declared.event.Event.{Event}
-use Rattle.session.specs.declared.ending.Outcome.{Outcome}
 use Rattle.session.specs.declared.phase.Phase.{Phase}
-use Rattle.session.specs.declared.phase.RunKind.{RunKind}
 use Rattle.session.specs.declared.session.Session.{Session}
 
 -- after the end nothing changes
@@ -67,20 +69,6 @@ isValid (Phase.Ended Outcome.Silence) = false
 isValid (Phase.Ended Outcome.Bel) = false
 isValid (Phase.Ended Outcome.NoGreeting) = false
 isValid (Phase.Ended Outcome.Other) = false
-
-pub ack-or : {R : Type 0} (e : Event) → (e ≡ Event.Ack → R) → (isAck e ≡ false → R) → R
-ack-or Event.Greeting f g = g refl
-ack-or Event.Ack f g = f refl
-ack-or Event.Bel f g = g refl
-ack-or Event.Other f g = g refl
-ack-or Event.Silence f g = g refl
-
-pub greeting-or : {R : Type 0} (e : Event) → (e ≡ Event.Greeting → R) → (isGreeting e ≡ false → R) → R
-greeting-or Event.Greeting f g = f refl
-greeting-or Event.Ack f g = g refl
-greeting-or Event.Bel f g = g refl
-greeting-or Event.Other f g = g refl
-greeting-or Event.Silence f g = g refl
 
 pub series-nil : (board : ℕ) (m : List ℕ) (s : Session) → series board m s [] ≡ s
 unfolding series

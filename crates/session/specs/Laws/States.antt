@@ -12,6 +12,10 @@ use Rattle.basis.specs.Choice.{pick}
 use Rattle.basis.specs.Laws.Choice.{decide, true-false}
 use Rattle.basis.specs.Refusals.{given}
 use Rattle.basis.specs.Units.{startOf, mapBytes}
+use Rattle.basis.specs.declared.kind.RunKind.{RunKind}
+use Rattle.events.specs.declared.ending.Awaited.{Awaited}
+use Rattle.events.specs.declared.ending.Outcome.{Outcome}
+use Rattle.events.specs.declared.event.Event.{Event}
 use Rattle.runs.specs.Pieces.{runCount, namedCount}
 use Rattle.session.specs.Laws.Fits.{fits-by, came-open}
 use Rattle.session.specs.Laws.Phases.{greeted, stands-at, at-stands, greeting-stands, erase-stands, write-stands, verify-stands}
@@ -20,11 +24,7 @@ use Rattle.session.specs.Laws.Steps.{step-taken}
 use Rattle.session.specs.Phases.{ended, packetOut, eraseAt, writeAt, verifyAt, phaseAt, nextRun, nextPiece, afterOf, standsAt, awaitsOf}
 use Rattle.session.specs.Plan.{plan, total, beforeR, beforeVerify}
 use Rattle.session.specs.Session.{sessionWith, atGreeting, stateAt, valid, Sent, rightSizes, tookOf, sentOf, cameAt, fitsOf, stepOf}
-use Rattle.session.specs.declared.ending.Awaited.{Awaited}
-use Rattle.session.specs.declared.event.Event.{Event}
-use Rattle.session.specs.declared.ending.Outcome.{Outcome}
 use Rattle.session.specs.declared.phase.Phase.{Phase}
-use Rattle.session.specs.declared.phase.RunKind.{RunKind}
 use Rattle.session.specs.declared.session.Session.{Session}
 
 -- ---- which counts go with the phases that have no cursor

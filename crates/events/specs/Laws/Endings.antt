@@ -1,15 +1,35 @@
--- Laws of endings: with how many packets acknowledged each can come.
+-- Laws of endings: their numbers tell them apart, and with how many packets acknowledged each can come.
 use Prim.Native.Nat.{ℕ, _≤_, _<_}
 use mathlib.Core.Bool.{true, false}
-use mathlib.Core.Path.{_≡_, sym}
+use mathlib.Core.Path.{_≡_, refl, sym}
 use borrow.Author.Tests.{eq-eqb, ne-eqb, eqb-true, ltb-true, lt-ltb, le-ltb}
 use lib.Dec.{eqb, ltb}
+use Rattle.basis.specs.Choice.{pick}
 use Rattle.basis.specs.Laws.Choice.{decide, both-true, true-false}
-use Rattle.session.specs.Endings.{failing, endsAt}
-use Rattle.session.specs.Phases.{asked}
-use Rattle.session.specs.Paper.{paperOutcome}
-use Rattle.session.specs.declared.ending.Outcome.{Outcome}
-use Rattle.session.specs.declared.phase.RunKind.{RunKind}
+use Rattle.basis.specs.Laws.Refusals.{back-one}
+use Rattle.events.specs.Endings.{paperOutcome, asked, failing, endsAt}
+use Rattle.events.specs.declared.ending.Outcome.{Outcome}
+use Rattle.basis.specs.declared.kind.RunKind.{RunKind}
+
+-- the outcome of a number
+outcomeBy : ℕ → Outcome
+outcomeBy n =
+    pick (eqb n 0) Outcome.Valid
+    (pick (eqb n 40) Outcome.Silence
+    (pick (eqb n 41) Outcome.Bel
+    (pick (eqb n 42) Outcome.NoGreeting
+    Outcome.Other)))
+
+outcome-back : (x : Outcome) → outcomeBy (paperOutcome x) ≡ x
+unfolding outcomeBy
+outcome-back Outcome.Valid = refl
+outcome-back Outcome.Silence = refl
+outcome-back Outcome.Bel = refl
+outcome-back Outcome.NoGreeting = refl
+outcome-back Outcome.Other = refl
+
+pub outcome-one : (x y : Outcome) → paperOutcome x ≡ paperOutcome y → x ≡ y
+outcome-one = back-one paperOutcome outcomeBy outcome-back
 
 module _ (wish o : Outcome) (n k : ℕ) where
   -- the one that was asked for, once all are acknowledged

@@ -9,9 +9,9 @@ use lib.ListN.{length, drop, length-drop}
 use lib.Seq.{length-take-le, take-all}
 use Rattle.basis.specs.Board.{greeting}
 use Rattle.basis.specs.Laws.Choice.{both-second, both-false}
-use Rattle.session.specs.Events.{sameOf, greetsOf}
-use Rattle.session.proofs.event.greets.Statement.{statement}
-use Rattle.session.proofs.event.greets.Tie as tie
+use Rattle.events.specs.Events.{sameOf, greetsOf}
+use Rattle.events.proofs.event.greets.Statement.{statement}
+use Rattle.events.proofs.event.greets.Tie as tie
 
 returns : tie.Need-returns
 unfolding greetsOf

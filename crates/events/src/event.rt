@@ -1,6 +1,6 @@
 // What comes back from the board, as an event: an answer's bytes, or silence.
 ghost use mathlib.Core.Path.{_≡_};
-ghost use Rattle.session.specs.Events.{sameOf, greetsOf, classifyOf};
+ghost use Rattle.events.specs.Events.{sameOf, greetsOf, classifyOf};
 use basis::board::ACK;
 use basis::board::ANSWER;
 use basis::board::BEL;

@@ -4,10 +4,10 @@ use Prim.Native.Nat.{_≤_, _-_}
 use mathlib.Core.Path.{_≡_, refl, sym, _∙_}
 use native.Mathlib.Omega.{arith}
 use lib.ListN.{length, drop}
-use Rattle.session.specs.Events.{sameOf}
-use Rattle.session.proofs.Turns.{same-unlike, same-next, same-differs, same-end}
-use Rattle.session.proofs.event.same.Statement.{statement}
-use Rattle.session.proofs.event.same.Tie as tie
+use Rattle.events.specs.Events.{sameOf}
+use Rattle.events.proofs.Turns.{same-unlike, same-next, same-differs, same-end}
+use Rattle.events.proofs.event.same.Statement.{statement}
+use Rattle.events.proofs.event.same.Tie as tie
 
 abbrev Inv-loop : tie.InvT-loop
 Inv-loop a b i₀ i = (length a ≡ length b) × (i ≤ length a) × (sameOf a b ≡ sameOf (drop i a) (drop i b))

@@ -6,7 +6,7 @@ use lib.Dec.{eqb}
 use lib.ListN.{length, take, drop}
 use Rattle.basis.specs.Board.{greeting, answerMost, ackByte, belByte}
 use Rattle.basis.specs.Choice.{pick, both}
-use Rattle.session.specs.declared.event.Event.{Event}
+use Rattle.events.specs.declared.event.Event.{Event}
 
 -- two lists of bytes are the same
 unfoldable pub sameOf : List ℕ → List ℕ → Bool
@@ -30,3 +30,18 @@ classifyOf silent b =
     (pick (sameOf b (ackByte ∷ [])) Event.Ack
     (pick (sameOf b (belByte ∷ [])) Event.Bel
     Event.Other)))
+
+-- the event is the greeting, or an acknowledgement
+abbrev pub isGreeting : Event → Bool
+isGreeting Event.Greeting = true
+isGreeting Event.Ack = false
+isGreeting Event.Bel = false
+isGreeting Event.Other = false
+isGreeting Event.Silence = false
+
+abbrev pub isAck : Event → Bool
+isAck Event.Greeting = false
+isAck Event.Ack = true
+isAck Event.Bel = false
+isAck Event.Other = false
+isAck Event.Silence = false

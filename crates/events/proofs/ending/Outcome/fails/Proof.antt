@@ -1,10 +1,10 @@
 -- `fails` meets its contract, outcome by outcome.
 use mathlib.Core.Path.{ap, sym}
 use borrow.Author.Needs.{needs}
-use Rattle.session.specs.Endings.{failing}
-use Rattle.session.specs.declared.ending.Outcome.{Outcome}
-use Rattle.session.proofs.ending.Outcome.fails.Statement.{statement}
-use Rattle.session.proofs.ending.Outcome.fails.Tie as tie
+use Rattle.events.specs.Endings.{failing}
+use Rattle.events.specs.declared.ending.Outcome.{Outcome}
+use Rattle.events.proofs.ending.Outcome.fails.Statement.{statement}
+use Rattle.events.proofs.ending.Outcome.fails.Tie as tie
 
 returns-4 : tie.Need-returns-4
 returns-4 c =

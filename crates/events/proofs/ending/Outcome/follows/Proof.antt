@@ -1,10 +1,10 @@
 -- `follows` meets its contract: each test is one of the definition's.
 use mathlib.Core.Path.{_≡_, sym, _∙_}
 use borrow.Author.Needs.{needs}
-use Rattle.session.specs.Laws.Endings.{ends-asked, ends-late, ends-fails}
-use Rattle.session.specs.Paper.{paperOutcome}
-use Rattle.session.proofs.ending.Outcome.follows.Statement.{statement}
-use Rattle.session.proofs.ending.Outcome.follows.Tie as tie
+use Rattle.events.specs.Laws.Endings.{ends-asked, ends-late, ends-fails}
+use Rattle.events.specs.Endings.{paperOutcome}
+use Rattle.events.proofs.ending.Outcome.follows.Statement.{statement}
+use Rattle.events.proofs.ending.Outcome.follows.Tie as tie
 
 -- the ending is the one that was asked for, or is not
 same : (c : tie.Then1) → let a = c .before .before .before .args in

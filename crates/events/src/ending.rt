@@ -1,8 +1,8 @@
 // How a session goes on and how it ends: any event but the one that it awaits is an end.
 ghost use mathlib.Core.Path.{_≡_};
-ghost use Rattle.session.specs.Endings.{endingOf, failing, endsAt};
-ghost use Rattle.session.specs.Paper.{paperOutcome};
+ghost use Rattle.events.specs.Endings.{paperOutcome, asked, endingOf, failing, endsAt};
 use crate::event::Event;
+use basis::kind::RunKind;
 
 // The event that goes on: the greeting, or an acknowledgement.
 pub enum Awaited {
@@ -41,6 +41,16 @@ pub fn ending(awaited: Awaited, event: Event) -> Outcome
 }
 
 impl Outcome {
+    // The ending that was asked for.
+    pub fn asked(kind: RunKind) -> Outcome
+        ensures { λ r. ⌜ r ≡ asked kind ⌝ }
+    {
+        match kind {
+            RunKind::Reset => Outcome::Valid,
+            RunKind::Jump => Outcome::Valid,
+        }
+    }
+
     // As the service log says it.
     pub fn number(self) -> u8
         ensures { λ r. ⌜ r ≡ paperOutcome self ⌝ }

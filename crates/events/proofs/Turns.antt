@@ -10,7 +10,7 @@ use lib.Dec.{eqb}
 use lib.ListN.{length, getD, drop, drop-of-length-le}
 use lib.Seq.{drop-cons}
 use Rattle.basis.specs.Choice.{both}
-use Rattle.session.specs.Events.{sameOf}
+use Rattle.events.specs.Events.{sameOf}
 
 -- lists of unlike length are not the same
 pub same-unlike : (s t : List ℕ) → (length s ≡ length t → ⊥) → sameOf s t ≡ false

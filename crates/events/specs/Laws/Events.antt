@@ -4,8 +4,8 @@ use mathlib.Core.Bool.{Bool, true, false}
 use mathlib.Core.List.{List, [], _∷_}
 use mathlib.Core.Path.{_≡_, refl}
 use Rattle.basis.specs.Board.{greeting, ackByte, belByte}
-use Rattle.session.specs.Events.{sameOf, greetsOf, classifyOf}
-use Rattle.session.specs.declared.event.Event.{Event}
+use Rattle.events.specs.Events.{sameOf, greetsOf, classifyOf, isGreeting, isAck}
+use Rattle.events.specs.declared.event.Event.{Event}
 
 pub greeting-heard : classifyOf false greeting ≡ Event.Greeting
 unfolding classifyOf greetsOf sameOf
@@ -34,3 +34,18 @@ event-comes Event.Ack = (false, ackByte ∷ [], ack-heard)
 event-comes Event.Bel = (false, belByte ∷ [], bel-heard)
 event-comes Event.Other = (false, [], none-heard)
 event-comes Event.Silence = (true, [], silence-heard [])
+
+-- it is the one awaited, or is not
+pub ack-or : {R : Type 0} (e : Event) → (e ≡ Event.Ack → R) → (isAck e ≡ false → R) → R
+ack-or Event.Greeting f g = g refl
+ack-or Event.Ack f g = f refl
+ack-or Event.Bel f g = g refl
+ack-or Event.Other f g = g refl
+ack-or Event.Silence f g = g refl
+
+pub greeting-or : {R : Type 0} (e : Event) → (e ≡ Event.Greeting → R) → (isGreeting e ≡ false → R) → R
+greeting-or Event.Greeting f g = f refl
+greeting-or Event.Ack f g = g refl
+greeting-or Event.Bel f g = g refl
+greeting-or Event.Other f g = g refl
+greeting-or Event.Silence f g = g refl

@@ -3,24 +3,23 @@ use Prim.Native.Nat.{ℕ}
 use mathlib.Core.Bool.{Bool, true, false}
 use lib.Dec.{eqb, ltb}
 use Rattle.basis.specs.Choice.{pick, both}
-use Rattle.session.specs.Paper.{paperOutcome}
-use Rattle.session.specs.declared.ending.Awaited.{Awaited}
-use Rattle.session.specs.declared.event.Event.{Event}
-use Rattle.session.specs.declared.ending.Outcome.{Outcome}
+use Rattle.basis.specs.declared.kind.RunKind.{RunKind}
+use Rattle.events.specs.Events.{isGreeting, isAck}
+use Rattle.events.specs.declared.ending.Awaited.{Awaited}
+use Rattle.events.specs.declared.event.Event.{Event}
+use Rattle.events.specs.declared.ending.Outcome.{Outcome}
 
-abbrev pub isGreeting : Event → Bool
-isGreeting Event.Greeting = true
-isGreeting Event.Ack = false
-isGreeting Event.Bel = false
-isGreeting Event.Other = false
-isGreeting Event.Silence = false
+-- 0 valid; 40 silence, 41 BEL, 42 no greeting, 43 other bytes or none
+abbrev pub paperOutcome : Outcome → ℕ
+paperOutcome Outcome.Valid = 0
+paperOutcome Outcome.Silence = 40
+paperOutcome Outcome.Bel = 41
+paperOutcome Outcome.NoGreeting = 42
+paperOutcome Outcome.Other = 43
 
-abbrev pub isAck : Event → Bool
-isAck Event.Greeting = false
-isAck Event.Ack = true
-isAck Event.Bel = false
-isAck Event.Other = false
-isAck Event.Silence = false
+-- the ending that was asked for: ACK to R ends valid, whatever the run kind
+abbrev pub asked : RunKind → Outcome
+asked kind = Outcome.Valid
 
 -- the event is the one awaited
 abbrev pub goesOn : Awaited → Event → Bool

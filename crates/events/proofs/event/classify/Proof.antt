@@ -1,9 +1,9 @@
 -- `classify` meets its contract: each test is one of the definition's, in its order.
 use mathlib.Core.Path.{sym, _∙_}
 use borrow.Author.Needs.{needs}
-use Rattle.session.specs.Events.{classifyOf}
-use Rattle.session.proofs.event.classify.Statement.{statement}
-use Rattle.session.proofs.event.classify.Tie as tie
+use Rattle.events.specs.Events.{classifyOf}
+use Rattle.events.proofs.event.classify.Statement.{statement}
+use Rattle.events.proofs.event.classify.Tie as tie
 
 returns : tie.Need-returns
 unfolding classifyOf
