@@ -230,6 +230,15 @@ module _ (board : ℕ) (m : List ℕ) (long : length m ≡ mapBytes board) (some
       left-at board m long (followOf board m (stepAt board m k)) (k + 1)
       (follow-stands (stepAt board m k) k (at-stands board m k l))
 
+  pub follow-next : (k : ℕ) → k + 1 < total board m
+      → followOf board m (stepAt board m k) ≡ Following.Step (stepAt board m (k + 1))
+  follow-next k l = follow-at k (omega arith) ∙ rw (lt-ltb (k + 1) (total board m) l)
+
+  pub follow-end : (k : ℕ) → k + 1 ≡ total board m → followOf board m (stepAt board m k) ≡ Following.End
+  follow-end k e =
+      let l : total board m ≤ k + 1 = omega arith in
+      follow-at k (omega arith) ∙ rw (le-ltb (k + 1) (total board m) l)
+
   -- a cursor that moves on stands at a start
   pub first-start : atStart board m (firstOf board m) ≡ true
   first-start = stands-start board m long (firstOf board m) 0 first-stands
