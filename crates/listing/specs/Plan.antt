@@ -6,12 +6,13 @@ use lib.Dec.{ltb}
 use lib.ListN.{length, drop}
 use Rattle.basis.specs.Choice.{pick}
 use Rattle.basis.specs.Refusals.{Answer, refused, given}
-use Rattle.session.specs.Phases.{packetAt, phaseAt}
-use Rattle.session.specs.Plan.{plan, total}
+use Rattle.basis.specs.declared.kind.RunKind.{RunKind}
+use Rattle.events.specs.declared.ending.Outcome.{Outcome}
+use Rattle.order.specs.Plan.{plan, total}
+use Rattle.order.specs.Steps.{packetAt}
+use Rattle.session.specs.Phases.{phaseAt}
 use Rattle.session.specs.Session.{Sent, Loadable}
-use Rattle.session.specs.declared.ending.Outcome.{Outcome}
 use Rattle.session.specs.declared.phase.Phase.{Phase}
-use Rattle.session.specs.declared.phase.RunKind.{RunKind}
 use Rattle.listing.specs.Lines.{headLine, stepLine, totalLine}
 use Rattle.listing.specs.declared.plan.Listing.{Listing}
 

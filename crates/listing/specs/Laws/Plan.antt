@@ -13,17 +13,18 @@ use Rattle.basis.specs.Laws.Choice.{decide}
 use Rattle.basis.specs.Laws.Refusals.{apart, given-one, refused-one}
 use Rattle.basis.specs.Refusals.{Answer, refused, given}
 use Rattle.basis.specs.Units.{mapBytes}
+use Rattle.basis.specs.declared.kind.RunKind.{RunKind}
+use Rattle.events.specs.declared.event.Event.{Event}
+use Rattle.order.specs.Laws.Plan.{plan-length, plan-at}
+use Rattle.order.specs.Laws.Steps.{at-stands, stands-start}
+use Rattle.order.specs.Plan.{plan, total}
+use Rattle.order.specs.Steps.{atStart}
 use Rattle.runs.specs.Pieces.{namedCount}
-use Rattle.session.specs.Laws.Phases.{at-stands, stands-start}
-use Rattle.session.specs.Laws.Plan.{plan-length, plan-at}
-use Rattle.session.specs.Laws.States.{phase-later, greeting-state, ack-next, ack-last}
+use Rattle.session.specs.Laws.States.{greeting-state, ack-next, ack-last}
 use Rattle.session.specs.Laws.Steps.{starting}
-use Rattle.session.specs.Phases.{atStart, phaseAt, afterOf}
-use Rattle.session.specs.Plan.{plan, total}
+use Rattle.session.specs.Phases.{phaseAt, afterOf}
 use Rattle.session.specs.Session.{Sent, stateAt, started, measured, tookOf, Loadable}
-use Rattle.session.specs.declared.event.Event.{Event}
 use Rattle.session.specs.declared.phase.Phase.{Phase}
-use Rattle.session.specs.declared.phase.RunKind.{RunKind}
 use Rattle.session.specs.declared.session.Next.{Next}
 use Rattle.session.specs.declared.session.Session.{Session}
 use Rattle.listing.specs.Lines.{headLine, stepLine, totalLine}

@@ -3,6 +3,7 @@ use mathlib.Core.Path.{sym, _≡_, ap, _∙_}
 use native.Mathlib.Omega.{arith}
 use borrow.Author.Needs.{needs}
 use lib.Seq.{length-take-le, take-at}
+use Rattle.basis.specs.declared.kind.RunKind.{RunKind}
 use Rattle.listing.specs.Laws.Plan.{listed-start, listed-phase, listed-next}
 use Prim.Native.Nat.{ℕ, _+_, _*_, _≤_, _<_}
 use mathlib.Core.List.{List}
@@ -11,7 +12,6 @@ use Rattle.basis.specs.Board.{pages}
 use Rattle.basis.specs.Lists.{overlay, copyOf}
 use Rattle.session.specs.Phases.{packetOut, afterOf}
 use Rattle.session.specs.declared.phase.Phase.{Phase}
-use Rattle.session.specs.declared.phase.RunKind.{RunKind}
 use Rattle.listing.specs.Lines.{stepLine}
 use Rattle.listing.specs.Plan.{resetPacketAt, listingAt, Listed, longestLine}
 use Rattle.listing.specs.declared.plan.Listing.{Listing}

@@ -2,17 +2,17 @@
 use Prim.Native.Nat.{_-_, ℕ, _+_, _≤_, _<_}
 use native.Mathlib.Omega.{arith}
 use lib.ListN.{length, drop, length-append}
+use Rattle.basis.specs.declared.kind.RunKind.{RunKind}
 use Rattle.listing.specs.Plan.{Listed, resetPacketAt, listingAt, longestLine, Sheet, sheet, sheetOf}
 use mathlib.Core.List.{List, [], _++_}
 use mathlib.Core.Path.{_≡_, refl, sym, ap, _∙_}
 use Rattle.basis.specs.Board.{pages}
 use Rattle.basis.specs.Lists.{overlay, stored, copyOf}
 use Rattle.basis.specs.Laws.Lists.{copy-overlay}
-use Rattle.session.specs.Plan.{plan}
-use Rattle.session.specs.declared.phase.RunKind.{RunKind}
 use Rattle.listing.specs.Lines.{stepLine}
 use Rattle.listing.specs.Laws.Plan.{listed-left, listed-end, next-listed, sheet-end, sheet-full, sheet-line}
 use Rattle.listing.specs.declared.plan.Listing.{Listing}
+use Rattle.order.specs.Plan.{plan}
 use Rattle.listing.proofs.Buffers.{copy-then}
 use Rattle.listing.proofs.plan.Listing.sheet.Statement.{statement}
 use Rattle.listing.proofs.plan.Listing.sheet.Tie as tie
