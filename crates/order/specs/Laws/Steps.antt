@@ -7,7 +7,7 @@ use native.Mathlib.Omega.{arith}
 use borrow.Author.Tests.{eq-eqb, eqb-true, ltb-true, ltb-false, lt-ltb, le-ltb}
 use lib.Dec.{eqb, ltb}
 use lib.ListN.{length}
-use Rattle.basis.specs.Laws.Choice.{decide, both-true}
+use Rattle.basis.specs.Laws.Choice.{decide, both-true, true-false}
 use Rattle.basis.specs.Units.{startOf, mapBytes}
 use Rattle.runs.specs.Laws.Files.{bytes-past, pages-past}
 use Rattle.runs.specs.Laws.Pieces.{starts-below, first-starts, first-rank, follow-starts, follow-rank}
@@ -141,6 +141,33 @@ at-stands board m k l =
     (omega (arith, ltb-true k (beforeR board m) b)) in
     rw (d, f, b) (ranked-by (pieceStarts m) (beforeVerify board m) _ k (s .passes) (omega (arith, s .rank))))
     (λ b. rw (d, f, b) (eq-eqb (beforeR board m) k (omega (arith, ltb-false k (beforeR board m) b))))))
+
+-- ---- what is left after k acknowledgements
+
+stepOr : Step → Following → Step
+stepOr s (Following.Step t) = t
+stepOr s Following.End = s
+
+isStep : Following → Bool
+isStep (Following.Step s) = true
+isStep Following.End = false
+
+module _ (board : ℕ) (m : List ℕ) (k : ℕ) where
+  -- the step then, while not all are acknowledged
+  pub left-step : (s : Step) → followingAt board m k ≡ Following.Step s
+      → (k < total board m) × (s ≡ stepAt board m k)
+  unfolding stepOr isStep
+  left-step s e =
+      decide (ltb k (total board m))
+      (λ d. (ltb-true _ _ d, sym (ap (stepOr s) (rw d at e))))
+      (λ d. absurd (true-false (sym (ap isStep (rw d at e)))))
+
+  -- and else nothing
+  pub left-end : followingAt board m k ≡ Following.End → total board m ≤ k
+  unfolding isStep
+  left-end e =
+      decide (ltb k (total board m))
+      (λ d. absurd (true-false (ap isStep (rw d at e)))) (λ d. ltb-false _ _ d)
 
 -- ---- from step to step
 
