@@ -28,6 +28,9 @@
 extern "C" {
 #endif
 
+/* Rises when a struct changes. */
+#define GREMOLUNDE_VERSION 1
+
 /* The sizes that the paper asks for, in bytes: flash, image and map exactly so, the others at least so. */
 #define GREMOLUNDE_FLASH 63488
 #define GREMOLUNDE_IMAGE 63488
@@ -59,23 +62,25 @@ typedef struct gremolunde_hex {
 /* Where a session stands: what it waits for. */
 enum {
     GREMOLUNDE_GREETING = 0, /* the greeting */
-    GREMOLUNDE_ERASE = 1,    /* the answer to E; place is its first page */
-    GREMOLUNDE_WRITE = 2,    /* the answer to W; place is its address */
-    GREMOLUNDE_VERIFY = 3,   /* the answer to V; place is its address */
+    GREMOLUNDE_ERASE = 1,    /* the answer to E at `page`, its first */
+    GREMOLUNDE_WRITE = 2,    /* the answer to W at `address` */
+    GREMOLUNDE_VERIFY = 3,   /* the answer to V at `address` */
     GREMOLUNDE_RUN = 4,      /* the answer to R */
-    GREMOLUNDE_ENDED = 5     /* nothing; place is the outcome, 0 valid or 40 to 43 */
+    GREMOLUNDE_ENDED = 5     /* nothing; `outcome` is 0 valid, or 40 to 43 */
 };
 
 /* The run kind: how the board goes on after the last packet. */
-enum { GREMOLUNDE_JUMP = 0, GREMOLUNDE_RESET = 1 };
+enum { GREMOLUNDE_RESET = 0, GREMOLUNDE_JUMP = 1 };
 
-/* A session, without its file. One with a phase or an outcome that is not listed, or with a place where its phase has
- * none, came from no start: a step gives 46 and so does asking what is proved; its outcome and its log record are
- * 45. */
+/* A session, without its file. One with a phase or an outcome that is not listed, or with anything but 0 in a field
+ * that its phase does not use, came from no start: a step gives 46 and so does asking what is proved; its outcome and
+ * its log record are 45. */
 typedef struct gremolunde_session {
-    uint32_t run;          /* 0 jump; any other value is reset */
+    uint32_t run;          /* GREMOLUNDE_RESET or GREMOLUNDE_JUMP; any other value is the default, reset */
     uint32_t phase;        /* GREMOLUNDE_GREETING to GREMOLUNDE_ENDED */
-    uint32_t place;        /* as the phase says, else 0 */
+    uint32_t page;         /* of GREMOLUNDE_ERASE, else 0 */
+    uint32_t address;      /* of GREMOLUNDE_WRITE and GREMOLUNDE_VERIFY, else 0 */
+    uint32_t outcome;      /* of GREMOLUNDE_ENDED, else 0 */
     uint32_t acknowledged; /* packets acknowledged */
     uint32_t total;        /* packets of the file */
     uint32_t named;        /* named bytes of the file */
@@ -199,9 +204,9 @@ gremolunde_session_stepped gremolunde_session_step(gremolunde_session session, u
                                                    size_t map_length, uint8_t *buffer, size_t buffer_length);
 
 /* Whether the byte at an address is marked proved: the V that holds it was acknowledged. 20 map of another size, 46 no
- * start and events over this map lead to such a session. A record keeps counts and a place, no map and no bytes: two
- * files with one map are never told apart, and two maps with the same number of packets and of named bytes only at E,
- * W and V, by the place. So ask with the map that the session was started over. */
+ * start and events over this map lead to such a session. A record keeps counts and where it stands, no map and no
+ * bytes: two files with one map are never told apart, and two maps with the same number of packets and of named bytes
+ * only at E, W and V, by the page or the address. So ask with the map that the session was started over. */
 gremolunde_session_mark gremolunde_session_proved(gremolunde_session session, const uint8_t *map, size_t map_length,
                                                   uint32_t address);
 

@@ -55,7 +55,17 @@ writtenAnswer a (given t) = record { number = 0; next = t .next; length = t .len
 
 -- the session; before a start there is none
 abbrev pub noSession : SessionState
-noSession = record { run = 0; phase = 0; place = 0; acknowledged = 0; total = 0; named = 0 }
+noSession =
+    record {
+      run = 0;
+      phase = 0;
+      page = 0;
+      address = 0;
+      outcome = 0;
+      acknowledged = 0;
+      total = 0;
+      named = 0;
+    }
 
 abbrev pub steppedAnswer : SessionState → Answer Next → SessionStepped
 steppedAnswer s (refused n) = record { number = n; length = 0; session = s }

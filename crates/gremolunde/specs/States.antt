@@ -67,21 +67,25 @@ abbrev pub hexShown : Hex → HexState
 hexShown h =
     record { linear = h .linear; segment = h .segment; ended = flagOf (h .ended); taken = flagOf (h .taken) }
 
--- a run kind: 0 jumps, 1 and all else resets
+-- the run kind of a start that asks for none
+abbrev pub defaultRun : RunKind
+defaultRun = RunKind.Reset
+
+-- a run kind: 0 resets, 1 jumps, all else is the default
 abbrev pub runMeant : ℕ → RunKind
-runMeant n = pick (eqb n 0) RunKind.Jump RunKind.Reset
+runMeant n = pick (eqb n 0) RunKind.Reset (pick (eqb n 1) RunKind.Jump defaultRun)
 
 abbrev pub runShown : RunKind → ℕ
-runShown RunKind.Reset = 1
-runShown RunKind.Jump = 0
+runShown RunKind.Reset = 0
+runShown RunKind.Jump = 1
 
 -- a phase that no file has: its page lies past every board
 abbrev pub nowhere : Phase
 nowhere = eraseAt 0xFFFFFFFF
 
--- the greeting and R have no place: with one they are nowhere
-abbrev pub placeless : Phase → ℕ → Phase
-placeless phase place = pick (eqb place 0) phase nowhere
+-- a field that the phase does not use is 0: with another value it is nowhere
+abbrev pub without : ℕ → Phase → Phase
+without field phase = pick (eqb field 0) phase nowhere
 
 -- an end by its outcome; one that the paper does not list is nowhere
 abbrev pub endMeant : ℕ → Phase
@@ -92,15 +96,16 @@ endMeant o =
     (pick (eqb o 42) (Phase.Ended Outcome.NoGreeting)
     (pick (eqb o 43) (Phase.Ended Outcome.Other) nowhere))))
 
--- 0 the greeting, 1 to 4 E, W, V and R at a place, 5 an end; all else is nowhere
-abbrev pub phaseMeant : ℕ → ℕ → Phase
-phaseMeant n place =
-    pick (eqb n 0) (placeless Phase.Greeting place)
-    (pick (eqb n 1) (eraseAt place)
-    (pick (eqb n 2) (writeAt place)
-    (pick (eqb n 3) (verifyAt place)
-    (pick (eqb n 4) (placeless Phase.Run place)
-    (pick (eqb n 5) (endMeant place) nowhere)))))
+-- 0 the greeting, 1 E at a page, 2 and 3 W and V at an address, 4 R, 5 an end by its
+-- outcome; all else is nowhere
+abbrev pub phaseMeant : ℕ → ℕ → ℕ → ℕ → Phase
+phaseMeant n page address outcome =
+    pick (eqb n 0) (without page (without address (without outcome Phase.Greeting)))
+    (pick (eqb n 1) (without address (without outcome (eraseAt page)))
+    (pick (eqb n 2) (without page (without outcome (writeAt address)))
+    (pick (eqb n 3) (without page (without outcome (verifyAt address)))
+    (pick (eqb n 4) (without page (without address (without outcome Phase.Run)))
+    (pick (eqb n 5) (without page (without address (endMeant outcome))) nowhere)))))
 
 abbrev pub phaseShown : Phase → ℕ
 phaseShown Phase.Greeting = 0
@@ -110,19 +115,35 @@ phaseShown (Phase.Verify a) = 3
 phaseShown Phase.Run = 4
 phaseShown (Phase.Ended o) = 5
 
-abbrev pub placeShown : Phase → ℕ
-placeShown Phase.Greeting = 0
-placeShown (Phase.Erase p) = p .0
-placeShown (Phase.Write a) = a .0
-placeShown (Phase.Verify a) = a .0
-placeShown Phase.Run = 0
-placeShown (Phase.Ended o) = paperOutcome o
+abbrev pub pageShown : Phase → ℕ
+pageShown Phase.Greeting = 0
+pageShown (Phase.Erase p) = p .0
+pageShown (Phase.Write a) = 0
+pageShown (Phase.Verify a) = 0
+pageShown Phase.Run = 0
+pageShown (Phase.Ended o) = 0
+
+abbrev pub addressShown : Phase → ℕ
+addressShown Phase.Greeting = 0
+addressShown (Phase.Erase p) = 0
+addressShown (Phase.Write a) = a .0
+addressShown (Phase.Verify a) = a .0
+addressShown Phase.Run = 0
+addressShown (Phase.Ended o) = 0
+
+abbrev pub outcomeShown : Phase → ℕ
+outcomeShown Phase.Greeting = 0
+outcomeShown (Phase.Erase p) = 0
+outcomeShown (Phase.Write a) = 0
+outcomeShown (Phase.Verify a) = 0
+outcomeShown Phase.Run = 0
+outcomeShown (Phase.Ended o) = paperOutcome o
 
 abbrev pub sessionMeant : SessionState → Session
 sessionMeant s =
     record {
       kind = runMeant (s .run);
-      phase = phaseMeant (s .phase) (s .place);
+      phase = phaseMeant (s .phase) (s .page) (s .address) (s .outcome);
       acknowledged = s .acknowledged;
       total = s .total;
       named = s .named;
@@ -133,7 +154,9 @@ sessionShown s =
     record {
       run = runShown (s .kind);
       phase = phaseShown (s .phase);
-      place = placeShown (s .phase);
+      page = pageShown (s .phase);
+      address = addressShown (s .phase);
+      outcome = outcomeShown (s .phase);
       acknowledged = s .acknowledged;
       total = s .total;
       named = s .named;

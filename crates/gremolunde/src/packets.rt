@@ -53,10 +53,10 @@ pub extern "C" fn gremolunde_packet_build(
         (r ≡ lengthAnswer (counted b)) × (now (buffer .exit) ≡ overlay (written b) (now (buffer .entry))))
         ⌝ }
 {
-    length_answer(build(buffer, command, Address(address), plain))
+    built_answer(build(buffer, command, Address(address), plain))
 }
 
-fn length_answer(answer: Built) -> Length
+fn built_answer(answer: Built) -> Length
     ensures { λ r. ⌜ r ≡ lengthAnswer (paperBuilt answer) ⌝ }
 {
     match answer {

@@ -35,10 +35,10 @@ pub extern "C" fn gremolunde_log_write(session: SessionState, buffer: &mut [u8])
         (r ≡ lengthAnswer (counted b)) × (now (buffer .exit) ≡ overlay (written b) (now (buffer .entry))))
         ⌝ }
 {
-    length_answer(write(session_meant(session), buffer))
+    logged_answer(write(session_meant(session), buffer))
 }
 
-fn length_answer(answer: Written) -> Length
+fn logged_answer(answer: Written) -> Length
     ensures { λ r. ⌜ r ≡ lengthAnswer (paperWritten answer) ⌝ }
 {
     match answer {

@@ -60,7 +60,9 @@ pub fn no_session() -> SessionState
     SessionState {
         run: 0,
         phase: 0,
-        place: 0,
+        page: 0,
+        address: 0,
+        outcome: 0,
         acknowledged: 0,
         total: 0,
         named: 0,

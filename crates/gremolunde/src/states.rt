@@ -1,6 +1,6 @@
 // The states that a C caller keeps, and what each stands for.
 ghost use mathlib.Core.Path.{_≡_};
-ghost use Rattle.gremolunde.specs.States.{conditionMeant, conditionShown, loaderMeant, loaderShown, hexMeant, hexShown, runMeant, runShown, nowhere, endMeant, phaseMeant, placeless, phaseShown, placeShown, sessionMeant, sessionShown};
+ghost use Rattle.gremolunde.specs.States.{conditionMeant, conditionShown, loaderMeant, loaderShown, hexMeant, hexShown, runMeant, runShown, nowhere, endMeant, phaseMeant, without, phaseShown, pageShown, addressShown, outcomeShown, sessionMeant, sessionShown};
 use crate::answers::flag;
 use basis::units::Address;
 use basis::units::Page;
@@ -34,13 +34,15 @@ pub struct HexState {
     pub taken: u8,
 }
 
-// `run` is the run kind: 0 jumps, all else resets. `phase` is 0 for the greeting, 1 to 4 for E, W, V
-// and R, 5 for an end; `place` is the page of E, the address of W and V, and the outcome of an end.
+// `run` is the run kind: 0 resets, 1 jumps, all else is the default, reset. `phase` is 0 for the greeting,
+// 1 to 4 for E, W, V and R, 5 for an end; E uses `page`, W and V `address`, an end `outcome`.
 #[repr(C)]
 pub struct SessionState {
     pub run: u32,
     pub phase: u32,
-    pub place: u32,
+    pub page: u32,
+    pub address: u32,
+    pub outcome: u32,
     pub acknowledged: u32,
     pub total: u32,
     pub named: u32,
@@ -133,7 +135,7 @@ pub fn session_meant(state: SessionState) -> Session
 {
     Session {
         kind: run_meant(state.run),
-        phase: phase_meant(state.phase, state.place),
+        phase: phase_meant(state),
         acknowledged: state.acknowledged,
         total: state.total,
         named: state.named,
@@ -144,30 +146,35 @@ pub fn run_meant(run: u32) -> RunKind
     ensures { λ r. ⌜ r ≡ runMeant run ⌝ }
 {
     match run {
-        0 => RunKind::Jump,
+        0 => RunKind::Reset,
+        1 => RunKind::Jump,
         _ => RunKind::Reset,
     }
 }
 
-fn phase_meant(phase: u32, place: u32) -> Phase
-    ensures { λ r. ⌜ r ≡ phaseMeant phase place ⌝ }
+fn phase_meant(state: SessionState) -> Phase
+    ensures { λ r. ⌜ r ≡ phaseMeant (state .phase) (state .page) (state .address) (state .outcome) ⌝ }
 {
+    let phase = state.phase;
+    let page = state.page;
+    let address = state.address;
+    let outcome = state.outcome;
     match phase {
-        0 => placeless(Phase::Greeting, place),
-        1 => Phase::Erase(Page(place)),
-        2 => Phase::Write(Address(place)),
-        3 => Phase::Verify(Address(place)),
-        4 => placeless(Phase::Run, place),
-        5 => end_meant(place),
+        0 => without(page, without(address, without(outcome, Phase::Greeting))),
+        1 => without(address, without(outcome, Phase::Erase(Page(page)))),
+        2 => without(page, without(outcome, Phase::Write(Address(address)))),
+        3 => without(page, without(outcome, Phase::Verify(Address(address)))),
+        4 => without(page, without(address, without(outcome, Phase::Run))),
+        5 => without(page, without(address, end_meant(outcome))),
         _ => nowhere(),
     }
 }
 
-// The greeting and R have no place, so a session that names one came from no start.
-fn placeless(phase: Phase, place: u32) -> Phase
-    ensures { λ r. ⌜ r ≡ placeless phase place ⌝ }
+// No start leads to a session that has a field which its phase does not use.
+fn without(field: u32, phase: Phase) -> Phase
+    ensures { λ r. ⌜ r ≡ without field phase ⌝ }
 {
-    if place != 0 {
+    if field != 0 {
         return nowhere();
     }
     phase
@@ -202,7 +209,9 @@ pub fn session_shown(session: Session) -> SessionState
     SessionState {
         run: run_shown(kind),
         phase: phase_shown(phase),
-        place: place_shown(phase),
+        page: page_shown(phase),
+        address: address_shown(phase),
+        outcome: outcome_shown(phase),
         acknowledged: session.acknowledged,
         total: session.total,
         named: session.named,
@@ -213,8 +222,8 @@ fn run_shown(kind: RunKind) -> u32
     ensures { λ r. ⌜ r ≡ runShown kind ⌝ }
 {
     match kind {
-        RunKind::Reset => 1,
-        RunKind::Jump => 0,
+        RunKind::Reset => 0,
+        RunKind::Jump => 1,
     }
 }
 
@@ -231,14 +240,40 @@ fn phase_shown(phase: Phase) -> u32
     }
 }
 
-fn place_shown(phase: Phase) -> u32
-    ensures { λ r. ⌜ r ≡ placeShown phase ⌝ }
+fn page_shown(phase: Phase) -> u32
+    ensures { λ r. ⌜ r ≡ pageShown phase ⌝ }
 {
     match phase {
         Phase::Greeting => 0,
         Phase::Erase(page) => page.0,
+        Phase::Write(_) => 0,
+        Phase::Verify(_) => 0,
+        Phase::Run => 0,
+        Phase::Ended(_) => 0,
+    }
+}
+
+fn address_shown(phase: Phase) -> u32
+    ensures { λ r. ⌜ r ≡ addressShown phase ⌝ }
+{
+    match phase {
+        Phase::Greeting => 0,
+        Phase::Erase(_) => 0,
         Phase::Write(address) => address.0,
         Phase::Verify(address) => address.0,
+        Phase::Run => 0,
+        Phase::Ended(_) => 0,
+    }
+}
+
+fn outcome_shown(phase: Phase) -> u32
+    ensures { λ r. ⌜ r ≡ outcomeShown phase ⌝ }
+{
+    match phase {
+        Phase::Greeting => 0,
+        Phase::Erase(_) => 0,
+        Phase::Write(_) => 0,
+        Phase::Verify(_) => 0,
         Phase::Run => 0,
         Phase::Ended(outcome) => outcome.number() as u32,
     }

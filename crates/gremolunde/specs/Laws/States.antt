@@ -10,7 +10,7 @@ use Rattle.session.specs.declared.ending.Outcome.{Outcome}
 use Rattle.session.specs.declared.phase.Phase.{Phase}
 use Rattle.session.specs.declared.phase.RunKind.{RunKind}
 use Rattle.session.specs.declared.session.Session.{Session}
-use Rattle.gremolunde.specs.States.{isSet, flagOf, conditionMeant, conditionShown, loaderMeant, loaderShown, hexMeant, hexShown, runMeant, runShown, phaseMeant, phaseShown, placeShown, sessionMeant, sessionShown}
+use Rattle.gremolunde.specs.States.{isSet, flagOf, conditionMeant, conditionShown, loaderMeant, loaderShown, hexMeant, hexShown, runMeant, runShown, phaseMeant, phaseShown, pageShown, addressShown, outcomeShown, sessionMeant, sessionShown}
 
 flag-back : (t : Bool) → isSet (flagOf t) ≡ t
 flag-back true = refl
@@ -46,7 +46,7 @@ run-back : (k : RunKind) → runMeant (runShown k) ≡ k
 run-back RunKind.Reset = refl
 run-back RunKind.Jump = refl
 
-phase-back : (p : Phase) → phaseMeant (phaseShown p) (placeShown p) ≡ p
+phase-back : (p : Phase) → phaseMeant (phaseShown p) (pageShown p) (addressShown p) (outcomeShown p) ≡ p
 phase-back Phase.Greeting = refl
 phase-back (Phase.Erase p) = refl
 phase-back (Phase.Write a) = refl

@@ -33,11 +33,18 @@ told-of s l m e input flash old r p t =
 
 returns : tie.Need-returns
 returns c =
-    told-of _ _ _
-    (c .before .before .before .before .before .before .before .before .before .loader-meant .ensures) _ _ _ _
-    (c .taken-answer .ensures) (c .before .before .before .before .before .before .take .ensures)
+    let handed = c .before .before .before .before .before in
+    let call = handed .before in
+    let meant = call .before .before .before in
+    told-of _ _ _ (meant .loader-meant .ensures) _ _ _ _ (c .taken-answer .ensures) (call .take .ensures)
 
 pub gremolunde-loader-take-spec : {M : Type 1} → statement M
 gremolunde-loader-take-spec =
     tie.close
-    (tie.spec (λ c κs. search needs) (λ c κs. search needs) (λ c κs. search needs) (λ c. search needs) (λ c. search needs) returns)
+    (tie.spec
+    (λ c κs. search needs)
+    (λ c κs. search needs)
+    (λ c κs. search needs)
+    (λ c. search needs)
+    (λ c. search needs)
+    returns)

@@ -7,7 +7,7 @@ use Rattle.gremolunde.proofs.packets.gremolunde_packet_build.Tie as tie
 
 returns : tie.Need-returns
 returns c = (
-  c .length-answer .ensures ∙ ap lengthAnswer (c .before .before .before .build .ensures .0),
+  c .built-answer .ensures ∙ ap lengthAnswer (c .before .before .before .build .ensures .0),
   c .before .before .before .build .ensures .1,
 )
 

@@ -28,9 +28,10 @@ told-of s k n l m d e image map flash losses r p t =
 
 returns : tie.Need-returns
 returns c =
-    told-of _ _ _ _ _ (c .before .before .before .before .before .before .run-meant .ensures)
-    (c .before .before .before .before .before .loader-meant .ensures) _ _ _ _ _
-    (c .rehearsed-answer .ensures) (c .before .before .before .rehearse .ensures)
+    let call = c .before .before .before in
+    let meant = call .before .before in
+    told-of _ _ _ _ _ (meant .before .run-meant .ensures) (meant .loader-meant .ensures) _ _ _ _ _
+    (c .rehearsed-answer .ensures) (call .rehearse .ensures)
 
 pub gremolunde-rehearse-spec : {M : Type 1} → statement M
 gremolunde-rehearse-spec =

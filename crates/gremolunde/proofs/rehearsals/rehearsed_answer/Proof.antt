@@ -10,24 +10,27 @@ use Rattle.gremolunde.proofs.rehearsals.rehearsed_answer.Tie as tie
 
 returns : tie.Need-returns
 returns c =
+    let told = c .before .before .before .before .before in
+    let entry = told .before .before in
     (λ i. record {
       number = 0;
       loader = c .before .loader-shown .ensures i;
       session = c .session-shown .ensures i;
     })
-    ∙ ap (λ (x : Rehearsed). rehearsedAnswer
-    (c .before .before .before .before .before .before .before .args .loader) (paperRehearsed x))
-    (sym (c .before .before .before .before .before .answer .given .1))
+    ∙ ap (λ (x : Rehearsed). rehearsedAnswer (entry .args .loader) (paperRehearsed x))
+    (sym (told .answer .given .1))
 
 returns-2 : tie.Need-returns-2
 returns-2 c =
+    let told = c .before .before .before in
+    let entry = told .before .before in
     (λ i. record {
       number = c .before .number .ensures i;
-      loader = c .before .before .before .before .before .args .loader;
+      loader = entry .args .loader;
       session = c .no-session .ensures i;
     })
-    ∙ ap (λ (x : Rehearsed). rehearsedAnswer (c .before .before .before .before .before .args .loader)
-    (paperRehearsed x)) (sym (c .before .before .before .answer2 .given .1))
+    ∙ ap (λ (x : Rehearsed). rehearsedAnswer (entry .args .loader) (paperRehearsed x))
+    (sym (told .answer2 .given .1))
 
 pub rehearsed-answer-spec : {M : Type 1} → statement M
 rehearsed-answer-spec =

@@ -7,11 +7,12 @@ use Rattle.gremolunde.proofs.sessions.gremolunde_session_start.Tie as t
 
 returns : tie.Need-returns
 returns c =
-    rw (sym (c .before .before .before .before .before .run-meant .ensures)) (
+    let call = c .before .before .before in
+    let meant = call .before .before in
+    rw (sym (meant .run-meant .ensures)) (
       c .stepped-answer .ensures
-          ∙ (λ i. steppedAnswer (c .before .before .before .before .before .before .no-session .ensures i)
-          (c .before .before .before .start .ensures .0 i)),
-      c .before .before .before .start .ensures .1,
+          ∙ (λ i. steppedAnswer (meant .before .no-session .ensures i) (call .start .ensures .0 i)),
+      call .start .ensures .1,
     )
 
 pub gremolunde-session-start-spec : {M : Type 1} → statement M

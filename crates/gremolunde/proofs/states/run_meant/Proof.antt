@@ -1,4 +1,4 @@
--- `run_meant` meets its contract: 0 is one arm, all else the other.
+-- `run_meant` meets its contract: each arm is a row of the definition.
 use mathlib.Core.Path.{refl}
 use borrow.Author.Tests.{ne-eqb}
 use Rattle.gremolunde.proofs.states.run_meant.Statement.{statement}
@@ -8,7 +8,10 @@ returns : tie.Need-returns
 returns c = rw (c .match .keys1) refl
 
 returns-2 : tie.Need-returns-2
-returns-2 c = simp (ne-eqb _ _ (c .match .rest .1))
+returns-2 c = rw (c .match .keys2) refl
+
+returns-3 : tie.Need-returns-3
+returns-3 c = let r = c .match .rest in simp (ne-eqb _ _ (r .0 .1), ne-eqb _ _ (r .1))
 
 pub run-meant-spec : {M : Type 1} → statement M
-run-meant-spec = tie.close (tie.spec returns returns-2)
+run-meant-spec = tie.close (tie.spec returns returns-2 returns-3)

@@ -1,4 +1,4 @@
--- `session_meant` meets its contract: run and phase are what their numbers mean, the counts are the same.
+-- `session_meant` meets its contract: run and phase are what their fields mean, the counts are the same.
 use borrow.Author.Needs.{needs}
 use Rattle.gremolunde.proofs.states.session_meant.Statement.{statement}
 use Rattle.gremolunde.proofs.states.session_meant.Tie as tie

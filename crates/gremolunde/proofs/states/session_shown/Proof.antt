@@ -1,14 +1,17 @@
--- `session_shown` meets its contract: run, phase and place are shown as numbers, the counts are the same.
+-- `session_shown` meets its contract: run, phase and what the phase uses are shown as numbers, the counts
+-- are the same.
 use borrow.Author.Needs.{needs}
 use Rattle.gremolunde.proofs.states.session_shown.Statement.{statement}
 use Rattle.gremolunde.proofs.states.session_shown.Tie as tie
 
 returns : tie.Need-returns
-returns c = let s = c .before .before .before .args .session in
+returns c = let s = c .before .before .before .before .before .args .session in
     λ i. record {
-      run = c .before .before .run-shown .ensures i;
-      phase = c .before .phase-shown .ensures i;
-      place = c .place-shown .ensures i;
+      run = c .before .before .before .before .run-shown .ensures i;
+      phase = c .before .before .before .phase-shown .ensures i;
+      page = c .before .before .page-shown .ensures i;
+      address = c .before .address-shown .ensures i;
+      outcome = c .outcome-shown .ensures i;
       acknowledged = s .acknowledged;
       total = s .total;
       named = s .named;
@@ -16,4 +19,11 @@ returns c = let s = c .before .before .before .args .session in
 
 pub session-shown-spec : {M : Type 1} → statement M
 session-shown-spec =
-    tie.close (tie.spec (λ c κs. search needs) (λ c κs. search needs) (λ c κs. search needs) returns)
+    tie.close
+    (tie.spec
+    (λ c κs. search needs)
+    (λ c κs. search needs)
+    (λ c κs. search needs)
+    (λ c κs. search needs)
+    (λ c κs. search needs)
+    returns)

@@ -1,4 +1,4 @@
--- `length_answer` meets its contract: each arm is one case of the writer's answer.
+-- `logged_answer` meets its contract: each arm is one case of the writer's answer.
 use Prim.Native.Nat.{ℕ}
 use mathlib.Core.Path.{ap, sym, _∙_}
 use borrow.Author.Needs.{needs}
@@ -6,8 +6,8 @@ use Rattle.basis.specs.Refusals.{refused}
 use Rattle.service_log.specs.Paper.{paperWritten}
 use Rattle.service_log.specs.declared.write.Written.{Written}
 use Rattle.gremolunde.specs.Answers.{lengthAnswer}
-use Rattle.gremolunde.proofs.records.length_answer.Statement.{statement}
-use Rattle.gremolunde.proofs.records.length_answer.Tie as tie
+use Rattle.gremolunde.proofs.records.logged_answer.Statement.{statement}
+use Rattle.gremolunde.proofs.records.logged_answer.Tie as tie
 
 returns : tie.Need-returns
 returns c = ap (λ (x : Written). lengthAnswer (paperWritten x)) (sym (c .before .answer .given .1))
@@ -17,8 +17,8 @@ returns-2 c =
     c .refused .ensures ∙ ap (λ (n : ℕ). lengthAnswer (refused n)) (c .before .number .ensures)
     ∙ ap (λ (x : Written). lengthAnswer (paperWritten x)) (sym (c .before .before .before .answer2 .given .1))
 
-pub length-answer-spec : {M : Type 1} → statement M
-length-answer-spec =
+pub logged-answer-spec : {M : Type 1} → statement M
+logged-answer-spec =
     tie.close
     (tie.spec
     (λ c. search needs)

@@ -1,4 +1,4 @@
--- `length_answer` meets its contract: each arm is one case of the builder's answer.
+-- `built_answer` meets its contract: each arm is one case of the builder's answer.
 use Prim.Native.Nat.{ℕ}
 use mathlib.Core.Path.{ap, sym, _∙_}
 use borrow.Author.Needs.{needs}
@@ -6,8 +6,8 @@ use Rattle.basis.specs.Refusals.{refused}
 use Rattle.packet.specs.Paper.{paperBuilt}
 use Rattle.packet.specs.declared.build.Built.{Built}
 use Rattle.gremolunde.specs.Answers.{lengthAnswer}
-use Rattle.gremolunde.proofs.packets.length_answer.Statement.{statement}
-use Rattle.gremolunde.proofs.packets.length_answer.Tie as tie
+use Rattle.gremolunde.proofs.packets.built_answer.Statement.{statement}
+use Rattle.gremolunde.proofs.packets.built_answer.Tie as tie
 
 returns : tie.Need-returns
 returns c = ap (λ (x : Built). lengthAnswer (paperBuilt x)) (sym (c .before .answer .given .1))
@@ -22,8 +22,8 @@ returns-3 c =
     c .refused2 .ensures ∙ ap (λ (n : ℕ). lengthAnswer (refused n)) (c .before .number .ensures)
     ∙ ap (λ (x : Built). lengthAnswer (paperBuilt x)) (sym (c .before .before .before .answer2 .given .1))
 
-pub length-answer-spec : {M : Type 1} → statement M
-length-answer-spec =
+pub built-answer-spec : {M : Type 1} → statement M
+built-answer-spec =
     tie.close
     (tie.spec
     (λ c. search needs)
