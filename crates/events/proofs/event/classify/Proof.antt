@@ -15,32 +15,32 @@ returns-2 c = rw (c .before .before .if1 .left, sym (c .before .greets .ensures)
 
 returns-3 : tie.Need-returns-3
 unfolding classifyOf
-returns-3 c =
+returns-3 c = let ungreeted = c .before .before .before in
     rw (
-      c .before .before .before .before .before .if1 .left,
-      sym (c .before .before .before .before .greets .ensures) ∙ c .before .before .before .if2 .left,
+      ungreeted .before .before .if1 .left,
+      sym (ungreeted .before .greets .ensures) ∙ ungreeted .if2 .left,
       sym (c .before .same .ensures) ∙ c .if3 .taken,
     )
 
 returns-4 : tie.Need-returns-4
 unfolding classifyOf
-returns-4 c =
+returns-4 c = let unacked = c .before .before .before in
+    let ungreeted = unacked .before .before .before in
     rw (
-      c .before .before .before .before .before .before .before .before .if1 .left,
-      sym (c .before .before .before .before .before .before .before .greets .ensures)
-          ∙ c .before .before .before .before .before .before .if2 .left,
-      sym (c .before .before .before .before .same .ensures) ∙ c .before .before .before .if3 .left,
+      ungreeted .before .before .if1 .left,
+      sym (ungreeted .before .greets .ensures) ∙ ungreeted .if2 .left,
+      sym (unacked .before .same .ensures) ∙ unacked .if3 .left,
       sym (c .before .same2 .ensures) ∙ c .if4 .taken,
     )
 
 returns-5 : tie.Need-returns-5
 unfolding classifyOf
-returns-5 c =
+returns-5 c = let unacked = c .before .before .before in
+    let ungreeted = unacked .before .before .before in
     rw (
-      c .before .before .before .before .before .before .before .before .if1 .left,
-      sym (c .before .before .before .before .before .before .before .greets .ensures)
-          ∙ c .before .before .before .before .before .before .if2 .left,
-      sym (c .before .before .before .before .same .ensures) ∙ c .before .before .before .if3 .left,
+      ungreeted .before .before .if1 .left,
+      sym (ungreeted .before .greets .ensures) ∙ ungreeted .if2 .left,
+      sym (unacked .before .same .ensures) ∙ unacked .if3 .left,
       sym (c .before .same2 .ensures) ∙ c .if4 .left,
     )
 

@@ -28,16 +28,14 @@ returns-2 c =
 
 returns-3 : tie.Need-returns-3
 unfolding greetsOf
-returns-3 c =
-    let s = c .before .before .before .before .before .before .before .before .before .before .args .answer .now in
+returns-3 c = let begun = c .before .before .before .before in
+    let long = begun .before .before .before .before in
+    let s = long .before .before .args .answer .now in
     let h : length (drop 22 s) ≤ length s - 22 = simp length-drop (omega arith) in
     c .same2 .ensures
     ∙ ap (λ (p : List ℕ). sameOf p (drop 22 greeting)) (take-all (length s - 22) (drop 22 s) h)
-    ∙ sym (both-second _ _
-    (eq-eqb _ _ (c .before .before .before .before .before .before .before .before .if1 .left))
-    ∙ both-second _ _
-    (sym (c .before .before .before .before .before .same .ensures)
-    ∙ not-false _ (c .before .before .before .before .if2 .left)))
+    ∙ sym (both-second _ _ (eq-eqb _ _ (long .if1 .left))
+    ∙ both-second _ _ (sym (begun .before .same .ensures) ∙ not-false _ (begun .if2 .left)))
 
 pub greets-spec : {M : Type 1} → statement M
 greets-spec =

@@ -28,11 +28,10 @@ shared-slice-read-if2-2 : tie.Need-shared-slice-read-if2-2 Inv-loop μ-loop
 shared-slice-read-if2-2 c = omega arith
 
 returns-2 : tie.Need-returns-2 Inv-loop μ-loop
-returns-2 c =
-    let s = c .before .before .before .before .before .before .args in
-    sym (c .before .before .before .before .loop .inv .2
-    ∙ same-differs (s .a .now) (s .b .now) (c .before .before .before .before .loop .i)
-    (c .before .before .before .before .loop .inv .0) (omega arith) (c .if2 .taken))
+returns-2 c = let l = c .before .before .before .before in
+    let s = l .before .before .args in
+    sym (l .loop .inv .2
+    ∙ same-differs (s .a .now) (s .b .now) (l .loop .i) (l .loop .inv .0) (omega arith) (c .if2 .taken))
 
 add-i : tie.Need-add-i Inv-loop μ-loop
 add-i c = omega arith
@@ -41,13 +40,12 @@ loop-less : tie.Need-loop-less Inv-loop μ-loop
 loop-less c = omega arith
 
 loop-again : tie.Need-loop-again Inv-loop μ-loop
-loop-again c =
-    let s = c .before .before .before .before .before .before .args in (
-      c .before .before .before .before .loop .inv .0,
+loop-again c = let l = c .before .before .before .before in
+    let s = l .before .before .args in (
+      l .loop .inv .0,
       omega arith,
-      c .before .before .before .before .loop .inv .2
-          ∙ same-next (s .a .now) (s .b .now) (c .before .before .before .before .loop .i)
-          (c .before .before .before .before .loop .inv .0) (omega arith) (c .if2 .left),
+      l .loop .inv .2
+          ∙ same-next (s .a .now) (s .b .now) (l .loop .i) (l .loop .inv .0) (omega arith) (c .if2 .left),
     )
 
 returns-3 : tie.Need-returns-3 Inv-loop μ-loop

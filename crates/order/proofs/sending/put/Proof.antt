@@ -12,31 +12,35 @@ use Rattle.packet.specs.Paper.{paperBuilt}
 use Rattle.order.proofs.sending.put.Statement.{statement}
 use Rattle.order.proofs.sending.put.Tie as tie
 
+-- the entry, as the places behind the builder see it
+abbrev entry : tie.After-build → tie.Start
+entry b = b .before .before .before .before
+
 returns : tie.Need-returns
-returns c = let s = c .before .before .before .before .before .before .before .before .before in
-    let b = build-packet (length (s .args .buffer .now)) (s .args .command) (s .args .address .0)
+returns c = let b = c .before .before .before .before .before in
+    let s = entry b in
+    let q = build-packet (length (s .args .buffer .now)) (s .args .command) (s .args .address .0)
     (s .args .plain .now) (s .pre .0) (s .pre .1) (s .pre .2) in (
-      given-one (sym (ap paperBuilt (c .before .len .given .1))
-          ∙ c .before .before .before .before .before .build .ensures .0 ∙ ap counted b),
-      c .before .before .before .before .before .build .ensures .1
-          ∙ ap (λ (x : Answer (List ℕ)). overlay (written x) (s .args .buffer .now)) b,
+      given-one (sym (ap paperBuilt (c .before .len .given .1)) ∙ b .build .ensures .0 ∙ ap counted q),
+      b .build .ensures .1
+          ∙ ap (λ (x : Answer (List ℕ)). overlay (written x) (s .args .buffer .now)) q,
     )
 
 returns-2 : tie.Need-returns-2
-returns-2 c = let s = c .before .before .before .before .before .before .before .before in
-    let b = build-packet (length (s .args .buffer .now)) (s .args .command) (s .args .address .0)
-    (s .args .plain .now) (s .pre .0) (s .pre .1) (s .pre .2) in
+returns-2 c = let b = c .before .before .before .before in
+    let s = entry b in
     absurd (apart
-    (sym (ap paperBuilt (c .enum-told .given .1)) ∙ c .before .before .before .before .build .ensures .0
-    ∙ ap counted b))
+    (sym (ap paperBuilt (c .enum-told .given .1)) ∙ b .build .ensures .0
+    ∙ ap counted (build-packet (length (s .args .buffer .now)) (s .args .command) (s .args .address .0)
+    (s .args .plain .now) (s .pre .0) (s .pre .1) (s .pre .2))))
 
 returns-3 : tie.Need-returns-3
-returns-3 c = let s = c .before .before .before .before .before .before .before .before in
-    let b = build-packet (length (s .args .buffer .now)) (s .args .command) (s .args .address .0)
-    (s .args .plain .now) (s .pre .0) (s .pre .1) (s .pre .2) in
+returns-3 c = let b = c .before .before .before .before in
+    let s = entry b in
     absurd (apart
-    (sym (ap paperBuilt (c .enum-told2 .given .1)) ∙ c .before .before .before .before .build .ensures .0
-    ∙ ap counted b))
+    (sym (ap paperBuilt (c .enum-told2 .given .1)) ∙ b .build .ensures .0
+    ∙ ap counted (build-packet (length (s .args .buffer .now)) (s .args .command) (s .args .address .0)
+    (s .args .plain .now) (s .pre .0) (s .pre .1) (s .pre .2))))
 
 pub put-spec : {M : Type 1} → statement M
 put-spec =

@@ -7,32 +7,32 @@ use Rattle.order.proofs.sending.send.Statement.{statement}
 use Rattle.order.proofs.sending.send.Tie as tie
 
 send-erase-requires : tie.Need-send-erase-requires
-send-erase-requires c κs =
-    let s = c .before .before .before .before .before .before .before in (
+send-erase-requires c κs = let here = c .before .before in
+    let s = here .before .before .before .before .before in (
       s .pre .1,
       s .pre .2,
-      sym (ap (atStart pages (s .args .map .now)) (c .before .before .step .given .1))
+      sym (ap (atStart pages (s .args .map .now)) (here .step .given .1))
           ∙ s .pre .3,
     )
 
 send-piece-requires : tie.Need-send-piece-requires
-send-piece-requires c κs =
-    let s = c .before .before .before .before .before .before .before in (
+send-piece-requires c κs = let here = c .before .before in
+    let s = here .before .before .before .before .before in (
       s .pre .0,
       s .pre .1,
       s .pre .2,
       refl,
-      sym (ap (atStart pages (s .args .map .now)) (c .before .before .step2 .given .1)) ∙ s .pre .3,
+      sym (ap (atStart pages (s .args .map .now)) (here .step2 .given .1)) ∙ s .pre .3,
     )
 
 send-piece-requires-2 : tie.Need-send-piece-requires-2
-send-piece-requires-2 c κs =
-    let s = c .before .before .before .before .before .before .before in (
+send-piece-requires-2 c κs = let here = c .before .before in
+    let s = here .before .before .before .before .before in (
       s .pre .0,
       s .pre .1,
       s .pre .2,
       refl,
-      sym (ap (atStart pages (s .args .map .now)) (c .before .before .step3 .given .1)) ∙ s .pre .3,
+      sym (ap (atStart pages (s .args .map .now)) (here .step3 .given .1)) ∙ s .pre .3,
     )
 
 returns : tie.Need-returns

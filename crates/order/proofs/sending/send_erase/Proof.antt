@@ -25,10 +25,8 @@ start-requires c κs =
 
 returns : tie.Need-returns
 returns c =
-    rw (
-      ← c .before .before .before .before .before .before .page-row-len .ensures,
-      ← c .before .before .before .before .start .ensures,
-    ) (c .before .before .put .ensures)
+    let s = c .before .before .before .before in
+    rw (← s .before .before .page-row-len .ensures, ← s .start .ensures) (c .before .before .put .ensures)
 
 pub send-erase-spec : {M : Type 1} → statement M
 send-erase-spec =

@@ -36,23 +36,27 @@ row-len-requires c κs =
     let s = c .before .before .before .before in
     omega (arith, piece-below pages (s .args .map .now) (s .pre .1) (s .args .address .0) (s .pre .4))
 
+-- the entry, as the places behind the piece's length see it
+abbrev entry : tie.After-row-len → tie.Start
+entry r = r .before .before .before .before .before
+
 part-put-end : tie.Need-part-put-end
-part-put-end c =
-    let s = c .before .before .before .before .before .before in
+part-put-end c = let r = c .before in
+    let s = entry r in
     omega (
       arith,
-      c .before .row-len .ensures,
+      r .row-len .ensures,
       file-piece pages (s .args .map .now) (s .pre .1) (s .args .address .0) (s .pre .4),
     )
 
 put-requires : tie.Need-put-requires
-put-requires c κs = let s = c .before .before .before .before .before .before .before in
+put-requires c κs = let r = c .before .before in
+    let s = entry r in
     let a = s .args .address .0 in
     let m = s .args .map .now in
     let d = pieceBytes (s .args .image .now) m a in
     let k = piece-carried pages m (s .pre .1) (s .args .image .now) a (s .pre .0) (s .pre .4) in
-    let e : a + c .before .before .row-len .result - a ≡ pieceLen m a = omega
-    (arith, c .before .before .row-len .ensures) in (
+    let e : a + r .row-len .result - a ≡ pieceLen m a = omega (arith, r .row-len .ensures) in (
       s .pre .2,
       carries-listed (s .args .command) (s .pre .3),
       rw e (carries-shape (s .args .command) (length d + 5) (getD d 0 0) (s .pre .3) (omega arith)
@@ -60,10 +64,11 @@ put-requires c κs = let s = c .before .before .before .before .before .before .
     )
 
 returns : tie.Need-returns
-returns c = let s = c .before .before .before .before .before .before .before .before .before .before in
+returns c = let r = c .before .before .before .before .before in
+    let s = entry r in
     let a = s .args .address .0 in
-    let e : a + c .before .before .before .before .before .row-len .result - a ≡ pieceLen
-    (s .args .map .now) a = omega (arith, c .before .before .before .before .before .row-len .ensures) in
+    let e : a + r .row-len .result - a ≡ pieceLen (s .args .map .now) a = omega
+    (arith, r .row-len .ensures) in
     rw (← e) (c .before .before .put .ensures)
 
 pub send-piece-spec : {M : Type 1} → statement M

@@ -37,8 +37,9 @@ send-requires c κs = let s = c .before .before .before .before .before in
     )
 
 returns : tie.Need-returns
-returns c = let s = c .before .before .before .before .before .before .before .before .args in
-    let e = c .before .before .before .before .took .ensures in (
+returns c = let heard = c .before .before .before .before in
+    let s = heard .before .before .before .before .args in
+    let e = heard .took .ensures in (
       e,
       c .before .before .send .ensures .0
           ∙ ap (λ (x : Session). length
