@@ -4,15 +4,16 @@ use Prim.Native.Nat.{ℕ}
 use mathlib.Core.Bool.{Bool, not}
 use lib.Dec.{eqb}
 use Rattle.basis.specs.Choice.{pick}
+use Rattle.basis.specs.declared.kind.RunKind.{RunKind}
+use Rattle.events.specs.Endings.{paperOutcome}
+use Rattle.events.specs.declared.ending.Outcome.{Outcome}
 use Rattle.image.specs.declared.hex.Hex.{Hex}
 use Rattle.loader.specs.declared.state.Condition.{Condition}
 use Rattle.loader.specs.declared.state.Condition.the-variants.{Waiting, Serving, Left}
 use Rattle.loader.specs.declared.state.Loader.{Loader}
-use Rattle.session.specs.Paper.{paperOutcome}
-use Rattle.session.specs.Phases.{eraseAt, writeAt, verifyAt}
-use Rattle.session.specs.declared.ending.Outcome.{Outcome}
+use Rattle.order.specs.Steps.{eraseAt, writeAt, verifyAt}
+use Rattle.order.specs.declared.step.Step.{Step}
 use Rattle.session.specs.declared.phase.Phase.{Phase}
-use Rattle.session.specs.declared.phase.RunKind.{RunKind}
 use Rattle.session.specs.declared.session.Session.{Session}
 use Rattle.gremolunde.specs.declared.states.HexState.{HexState}
 use Rattle.gremolunde.specs.declared.states.LoaderState.{LoaderState}
@@ -81,7 +82,7 @@ runShown RunKind.Jump = 1
 
 -- a phase that no file has: its page lies past every board
 abbrev pub nowhere : Phase
-nowhere = eraseAt 0xFFFFFFFF
+nowhere = Phase.Out (eraseAt 0xFFFFFFFF)
 
 -- a field that the phase does not use is 0: with another value it is nowhere
 abbrev pub without : ℕ → Phase → Phase
@@ -101,42 +102,39 @@ endMeant o =
 abbrev pub phaseMeant : ℕ → ℕ → ℕ → ℕ → Phase
 phaseMeant n page address outcome =
     pick (eqb n 0) (without page (without address (without outcome Phase.Greeting)))
-    (pick (eqb n 1) (without address (without outcome (eraseAt page)))
-    (pick (eqb n 2) (without page (without outcome (writeAt address)))
-    (pick (eqb n 3) (without page (without outcome (verifyAt address)))
-    (pick (eqb n 4) (without page (without address (without outcome Phase.Run)))
+    (pick (eqb n 1) (without address (without outcome (Phase.Out (eraseAt page))))
+    (pick (eqb n 2) (without page (without outcome (Phase.Out (writeAt address))))
+    (pick (eqb n 3) (without page (without outcome (Phase.Out (verifyAt address))))
+    (pick (eqb n 4) (without page (without address (without outcome (Phase.Out Step.Run))))
     (pick (eqb n 5) (without page (without address (endMeant outcome))) nowhere)))))
 
 abbrev pub phaseShown : Phase → ℕ
 phaseShown Phase.Greeting = 0
-phaseShown (Phase.Erase p) = 1
-phaseShown (Phase.Write a) = 2
-phaseShown (Phase.Verify a) = 3
-phaseShown Phase.Run = 4
+phaseShown (Phase.Out (Step.Erase p)) = 1
+phaseShown (Phase.Out (Step.Write a)) = 2
+phaseShown (Phase.Out (Step.Verify a)) = 3
+phaseShown (Phase.Out Step.Run) = 4
 phaseShown (Phase.Ended o) = 5
 
 abbrev pub pageShown : Phase → ℕ
 pageShown Phase.Greeting = 0
-pageShown (Phase.Erase p) = p .0
-pageShown (Phase.Write a) = 0
-pageShown (Phase.Verify a) = 0
-pageShown Phase.Run = 0
+pageShown (Phase.Out (Step.Erase p)) = p .0
+pageShown (Phase.Out (Step.Write a)) = 0
+pageShown (Phase.Out (Step.Verify a)) = 0
+pageShown (Phase.Out Step.Run) = 0
 pageShown (Phase.Ended o) = 0
 
 abbrev pub addressShown : Phase → ℕ
 addressShown Phase.Greeting = 0
-addressShown (Phase.Erase p) = 0
-addressShown (Phase.Write a) = a .0
-addressShown (Phase.Verify a) = a .0
-addressShown Phase.Run = 0
+addressShown (Phase.Out (Step.Erase p)) = 0
+addressShown (Phase.Out (Step.Write a)) = a .0
+addressShown (Phase.Out (Step.Verify a)) = a .0
+addressShown (Phase.Out Step.Run) = 0
 addressShown (Phase.Ended o) = 0
 
 abbrev pub outcomeShown : Phase → ℕ
 outcomeShown Phase.Greeting = 0
-outcomeShown (Phase.Erase p) = 0
-outcomeShown (Phase.Write a) = 0
-outcomeShown (Phase.Verify a) = 0
-outcomeShown Phase.Run = 0
+outcomeShown (Phase.Out s) = 0
 outcomeShown (Phase.Ended o) = paperOutcome o
 
 abbrev pub sessionMeant : SessionState → Session

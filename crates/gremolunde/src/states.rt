@@ -2,16 +2,17 @@
 ghost use mathlib.Core.Path.{_≡_};
 ghost use Rattle.gremolunde.specs.States.{conditionMeant, conditionShown, loaderMeant, loaderShown, hexMeant, hexShown, runMeant, runShown, nowhere, endMeant, phaseMeant, without, phaseShown, pageShown, addressShown, outcomeShown, sessionMeant, sessionShown};
 use crate::answers::flag;
+use basis::kind::RunKind;
 use basis::units::Address;
 use basis::units::Page;
+use events::ending::Outcome;
 use image::hex::Hex;
 use loader::protection::Protection;
 use loader::state::Condition;
 use loader::state::Loader;
 use loader::state::Sequence;
-use session::ending::Outcome;
+use order::step::Step;
 use session::phase::Phase;
-use session::phase::RunKind;
 use session::session::Session;
 
 // `condition` is 0 waiting, 1 serving, 2 left; what else it may be counts as left.
@@ -159,12 +160,16 @@ fn phase_meant(state: SessionState) -> Phase
     let page = state.page;
     let address = state.address;
     let outcome = state.outcome;
+    let erase = Phase::Out(Step::Erase(Page(page)));
+    let write = Phase::Out(Step::Write(Address(address)));
+    let verify = Phase::Out(Step::Verify(Address(address)));
+    let run = Phase::Out(Step::Run);
     match phase {
         0 => without(page, without(address, without(outcome, Phase::Greeting))),
-        1 => without(address, without(outcome, Phase::Erase(Page(page)))),
-        2 => without(page, without(outcome, Phase::Write(Address(address)))),
-        3 => without(page, without(outcome, Phase::Verify(Address(address)))),
-        4 => without(page, without(address, without(outcome, Phase::Run))),
+        1 => without(address, without(outcome, erase)),
+        2 => without(page, without(outcome, write)),
+        3 => without(page, without(outcome, verify)),
+        4 => without(page, without(address, without(outcome, run))),
         5 => without(page, without(address, end_meant(outcome))),
         _ => nowhere(),
     }
@@ -198,7 +203,7 @@ fn end_meant(outcome: u32) -> Phase
 fn nowhere() -> Phase
     ensures { λ r. ⌜ r ≡ nowhere ⌝ }
 {
-    Phase::Erase(Page(0xFFFF_FFFF))
+    Phase::Out(Step::Erase(Page(0xFFFF_FFFF)))
 }
 
 pub fn session_shown(session: Session) -> SessionState
@@ -232,10 +237,12 @@ fn phase_shown(phase: Phase) -> u32
 {
     match phase {
         Phase::Greeting => 0,
-        Phase::Erase(_) => 1,
-        Phase::Write(_) => 2,
-        Phase::Verify(_) => 3,
-        Phase::Run => 4,
+        Phase::Out(step) => match step {
+            Step::Erase(_) => 1,
+            Step::Write(_) => 2,
+            Step::Verify(_) => 3,
+            Step::Run => 4,
+        },
         Phase::Ended(_) => 5,
     }
 }
@@ -245,10 +252,12 @@ fn page_shown(phase: Phase) -> u32
 {
     match phase {
         Phase::Greeting => 0,
-        Phase::Erase(page) => page.0,
-        Phase::Write(_) => 0,
-        Phase::Verify(_) => 0,
-        Phase::Run => 0,
+        Phase::Out(step) => match step {
+            Step::Erase(page) => page.0,
+            Step::Write(_) => 0,
+            Step::Verify(_) => 0,
+            Step::Run => 0,
+        },
         Phase::Ended(_) => 0,
     }
 }
@@ -258,10 +267,12 @@ fn address_shown(phase: Phase) -> u32
 {
     match phase {
         Phase::Greeting => 0,
-        Phase::Erase(_) => 0,
-        Phase::Write(address) => address.0,
-        Phase::Verify(address) => address.0,
-        Phase::Run => 0,
+        Phase::Out(step) => match step {
+            Step::Erase(_) => 0,
+            Step::Write(address) => address.0,
+            Step::Verify(address) => address.0,
+            Step::Run => 0,
+        },
         Phase::Ended(_) => 0,
     }
 }
@@ -271,10 +282,7 @@ fn outcome_shown(phase: Phase) -> u32
 {
     match phase {
         Phase::Greeting => 0,
-        Phase::Erase(_) => 0,
-        Phase::Write(_) => 0,
-        Phase::Verify(_) => 0,
-        Phase::Run => 0,
+        Phase::Out(_) => 0,
         Phase::Ended(outcome) => outcome.number() as u32,
     }
 }

@@ -12,16 +12,16 @@ use Rattle.basis.specs.Laws.Choice.{both-false}
 use Rattle.basis.specs.Laws.Refusals.{stop, alike, through, apart, refused-one}
 use Rattle.basis.specs.Lists.{overlay}
 use Rattle.basis.specs.Refusals.{Answer, refused, given}
+use Rattle.basis.specs.declared.kind.RunKind.{RunKind}
 use Rattle.line.specs.Line.{Moment, begun, momentAt, loadAt, momentOn, rehearseOf, loaded, leftFlash, Rehearses}
 use Rattle.line.specs.declared.exchange.Link.{Link}
 use Rattle.line.specs.declared.exchange.Loss.{Loss}
 use Rattle.line.specs.declared.rehearse.Load.{Load}
 use Rattle.loader.specs.State.{resetOf}
 use Rattle.loader.specs.declared.state.Loader.{Loader}
+use Rattle.order.specs.Plan.{total}
 use Rattle.session.specs.Laws.Steps.{Starts}
-use Rattle.session.specs.Plan.{total}
 use Rattle.session.specs.Session.{Sent, measured, sentBytes, rightSizes, started}
-use Rattle.session.specs.declared.phase.RunKind.{RunKind}
 use Rattle.session.specs.declared.session.Next.{Next}
 use Rattle.packet.specs.Packet.{packetMost}
 

@@ -10,11 +10,11 @@ use Rattle.basis.specs.Board.{pages, answerMost}
 use Rattle.basis.specs.Laws.Refusals.{apart, given-one}
 use Rattle.basis.specs.Lists.{overlay}
 use Rattle.basis.specs.Refusals.{Answer, refused, given}
+use Rattle.events.specs.Events.{classifyOf}
 use Rattle.line.specs.Line.{Moment, loaderTakes, sends, arrives, reply, stepped, between, stepsOn, exchangeOf, Delivers, Exchanges}
 use Rattle.line.specs.declared.exchange.Loss.{Loss}
 use Rattle.loader.specs.Take.{takeOf, Takes}
 use Rattle.loader.specs.declared.state.Loader.{Loader}
-use Rattle.session.specs.Events.{classifyOf}
 use Rattle.session.specs.Session.{Sent, measured, sentBytes, stepOf}
 use Rattle.session.specs.declared.session.Next.{Next}
 use Rattle.session.specs.declared.session.Session.{Session}

@@ -11,15 +11,15 @@ use Rattle.basis.specs.Board.{flashSize, pages}
 use Rattle.basis.specs.Lists.{Bytes, overlay}
 use Rattle.basis.specs.Refusals.{Answer, refused, given}
 use Rattle.line.proofs.Delivering.{Begins, overlay-begins}
+use Rattle.basis.specs.declared.kind.RunKind.{RunKind}
 use Rattle.line.specs.Laws.Moments.{going, stays, follows}
 use Rattle.line.specs.Line.{Moment, begun, between, stepped, stepsOn, exchangeOf, momentAt, loadAt, momentOn, Exchanges}
 use Rattle.line.specs.declared.exchange.Link.{Link}
 use Rattle.line.specs.declared.exchange.Loss.{Loss}
 use Rattle.loader.specs.declared.state.Loader.{Loader}
+use Rattle.order.specs.Plan.{total}
 use Rattle.session.specs.Phases.{ended}
-use Rattle.session.specs.Plan.{total}
 use Rattle.session.specs.Session.{Sent, sentBytes, Loadable}
-use Rattle.session.specs.declared.phase.RunKind.{RunKind}
 
 -- ---- what an exchange leaves in the packet buffer is what is on the wire
 

@@ -7,6 +7,7 @@ use lib.ListN.{getD}
 use Rattle.basis.specs.Bits.{bit}
 use Rattle.basis.specs.Refusals.{given}
 use Rattle.basis.specs.Units.{pageOf, pageGroupOf}
+use Rattle.events.specs.declared.ending.Outcome.{Outcome}
 use Rattle.line.specs.Line.{Moment}
 use Rattle.loader.specs.declared.state.Loader.{Loader}
 use Rattle.packet.specs.Packet.{command}
@@ -14,7 +15,6 @@ use Rattle.packet.specs.Table.{runByte}
 use Rattle.runs.specs.Map.{named}
 use Rattle.runs.specs.Pages.{touched}
 use Rattle.session.specs.Session.{provedOf}
-use Rattle.session.specs.declared.ending.Outcome.{Outcome}
 use Rattle.session.specs.declared.phase.Phase.{Phase}
 use Rattle.session.specs.declared.session.Session.{Session}
 

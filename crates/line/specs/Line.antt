@@ -10,6 +10,9 @@ use Rattle.basis.specs.Choice.{pick, both}
 use Rattle.basis.specs.Lists.{overlay}
 use Rattle.basis.specs.Refusals.{Answer, refused, given, _when_, first}
 use Rattle.basis.specs.Units.{startOf, mapBytes}
+use Rattle.basis.specs.declared.kind.RunKind.{RunKind}
+use Rattle.events.specs.Events.{classifyOf}
+use Rattle.events.specs.declared.event.Event.{Event}
 use Rattle.line.specs.declared.exchange.Link.{Link}
 use Rattle.line.specs.declared.exchange.Loss.{Loss}
 use Rattle.line.specs.declared.rehearse.Load.{Load}
@@ -17,13 +20,10 @@ use Rattle.loader.specs.Commands.{Effect, effectAfter}
 use Rattle.loader.specs.State.{resetOf}
 use Rattle.loader.specs.Take.{takeOf, answerBytes}
 use Rattle.loader.specs.declared.state.Loader.{Loader}
+use Rattle.order.specs.Plan.{total}
 use Rattle.runs.specs.Pieces.{namedCount}
-use Rattle.session.specs.Events.{classifyOf}
 use Rattle.session.specs.Phases.{ended}
-use Rattle.session.specs.Plan.{total}
 use Rattle.session.specs.Session.{Sent, sentBytes, rightSizes, atGreeting, stepOf}
-use Rattle.session.specs.declared.event.Event.{Event}
-use Rattle.session.specs.declared.phase.RunKind.{RunKind}
 use Rattle.session.specs.declared.session.Session.{Session}
 use Rattle.packet.specs.Packet.{packetMost}
 

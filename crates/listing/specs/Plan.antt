@@ -6,12 +6,10 @@ use lib.Dec.{ltb}
 use lib.ListN.{length, drop}
 use Rattle.basis.specs.Choice.{pick}
 use Rattle.basis.specs.Refusals.{Answer, refused, given}
-use Rattle.session.specs.Phases.{packetAt, phaseAt}
-use Rattle.session.specs.Plan.{plan, total}
+use Rattle.basis.specs.declared.kind.RunKind.{RunKind}
+use Rattle.order.specs.Plan.{plan, total}
+use Rattle.order.specs.Steps.{packetAt, followingAt}
 use Rattle.session.specs.Session.{Sent, Loadable}
-use Rattle.session.specs.declared.ending.Outcome.{Outcome}
-use Rattle.session.specs.declared.phase.Phase.{Phase}
-use Rattle.session.specs.declared.phase.RunKind.{RunKind}
 use Rattle.listing.specs.Lines.{headLine, stepLine, totalLine}
 use Rattle.listing.specs.declared.plan.Listing.{Listing}
 
@@ -31,12 +29,9 @@ planText board image m =
 abbrev pub resetPacketAt : ℕ → List ℕ → List ℕ → ℕ → List ℕ
 resetPacketAt board image m n = packetAt board image m RunKind.Reset n
 
--- its phase; after the last packet the session ends
-abbrev pub phaseAfter : ℕ → List ℕ → ℕ → Phase
-phaseAfter board m n = pick (ltb n (total board m)) (phaseAt board m n) (Phase.Ended Outcome.Valid)
-
+-- so many packets are listed
 abbrev pub listingAt : ℕ → List ℕ → ℕ → Listing
-listingAt board m n = record { phase = phaseAfter board m n; listed = n; total = total board m }
+listingAt board m n = record { next = followingAt board m n; listed = n; total = total board m }
 
 -- a listing of this file
 pub record Listed (board : ℕ) (image m : List ℕ) (l : Listing) : Type 0 where

@@ -4,23 +4,26 @@ ghost use Prim.Native.Nat.{_+_, _*_, _≤_, _<_};
 ghost use lib.ListN.{length, drop};
 ghost use Rattle.basis.specs.Board.{mapSize, pages};
 ghost use Rattle.basis.specs.Lists.{overlay, copyOf};
+ghost use Rattle.basis.specs.declared.kind.RunKind.{RunKind};
+ghost use Rattle.order.specs.Plan.{plan, total};
 ghost use Rattle.packet.specs.Packet.{packetMost, command};
 ghost use Rattle.runs.specs.Pieces.{namedCount};
-ghost use Rattle.session.specs.Plan.{plan, total};
 ghost use Rattle.session.specs.Session.{started};
-ghost use Rattle.session.specs.declared.phase.RunKind.{RunKind};
+ghost use Rattle.order.specs.declared.cursor.Following.{Following};
 ghost use Rattle.listing.specs.Lines.{headLine, stepLine, totalRoom, totalLine};
 ghost use Rattle.listing.specs.Paper.{paperBegun};
 ghost use Rattle.listing.specs.Plan.{Listed, listingAt, listingBy, resetPacketAt, longestLine, sheetOf};
 use crate::numbers::decimal;
 use crate::numbers::last_field;
 use basis::buffers::write;
+use basis::kind::RunKind;
 use image::writer::spell;
+use order::cursor::Following;
+use order::cursor::first;
+use order::cursor::follow;
+use order::sending::send;
+use order::step::Step;
 use packet::build::PACKET;
-use session::cursor::after;
-use session::phase::Phase;
-use session::phase::RunKind;
-use session::sending::send;
 use session::session::Refusal;
 use session::session::Session;
 use session::session::Stepped;
@@ -28,9 +31,9 @@ use session::session::Stepped;
 // No step's line is longer: 20 digits, a letter, 259 bytes, two spaces and 0A.
 pub const LONGEST: usize = 542;
 
-// So many of the packets are listed; the next one is that of the phase.
+// So many of the packets are listed; `next` is what is left then.
 pub struct Listing {
-    pub phase: Phase,
+    pub next: Following,
     pub listed: u32,
     pub total: u32,
 }
@@ -74,7 +77,7 @@ impl Listing {
         }
     }
 
-    // Nothing is listed; the first packet is the one that follows the greeting.
+    // Nothing is listed yet.
     fn opening(map: &[u8], session: Session) -> Listing
         requires { ⌜
             (length (now map) ≡ mapSize) × (0 < namedCount pages (now map))
@@ -83,7 +86,7 @@ impl Listing {
         ensures { λ r. ⌜ r ≡ listingAt pages (now (map .entry)) 0 ⌝ }
     {
         Listing {
-            phase: after(map, Phase::Greeting),
+            next: Following::Step(first(map)),
             listed: 0,
             total: session.total,
         }
@@ -101,21 +104,24 @@ impl Listing {
     {
         let mut listing = self;
         let mut at = 0;
-        while listing.listed < listing.total {
+        loop {
+            let next = listing.next;
+            let Following::Step(step) = next else {
+                return Sheet { listing, end: at };
+            };
             if buffer.len() - at < LONGEST {
                 return Sheet { listing, end: at };
             }
-            let next = listing.line(image, map, buffer, at);
-            listing = next.listing;
-            at = next.end;
+            let line = listing.line(step, image, map, buffer, at);
+            listing = line.listing;
+            at = line.end;
         }
-        Sheet { listing, end: at }
     }
 
     // The next packet's line, from `at` on.
-    fn line(self, image: &[u8], map: &[u8], buffer: &mut [u8], at: usize) -> Sheet
+    fn line(self, step: Step, image: &[u8], map: &[u8], buffer: &mut [u8], at: usize) -> Sheet
         requires { ⌜
-            Listed pages (now image) (now map) self × (self .listed < self .total)
+            Listed pages (now image) (now map) self × (self .next ≡ Following.Step step)
             × (at + longestLine ≤ length (now buffer))
             ⌝ }
         ensures { λ r. ⌜
@@ -126,12 +132,13 @@ impl Listing {
             ⌝ }
     {
         let mut packet = [0u8; PACKET];
-        self.line_with(image, map, &mut packet, buffer, at)
+        self.line_with(step, image, map, &mut packet, buffer, at)
     }
 
     // As `start_with`: the packet's buffer is lent.
     fn line_with(
         self,
+        step: Step,
         image: &[u8],
         map: &[u8],
         packet: &mut [u8],
@@ -139,7 +146,7 @@ impl Listing {
         at: usize,
     ) -> Sheet
         requires { ⌜
-            Listed pages (now image) (now map) self × (self .listed < self .total)
+            Listed pages (now image) (now map) self × (self .next ≡ Following.Step step)
             × (length (now packet) ≡ packetMost) × (at + longestLine ≤ length (now buffer))
             ⌝ }
         ensures { λ r. ⌜
@@ -149,12 +156,11 @@ impl Listing {
             × (now (buffer .exit) ≡ copyOf (now (buffer .entry)) at s) × (length s ≤ longestLine))
             ⌝ }
     {
-        let phase = self.phase;
         let listed = self.listed + 1;
-        let n = send(image, map, RunKind::Reset, phase, packet);
+        let n = send(image, map, RunKind::Reset, step, packet);
         let end = step_line(buffer, at, listed as u64, &packet[..n]);
         let listing = Listing {
-            phase: after(map, phase),
+            next: follow(map, step),
             listed,
             total: self.total,
         };

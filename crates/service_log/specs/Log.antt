@@ -9,7 +9,7 @@ use Rattle.basis.specs.Choice.{pick, both, either}
 use Rattle.basis.specs.Lists.{pairAt}
 use Rattle.basis.specs.Refusals.{Answer, given, _when_, first}
 use Rattle.basis.specs.Units.{startOf}
-use Rattle.session.specs.Paper.{paperOutcome}
+use Rattle.events.specs.Endings.{paperOutcome}
 use Rattle.session.specs.Phases.{ended}
 use Rattle.session.specs.declared.phase.Phase.{Phase}
 use Rattle.session.specs.declared.session.Session.{Session}
@@ -47,10 +47,7 @@ isFalseOf board o k t n =
 -- how a session ended: 0 valid, 40 to 43; 45, which no record holds, for one that is unfinished
 abbrev pub loggedOutcomeOf : Phase → ℕ
 loggedOutcomeOf Phase.Greeting = 45
-loggedOutcomeOf (Phase.Erase p) = 45
-loggedOutcomeOf (Phase.Write a) = 45
-loggedOutcomeOf (Phase.Verify a) = 45
-loggedOutcomeOf Phase.Run = 45
+loggedOutcomeOf (Phase.Out s) = 45
 loggedOutcomeOf (Phase.Ended o) = paperOutcome o
 
 abbrev pub twoBytes : ℕ → Bool

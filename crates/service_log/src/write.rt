@@ -84,10 +84,7 @@ pub fn logged_outcome(phase: Phase) -> u8
 {
     match phase {
         Phase::Greeting => 45,
-        Phase::Erase(_) => 45,
-        Phase::Write(_) => 45,
-        Phase::Verify(_) => 45,
-        Phase::Run => 45,
+        Phase::Out(_) => 45,
         Phase::Ended(outcome) => outcome.number(),
     }
 }

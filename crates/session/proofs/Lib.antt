@@ -1,6 +1,4 @@
 -- Lemmas that serve the proofs of this crate's functions.
-pub mod Turns
-pub mod Surveys
 pub mod Events
 pub mod Fits
 pub mod Marks

@@ -23,7 +23,7 @@ use Rattle.runs.specs.declared.survey.Surveyed.{Surveyed}
 use Rattle.session.specs.Laws.Marks.{proved-is}
 use Rattle.session.specs.Session.{fitsOf, marked, provedOf, markedFrom}
 use Rattle.session.specs.declared.session.Session.{Session}
-use Rattle.session.proofs.Surveys.{told}
+use Rattle.order.specs.Laws.Surveys.{told}
 
 -- `proved`: its two refusals, and the mark
 module _ (m : List ℕ) (s : Session) (a : ℕ) where
@@ -69,13 +69,12 @@ module _ (m : List ℕ) (long : length m ≡ mapSize) (k a : ℕ) where
           count-no (pieceStarts m) a d,
         )))
 
-    pub mark-ranked : named m a ≡ true
-        → leb (f .all .runs + f .all .pieces + (f .below .pieces + n)) k ≡ marked pages m k a
+    pub mark-ranked : {b : ℕ} → b ≡ f .all .runs + f .all .pieces → named m a ≡ true
+        → leb (b + (f .below .pieces + n)) k ≡ marked pages m k a
     unfolding marked
-    mark-ranked h =
+    mark-ranked {b} q h =
         let t = told m a e in
-        let u : f .all .runs + f .all .pieces + (f .below .pieces + n) ≡ markedFrom pages m a
-        = omega (arith, t .runs, t .pieces, rank) in
+        let u : b + (f .below .pieces + n) ≡ markedFrom pages m a = omega (arith, t .runs, t .pieces, rank) in
         ap (λ (x : ℕ). leb x k) u ∙ sym (both-second _ _ h)
 
 -- the counts fit

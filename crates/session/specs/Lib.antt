@@ -1,8 +1,5 @@
 -- The host session. Definitions stand here in the paper's order, what is proved of them under Laws.
-pub mod Plan
-pub mod Events
 pub mod Paper
-pub mod Endings
 pub mod Phases
 pub mod Session
 pub mod Laws

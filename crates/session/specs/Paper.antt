@@ -2,19 +2,10 @@
 use Prim.Native.Nat.{ℕ}
 use mathlib.Core.Bool.{Bool, true, false}
 use Rattle.basis.specs.Refusals.{Answer, refused, given}
-use Rattle.session.specs.declared.ending.Outcome.{Outcome}
 use Rattle.session.specs.declared.session.Mark.{Mark}
 use Rattle.session.specs.declared.session.Next.{Next}
 use Rattle.session.specs.declared.session.Refusal.{Refusal}
 use Rattle.session.specs.declared.session.Stepped.{Stepped}
-
--- 0 valid; 40 silence, 41 BEL, 42 no greeting, 43 other bytes or none
-abbrev pub paperOutcome : Outcome → ℕ
-paperOutcome Outcome.Valid = 0
-paperOutcome Outcome.Silence = 40
-paperOutcome Outcome.Bel = 41
-paperOutcome Outcome.NoGreeting = 42
-paperOutcome Outcome.Other = 43
 
 -- the refusal's number
 abbrev pub paperRefusal : Refusal → ℕ

@@ -9,18 +9,19 @@ use Rattle.basis.specs.Board.{openingByte}
 use Rattle.basis.specs.Choice.{pick, both}
 use Rattle.basis.specs.Refusals.{Answer, refused, given, _when_, first}
 use Rattle.basis.specs.Units.{startOf, mapBytes, rightSizesIn}
+use Rattle.basis.specs.declared.kind.RunKind.{RunKind}
+use Rattle.events.specs.Endings.{goesOn, acknowledges, endingOf, failing, endsAt, asked}
+use Rattle.events.specs.declared.ending.Awaited.{Awaited}
+use Rattle.events.specs.declared.ending.Outcome.{Outcome}
+use Rattle.events.specs.declared.event.Event.{Event}
+use Rattle.order.specs.Plan.{total, beforeVerify}
+use Rattle.order.specs.Steps.{stepAt, standsAt, verifyAt}
 use Rattle.packet.specs.Packet.{packetMost}
 use Rattle.runs.specs.Map.{named}
 use Rattle.runs.specs.Pieces.{pieceStarts, namedCount, pieceLen}
 use Rattle.runs.specs.Runs.{count}
-use Rattle.session.specs.Endings.{goesOn, acknowledges, endingOf, failing, endsAt}
-use Rattle.session.specs.Phases.{ended, packetOut, phaseAt, afterOf, standsAt, verifyAt, awaitsOf, asked}
-use Rattle.session.specs.Plan.{total, beforeVerify}
-use Rattle.session.specs.declared.ending.Awaited.{Awaited}
-use Rattle.session.specs.declared.event.Event.{Event}
-use Rattle.session.specs.declared.ending.Outcome.{Outcome}
+use Rattle.session.specs.Phases.{ended, packetOut, phaseAt, afterOf, awaitsOf}
 use Rattle.session.specs.declared.phase.Phase.{Phase}
-use Rattle.session.specs.declared.phase.RunKind.{RunKind}
 use Rattle.session.specs.declared.session.Next.{Next}
 use Rattle.session.specs.declared.session.Session.{Session}
 
@@ -84,7 +85,7 @@ overOf s w e = movedOf s (Phase.Ended (endingOf w e)) 0
 -- the event awaited goes on along the file, and all else ends the session
 abbrev pub heardBy : ℕ → List ℕ → Session → Awaited → Event → Session
 heardBy board m s w e =
-    pick (goesOn w e) (movedOf s (afterOf board m (s .phase)) (acknowledges w)) (overOf s w e)
+    pick (goesOn w e) (movedOf s (afterOf board m (s .kind) (s .phase)) (acknowledges w)) (overOf s w e)
 
 -- the session after an event, and with the packet that it sends
 unfoldable pub tookOf : ℕ → List ℕ → Session → Event → Session
@@ -98,13 +99,11 @@ sentOf board image m s e =
     }
 
 -- a start and events over the file lead to such a phase, with k packets acknowledged:
--- one that is open stands in the file, one that has ended is an ending that k acknowledgements allow
-unfoldable pub cameAt : ℕ → List ℕ → RunKind → Phase → ℕ → Bool
-cameAt board m kind Phase.Greeting k = standsAt board m Phase.Greeting k
-cameAt board m kind (Phase.Erase p) k = standsAt board m (Phase.Erase p) k
-cameAt board m kind (Phase.Write a) k = standsAt board m (Phase.Write a) k
-cameAt board m kind (Phase.Verify a) k = standsAt board m (Phase.Verify a) k
-cameAt board m kind Phase.Run k = standsAt board m Phase.Run k
+-- none where the greeting is awaited; the packet that is out is the k-th of the file;
+-- one that has ended is an ending that k acknowledgements allow
+abbrev pub cameAt : ℕ → List ℕ → RunKind → Phase → ℕ → Bool
+cameAt board m kind Phase.Greeting k = eqb k 0
+cameAt board m kind (Phase.Out s) k = standsAt board m s k
 cameAt board m kind (Phase.Ended o) k = endsAt (asked kind) (total board m) o k
 
 -- a start and events over the file lead to such a session:
@@ -167,7 +166,7 @@ pub data Came (board : ℕ) (m : List ℕ) (kind : RunKind) (s : Session) : Type
 -- the packet after j acknowledgements is the V of the piece at s, which holds the byte at a
 pub record Held (board : ℕ) (m : List ℕ) (j s a : ℕ) : Type 0 where
   pub planned : j < total board m
-  pub phase : phaseAt board m j ≡ verifyAt s
+  pub step : stepAt board m j ≡ verifyAt s
   pub from : s ≤ a
   pub below : a < s + pieceLen m s
 
@@ -178,7 +177,7 @@ pub record Acknowledged (board : ℕ) (m : List ℕ) (kind : RunKind) (es : List
   pub rest : List Event
   pub piece : ℕ
   pub cut : es ≡ before ++ (Event.Ack ∷ rest)
-  pub out : series board m (atGreeting board m kind) before .phase ≡ verifyAt piece
+  pub out : series board m (atGreeting board m kind) before .phase ≡ Phase.Out (verifyAt piece)
   pub from : piece ≤ a
   pub below : a < piece + pieceLen m piece
 

@@ -1,7 +1,3 @@
 // The host session: what the host sends for a file, answer by answer.
-pub mod cursor;
-pub mod ending;
-pub mod event;
 pub mod phase;
-pub mod sending;
 pub mod session;

@@ -1,37 +1,27 @@
 // Where a session stands: what it waits for, with the cursor in the file, or how it ended.
 ghost use mathlib.Core.Path.{_≡_};
-ghost use Rattle.session.specs.Phases.{asked, ended, awaitsOf};
-use crate::ending::Awaited;
-use crate::ending::Outcome;
+ghost use mathlib.Core.Bool.{true};
+ghost use Prim.Native.Nat.{_≤_};
+ghost use lib.ListN.{length};
+ghost use Rattle.basis.specs.Board.{flashSize, mapSize, pages};
+ghost use Rattle.basis.specs.Lists.{overlay};
+ghost use Rattle.packet.specs.Packet.{packetMost};
+ghost use Rattle.session.specs.Phases.{ended, awaitsOf, packetOut, reachedOf, afterOf, onStart, cursorOf};
+use basis::kind::RunKind;
 use basis::units::Address;
-use basis::units::Page;
+use events::ending::Awaited;
+use events::ending::Outcome;
+use order::cursor::Following;
+use order::cursor::first;
+use order::cursor::follow;
+use order::cursor::place;
+use order::sending::send;
+use order::step::Step;
 
-// What the board does after the last packet.
-pub enum RunKind {
-    Reset,
-    Jump,
-}
-
-impl RunKind {
-    // The ending that was asked for.
-    pub fn asked(self) -> Outcome
-        ensures { λ r. ⌜ r ≡ asked self ⌝ }
-    {
-        match self {
-            RunKind::Reset => Outcome::Valid,
-            RunKind::Jump => Outcome::Valid,
-        }
-    }
-}
-
-// What a session waits for: the greeting, or the answer to E for the run at a page,
-// to W or V for the piece at an address, to R.
+// A session waits for the greeting, or for the answer to the step whose packet is out.
 pub enum Phase {
     Greeting,
-    Erase(Page),
-    Write(Address),
-    Verify(Address),
-    Run,
+    Out(Step),
     Ended(Outcome),
 }
 
@@ -41,10 +31,7 @@ impl Phase {
     {
         match self {
             Phase::Greeting => false,
-            Phase::Erase(_) => false,
-            Phase::Write(_) => false,
-            Phase::Verify(_) => false,
-            Phase::Run => false,
+            Phase::Out(_) => false,
             Phase::Ended(_) => true,
         }
     }
@@ -55,12 +42,60 @@ impl Phase {
     {
         match self {
             Phase::Greeting => Awaited::Greeting,
-            Phase::Erase(_) => Awaited::Ack,
-            Phase::Write(_) => Awaited::Ack,
-            Phase::Verify(_) => Awaited::Ack,
-            Phase::Run => Awaited::Ack,
+            Phase::Out(_) => Awaited::Ack,
             // Never asked: 44 comes first.
             Phase::Ended(_) => Awaited::Ack,
+        }
+    }
+
+    // The address that the cursor names: 0 where the phase has none.
+    pub fn cursor(self) -> Address
+        ensures { λ r. ⌜ r .0 ≡ cursorOf pages self ⌝ }
+    {
+        match self {
+            Phase::Greeting => Address(0),
+            Phase::Out(step) => place(step),
+            Phase::Ended(_) => Address(0),
+        }
+    }
+
+    // What a session waits for once the right answer has come.
+    pub fn after(self, kind: RunKind, map: &[u8]) -> Phase
+        requires { ⌜ (length (now map) ≡ mapSize) × (onStart pages (now map) self ≡ true) ⌝ }
+        ensures { λ r. ⌜ r ≡ afterOf pages (now (map .entry)) kind self ⌝ }
+    {
+        match self {
+            Phase::Greeting => Phase::Out(first(map)),
+            Phase::Out(step) => Phase::reached(kind, follow(map, step)),
+            Phase::Ended(outcome) => Phase::Ended(outcome),
+        }
+    }
+
+    // Behind the last packet the session ends as was asked.
+    fn reached(kind: RunKind, following: Following) -> Phase
+        ensures { λ r. ⌜ r ≡ reachedOf kind following ⌝ }
+    {
+        match following {
+            Following::Step(step) => Phase::Out(step),
+            Following::End => Phase::Ended(Outcome::asked(kind)),
+        }
+    }
+
+    // Gives the packet's length: none while the greeting is awaited, and an ending sends none.
+    pub fn send(self, kind: RunKind, image: &[u8], map: &[u8], buffer: &mut [u8]) -> usize
+        requires { ⌜
+            (length (now image) ≡ flashSize) × (length (now map) ≡ mapSize)
+            × (packetMost ≤ length (now buffer)) × (onStart pages (now map) self ≡ true)
+            ⌝ }
+        ensures { λ r. ⌜
+            (let p = packetOut pages (now (image .entry)) (now (map .entry)) kind self in
+            (r ≡ length p) × (now (buffer .exit) ≡ overlay p (now (buffer .entry))))
+            ⌝ }
+    {
+        match self {
+            Phase::Greeting => 0,
+            Phase::Out(step) => send(image, map, kind, step, buffer),
+            Phase::Ended(_) => 0,
         }
     }
 }

@@ -1,36 +1,34 @@
 // The session: its start, its steps, and what they have proved.
 ghost use mathlib.Core.Path.{_≡_};
 ghost use mathlib.Core.Bool.{true};
-ghost use Prim.Native.Nat.{_+_, _*_, _^_, _<_, _≤_};
-ghost use lib.Dec.{eqb};
+ghost use Prim.Native.Nat.{_+_, _^_, _<_, _≤_};
 ghost use lib.ListN.{length};
 ghost use Rattle.basis.specs.Board.{flashSize, mapSize, pages};
-ghost use Rattle.basis.specs.Choice.{pick, both};
+ghost use Rattle.basis.specs.Choice.{pick};
 ghost use Rattle.basis.specs.Lists.{overlay};
+ghost use Rattle.events.specs.Endings.{endsAt, asked};
+ghost use Rattle.events.specs.Events.{classifyOf};
+ghost use Rattle.events.specs.declared.ending.Awaited.{Awaited};
 ghost use Rattle.packet.specs.Packet.{packetMost};
-ghost use Rattle.session.specs.Events.{classifyOf};
-ghost use Rattle.session.specs.Endings.{endsAt};
 ghost use Rattle.session.specs.Paper.{paperRefusal, paperStepped, paperMark};
-ghost use Rattle.session.specs.Phases.{atStart, asked};
+ghost use Rattle.session.specs.Phases.{onStart};
 ghost use Rattle.session.specs.Session.{measured, sentBytes, rightSizes, started, movedOf, overOf, heardBy, tookOf, sentOf, fitsOf, stepOf, marked, provedOf};
-ghost use Rattle.session.specs.declared.ending.Awaited.{Awaited};
-use crate::cursor::after;
-use crate::cursor::place;
-use crate::ending::Awaited;
-use crate::ending::Outcome;
-use crate::ending::ending;
-use crate::event::Event;
-use crate::event::classify;
 use crate::phase::Phase;
-use crate::phase::RunKind;
-use crate::sending::send;
 use basis::board::END;
 use basis::board::MAP;
 use basis::board::OPENING;
+use basis::kind::RunKind;
 use basis::units::Address;
+use events::ending::Awaited;
+use events::ending::Outcome;
+use events::ending::ending;
+use events::event::Event;
+use events::event::classify;
+use order::counts::before_verify;
+use order::counts::stands;
+use order::counts::total;
 use packet::build::PACKET;
 use runs::map::named;
-use runs::survey::Counts;
 use runs::survey::survey;
 
 // `acknowledged` of `total` packets are; `named` is how many bytes the file has.
@@ -165,13 +163,12 @@ impl Session {
         ensures { λ r. ⌜ r ≡ fitsOf pages (now (map .entry)) self ⌝ }
     {
         let phase = self.phase;
-        let at = place(phase);
+        let at = phase.cursor();
         if END <= at.0 {
             return false;
         }
         let found = survey(map, at);
         let all = found.all;
-        let below = found.below;
         if all.named == 0 {
             return false;
         }
@@ -184,10 +181,7 @@ impl Session {
         let k = self.acknowledged;
         match phase {
             Phase::Greeting => k == 0,
-            Phase::Erase(_) => ranked(found.run, below.runs, k),
-            Phase::Write(_) => ranked(found.piece, all.runs + below.pieces, k),
-            Phase::Verify(_) => ranked(found.piece, all.runs + all.pieces + below.pieces, k),
-            Phase::Run => all.runs + 2 * all.pieces == k,
+            Phase::Out(step) => stands(found, step, k),
             Phase::Ended(outcome) => self.ends(outcome),
         }
     }
@@ -196,7 +190,7 @@ impl Session {
         ensures { λ r. ⌜ r ≡ endsAt (asked (self .kind)) (self .total) outcome (self .acknowledged) ⌝ }
     {
         let kind = self.kind;
-        outcome.follows(kind.asked(), self.total, self.acknowledged)
+        outcome.follows(Outcome::asked(kind), self.total, self.acknowledged)
     }
 
     // An event that is not refused.
@@ -214,14 +208,14 @@ impl Session {
         let session = self.took(event, map);
         let kind = self.kind;
         let phase = session.phase;
-        let len = send(image, map, kind, phase, buffer);
+        let len = phase.send(kind, image, map, buffer);
         Next { session, len }
     }
 
     // The event awaited goes on along the file, and all else ends the session.
     fn took(self, event: Event, map: &[u8]) -> Session
         requires { ⌜
-            (length (now map) ≡ mapSize) × (atStart pages (now map) (self .phase) ≡ true)
+            (length (now map) ≡ mapSize) × (onStart pages (now map) (self .phase) ≡ true)
             × (self .acknowledged < 2 ^ 31)
             ⌝ }
         ensures { λ r. ⌜ r ≡ tookOf pages (now (map .entry)) self event ⌝ }
@@ -236,30 +230,32 @@ impl Session {
     // The greeting acknowledges no packet.
     fn greeted(self, event: Event, map: &[u8]) -> Session
         requires { ⌜
-            (length (now map) ≡ mapSize) × (atStart pages (now map) (self .phase) ≡ true)
+            (length (now map) ≡ mapSize) × (onStart pages (now map) (self .phase) ≡ true)
             × (self .acknowledged < 2 ^ 31)
             ⌝ }
         ensures { λ r. ⌜ r ≡ heardBy pages (now (map .entry)) self Awaited.Greeting event ⌝ }
     {
+        let kind = self.kind;
         let phase = self.phase;
         let Event::Greeting = event else {
             return self.over(Awaited::Greeting, event);
         };
-        self.moved(after(map, phase), 0)
+        self.moved(phase.after(kind, map), 0)
     }
 
     fn answered(self, event: Event, map: &[u8]) -> Session
         requires { ⌜
-            (length (now map) ≡ mapSize) × (atStart pages (now map) (self .phase) ≡ true)
+            (length (now map) ≡ mapSize) × (onStart pages (now map) (self .phase) ≡ true)
             × (self .acknowledged < 2 ^ 31)
             ⌝ }
         ensures { λ r. ⌜ r ≡ heardBy pages (now (map .entry)) self Awaited.Ack event ⌝ }
     {
+        let kind = self.kind;
         let phase = self.phase;
         let Event::Ack = event else {
             return self.over(Awaited::Ack, event);
         };
-        self.moved(after(map, phase), 1)
+        self.moved(phase.after(kind, map), 1)
     }
 
     fn over(self, awaited: Awaited, event: Event) -> Session
@@ -299,7 +295,7 @@ fn marked(map: &[u8], k: u32, address: Address) -> bool
     let all = found.all;
     let below = found.below;
     let pieces = below.pieces + one(found.piece);
-    all.runs + all.pieces + pieces <= k
+    before_verify(all) + pieces <= k
 }
 
 fn right_sizes(image: usize, map: usize, packet: usize) -> bool
@@ -309,23 +305,6 @@ fn right_sizes(image: usize, map: usize, packet: usize) -> bool
         return false;
     }
     PACKET <= packet
-}
-
-// Each run once, each piece twice, and R.
-fn total(all: Counts) -> u32
-    requires { ⌜ (all .runs < 2 ^ 16) × (all .pieces < 2 ^ 16) ⌝ }
-    ensures { λ r. ⌜ r ≡ all .runs + 2 * all .pieces + 1 ⌝ }
-{
-    all.runs + 2 * all.pieces + 1
-}
-
-fn ranked(starts: bool, rank: u32, k: u32) -> bool
-    ensures { λ r. ⌜ r ≡ both starts (eqb rank k) ⌝ }
-{
-    if !starts {
-        return false;
-    }
-    rank == k
 }
 
 fn one(counts: bool) -> u32

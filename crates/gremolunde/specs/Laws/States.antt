@@ -2,13 +2,14 @@
 -- passes on what was handed back goes the paper's way.
 use mathlib.Core.Bool.{Bool, true, false}
 use mathlib.Core.Path.{_≡_, refl}
+use Rattle.basis.specs.declared.kind.RunKind.{RunKind}
+use Rattle.events.specs.declared.ending.Outcome.{Outcome}
 use Rattle.image.specs.declared.hex.Hex.{Hex}
 use Rattle.loader.specs.declared.state.Condition.{Condition}
 use Rattle.loader.specs.declared.state.Condition.the-variants.{Waiting, Serving, Left}
 use Rattle.loader.specs.declared.state.Loader.{Loader}
-use Rattle.session.specs.declared.ending.Outcome.{Outcome}
+use Rattle.order.specs.declared.step.Step.{Step}
 use Rattle.session.specs.declared.phase.Phase.{Phase}
-use Rattle.session.specs.declared.phase.RunKind.{RunKind}
 use Rattle.session.specs.declared.session.Session.{Session}
 use Rattle.gremolunde.specs.States.{isSet, flagOf, conditionMeant, conditionShown, loaderMeant, loaderShown, hexMeant, hexShown, runMeant, runShown, phaseMeant, phaseShown, pageShown, addressShown, outcomeShown, sessionMeant, sessionShown}
 
@@ -48,10 +49,10 @@ run-back RunKind.Jump = refl
 
 phase-back : (p : Phase) → phaseMeant (phaseShown p) (pageShown p) (addressShown p) (outcomeShown p) ≡ p
 phase-back Phase.Greeting = refl
-phase-back (Phase.Erase p) = refl
-phase-back (Phase.Write a) = refl
-phase-back (Phase.Verify a) = refl
-phase-back Phase.Run = refl
+phase-back (Phase.Out (Step.Erase p)) = refl
+phase-back (Phase.Out (Step.Write a)) = refl
+phase-back (Phase.Out (Step.Verify a)) = refl
+phase-back (Phase.Out Step.Run) = refl
 phase-back (Phase.Ended Outcome.Valid) = refl
 phase-back (Phase.Ended Outcome.Silence) = refl
 phase-back (Phase.Ended Outcome.Bel) = refl

@@ -13,19 +13,19 @@ use lib.ListN.{length}
 use Rattle.basis.specs.Laws.Choice.{decide}
 use Rattle.basis.specs.Lists.{Bytes}
 use Rattle.basis.specs.Units.{startOf}
+use Rattle.basis.specs.declared.kind.RunKind.{RunKind}
+use Rattle.events.specs.declared.ending.Outcome.{Outcome}
 use Rattle.line.specs.Demand.{Stands, Valid, Safe, Free}
 use Rattle.line.specs.Laws.Moments as moments
 use Rattle.line.specs.Laws.Stages.{stage}
 use Rattle.line.specs.Line.{between, reply, loadAt}
 use Rattle.line.specs.declared.exchange.Loss.{Loss}
 use Rattle.loader.specs.declared.state.Loader.{Loader}
+use Rattle.order.specs.Plan.{total}
 use Rattle.runs.specs.Map.{named}
 use Rattle.session.specs.Phases.{ended}
-use Rattle.session.specs.Plan.{total}
 use Rattle.session.specs.Session.{Loadable}
-use Rattle.session.specs.declared.ending.Outcome.{Outcome}
 use Rattle.session.specs.declared.phase.Phase.{Phase}
-use Rattle.session.specs.declared.phase.RunKind.{RunKind}
 
 -- one file with at least one named byte, one run kind; the loader with any protection and any key, any flash;
 -- any losses

@@ -9,6 +9,12 @@ use Rattle.basis.specs.Board.{greeting, openingByte, ackByte, belByte}
 use Rattle.basis.specs.Choice.{pick}
 use Rattle.basis.specs.Laws.Choice.{true-false}
 use Rattle.basis.specs.Refusals.{Answer, refused, given, bare}
+use Rattle.basis.specs.declared.kind.RunKind.{RunKind}
+use Rattle.events.specs.Endings.{failing}
+use Rattle.events.specs.Events.{isAck, isGreeting}
+use Rattle.events.specs.Laws.Events.{ack-heard, bel-heard, silence-heard}
+use Rattle.events.specs.declared.ending.Outcome.{Outcome}
+use Rattle.events.specs.declared.event.Event.{Event}
 use Rattle.line.specs.Line.{Moment, momentWith, begun, loaderTakes, delivered, arrives, reply, eventFrom, stepsOn, between, exchangeOf}
 use Rattle.line.specs.declared.exchange.Loss.{Loss}
 use Rattle.loader.specs.Commands.{Effect}
@@ -16,18 +22,14 @@ use Rattle.loader.specs.State.{resetOf}
 use Rattle.loader.specs.Take.{waiting, quiet, tellOf, answerBytes}
 use Rattle.loader.specs.declared.state.Condition.the-variants.{Serving}
 use Rattle.loader.specs.declared.state.Loader.{Loader}
-use Rattle.session.specs.Laws.Events.{ack-heard, bel-heard, silence-heard}
-use Rattle.session.specs.Endings.{isAck, isGreeting, failing}
+use Rattle.order.specs.Plan.{total}
+use Rattle.order.specs.Steps.{packetAt}
 use Rattle.session.specs.Laws.Series.{not-ack, not-greeting}
 use Rattle.session.specs.Laws.States.{greeting-state, ack-next, ack-last, step-state, waiting-fits}
 use Rattle.session.specs.Laws.Steps.{step-taken}
-use Rattle.session.specs.Phases.{packetOut, packetAt}
-use Rattle.session.specs.Plan.{total}
+use Rattle.session.specs.Phases.{packetOut}
 use Rattle.session.specs.Session.{sessionWith, atGreeting, stateAt, rightSizes, tookOf, Loadable}
-use Rattle.session.specs.declared.event.Event.{Event}
-use Rattle.session.specs.declared.ending.Outcome.{Outcome}
 use Rattle.session.specs.declared.phase.Phase.{Phase}
-use Rattle.session.specs.declared.phase.RunKind.{RunKind}
 use Rattle.session.specs.declared.session.Session.{Session}
 use Rattle.packet.specs.Packet.{packetMost}
 

@@ -14,6 +14,7 @@ use Rattle.basis.specs.Laws.Lists.{bytes-take, bytes-drop}
 use Rattle.basis.specs.Lists.{Bytes}
 use Rattle.basis.specs.Refusals.{given}
 use Rattle.basis.specs.Units.{pageOf, startOf}
+use Rattle.basis.specs.declared.kind.RunKind.{RunKind}
 use Rattle.image.specs.Flash.{storeOf, Blank}
 use Rattle.image.specs.Laws.Flash.{length-erase, erase-at, length-store, store-blank-at}
 use Rattle.line.specs.Demand.{Free}
@@ -28,6 +29,10 @@ use Rattle.loader.specs.State.{withCondition}
 use Rattle.loader.specs.Verify.{equalsOf}
 use Rattle.loader.specs.declared.state.Condition.the-variants.{Left}
 use Rattle.loader.specs.declared.state.Loader.{Loader}
+use Rattle.order.specs.Laws.Out.{Ranked, Out, erases, writes, verifies, runs}
+use Rattle.order.specs.Laws.Starts.{run-below, piece-carried}
+use Rattle.order.specs.Plan.{erasePacket, writePacket, pieceBytes, runAddress, beforeVerify, beforeR}
+use Rattle.order.specs.Steps.{packetOf, packetAt}
 use Rattle.packet.specs.Laws.Turn.{restored-turned, undone}
 use Rattle.packet.specs.Turn.{turnedOf, restoredOf}
 use Rattle.runs.specs.Laws.Files.{bytes-past, file-piece, file-run}
@@ -38,13 +43,8 @@ use Rattle.runs.specs.Map.{named}
 use Rattle.runs.specs.Pages.{touched}
 use Rattle.runs.specs.Pieces.{pieceMost, pieceStarts, pieceLen, runStarts, runLen, runCount, pieceCount}
 use Rattle.runs.specs.Runs.{count}
-use Rattle.session.specs.Laws.Starts.{run-below, piece-carried}
-use Rattle.session.specs.Laws.Out.{Ranked, Out, erases, writes, verifies, runs}
-use Rattle.session.specs.Phases.{packetOut, packetAt}
-use Rattle.session.specs.Plan.{erasePacket, writePacket, pieceBytes, runAddress, beforeVerify, beforeR}
 use Rattle.session.specs.Session.{Loadable}
-use Rattle.session.specs.declared.phase.Phase.{Phase}
-use Rattle.session.specs.declared.phase.RunKind.{RunKind}
+use Rattle.order.specs.declared.step.Step.{Step}
 
 -- the pieces that start at a byte or below it, and the runs of pages that start at its page or below
 abbrev pieceRank : List ℕ → ℕ → ℕ
@@ -238,16 +238,16 @@ module _ (board : ℕ) (few : board ≤ 255) (image m : List ℕ) (file : Loadab
   pub lets : Out board m k → (e : Effect) × Lets board image m l (packetAt board image m kind k) f k e
   lets (erases q e r b) = (
     record { loader = l; flash = erasedRun board f m q },
-    erase-lets q r b (ap (packetOut board image m kind) e),
+    erase-lets q r b (ap (packetOf board image m kind) e),
   )
   lets (writes s j e r t b) = (
     record { loader = l; flash = stored s j r t },
-    write-lets s j r t (ap (packetOut board image m kind) e),
+    write-lets s j r t (ap (packetOf board image m kind) e),
   )
   lets (verifies s j e r t b) = (
     record { loader = l; flash = f },
     record {
-      let-is = ap (λ (ph : Phase). loaderTakes board l (packetOut board image m kind ph) f) e
+      let-is = ap (λ (x : Step). loaderTakes board l (packetOf board image m kind x) f) e
           ∙ takes-verify board few image m file l serves f (h .size) s (r .begins)
           ∙ ap (keeping f)
           (verify-passes board l s (map turnedOf (pieceBytes image m s)) f (given l) (serves .sequence-is)
@@ -260,7 +260,7 @@ module _ (board : ℕ) (few : board ≤ 255) (image m : List ℕ) (file : Loadab
   lets (runs e t) = (
     record { loader = withCondition l Left; flash = f },
     record {
-      let-is = ap (λ (ph : Phase). loaderTakes board l (packetOut board image m kind ph) f) e
+      let-is = ap (λ (x : Step). loaderTakes board l (packetOf board image m kind x) f) e
           ∙ takes-run board few image m file l serves f (h .size) kind
           ∙ ap (keeping f) (run-passes l (runAddress kind) (serves .sequence-is) (low kind));
       grows = late-grows (omega arith);

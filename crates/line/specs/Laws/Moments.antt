@@ -15,6 +15,12 @@ use Rattle.basis.specs.Laws.Refusals.{given-one}
 use Rattle.basis.specs.Lists.{Bytes}
 use Rattle.basis.specs.Refusals.{Answer, given}
 use Rattle.basis.specs.Units.{pageOf, startOf, mapBytes}
+use Rattle.basis.specs.declared.kind.RunKind.{RunKind}
+use Rattle.events.specs.Endings.{failing, paperOutcome}
+use Rattle.events.specs.Laws.Endings.{ends-asked}
+use Rattle.events.specs.Laws.Events.{greeting-heard}
+use Rattle.events.specs.declared.ending.Outcome.{Outcome}
+use Rattle.events.specs.declared.event.Event.{Event}
 use Rattle.line.specs.Demand.{AllProved, RunOut, Valid, Safe, Free}
 use Rattle.line.specs.Laws.Exchange.{silence-is, let-acked, opened, standing, served, taken, on-ack, on-last, taken-first, on-greeting}
 use Rattle.line.specs.Laws.Liveness.{Grows, Lets, lets}
@@ -26,6 +32,10 @@ use Rattle.loader.specs.Commands.{Effect, effectAfter}
 use Rattle.loader.specs.State.{resetOf}
 use Rattle.loader.specs.Take.{answerBytes}
 use Rattle.loader.specs.declared.state.Loader.{Loader}
+use Rattle.order.specs.Laws.Out.{Out, erases, writes, verifies, runs, out-after}
+use Rattle.order.specs.Laws.Starts.{some-page}
+use Rattle.order.specs.Plan.{pieceBytes, total, beforeR}
+use Rattle.order.specs.Steps.{packetAt}
 use Rattle.packet.specs.Laws.Packet.{packet-command}
 use Rattle.packet.specs.Packet.{command}
 use Rattle.packet.specs.Table.{eraseByte, writeByte, verifyByte, runByte}
@@ -34,23 +44,13 @@ use Rattle.runs.specs.Laws.Pieces.{rank-some}
 use Rattle.runs.specs.Map.{named}
 use Rattle.runs.specs.Pages.{touched}
 use Rattle.runs.specs.Pieces.{pieceMost, runLen}
-use Rattle.session.specs.Laws.Events.{greeting-heard}
-use Rattle.session.specs.Endings.{failing}
-use Rattle.session.specs.Laws.Endings.{ends-asked}
 use Rattle.session.specs.Laws.Exact.{ended-fits}
 use Rattle.session.specs.Laws.Marks.{proved-is, all-marked}
 use Rattle.session.specs.Laws.Series.{silence-ends}
-use Rattle.session.specs.Laws.Starts.{some-page}
-use Rattle.session.specs.Laws.States.{phase-open, waiting-fits, state-fits}
-use Rattle.session.specs.Laws.Out.{Out, erases, writes, verifies, runs, out-after}
-use Rattle.session.specs.Phases.{ended, packetAt}
-use Rattle.session.specs.Plan.{pieceBytes, total, beforeR}
-use Rattle.session.specs.Paper.{paperOutcome}
+use Rattle.session.specs.Laws.States.{waiting-fits, state-fits}
+use Rattle.session.specs.Phases.{ended}
 use Rattle.session.specs.Session.{atGreeting, stateAt, fitsOf, marked, tookOf, Loadable}
-use Rattle.session.specs.declared.event.Event.{Event}
-use Rattle.session.specs.declared.ending.Outcome.{Outcome}
 use Rattle.session.specs.declared.phase.Phase.{Phase}
-use Rattle.session.specs.declared.phase.RunKind.{RunKind}
 use Rattle.session.specs.declared.session.Session.{Session}
 
 -- ---- the moments of any start
@@ -124,10 +124,7 @@ valid-is u e = ap outcome e
   where
     outcome : Phase → Outcome
     outcome Phase.Greeting = Outcome.Valid
-    outcome (Phase.Erase p) = Outcome.Valid
-    outcome (Phase.Write a) = Outcome.Valid
-    outcome (Phase.Verify a) = Outcome.Valid
-    outcome Phase.Run = Outcome.Valid
+    outcome (Phase.Out s) = Outcome.Valid
     outcome (Phase.Ended o) = o
 
 -- a moment whose session has ended does not go on
@@ -151,7 +148,7 @@ module _ (board : ℕ) (few : board ≤ 255) (image m before : List ℕ) (file :
   next-safe k b e h =
       holds-safe board image m before (file .long) k _ refl
       (state-fits board m (file .long) (file .some) kind k b) h (run-late board image m (file .long) kind k b)
-      (open-invalid (stateAt board m kind k) (phase-open board m k))
+      (open-invalid (stateAt board m kind k) refl)
 
   pub stage-safe : (n : ℕ) (x : Moment) → Stage board image m before kind l n x → Safe board image m before x
   stage-safe n x (starts z q) = rw q (first-safe (record { loader = resetOf l; flash = before }) refl)
@@ -231,10 +228,7 @@ module _ (board : ℕ) (few : board ≤ 255) (image m before : List ℕ) (file :
       where
         failed : Phase → Bool
         failed Phase.Greeting = false
-        failed (Phase.Erase p) = false
-        failed (Phase.Write a) = false
-        failed (Phase.Verify a) = false
-        failed Phase.Run = false
+        failed (Phase.Out s) = false
         failed (Phase.Ended u) = failing u 0
 
         unlike : Phase.Ended Outcome.Silence ≡ Phase.Ended Outcome.Valid → ⊥
@@ -265,7 +259,7 @@ module _ (board : ℕ) (few : board ≤ 255) (image m before : List ℕ) (file :
       pub moment-is : x ≡ standing board image m kind (serves-at flash) k
 
     open-at : (k : ℕ) (x : Moment) → Alive k x → ended (x .session .phase) ≡ false
-    open-at k x c = ap (λ (y : Moment). ended (y .session .phase)) (c .moment-is) ∙ phase-open board m k
+    open-at k x c = ap (λ (y : Moment). ended (y .session .phase)) (c .moment-is)
 
     module _ (k : ℕ) (b : k < total board m) (f : List ℕ) (grows : Grows board image m k f) where
       -- the packet that is out is let through

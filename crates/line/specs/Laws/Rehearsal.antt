@@ -12,20 +12,20 @@ use Rattle.basis.specs.Laws.Refusals.{passed, done, apart, given-one}
 use Rattle.basis.specs.Lists.{Bytes}
 use Rattle.basis.specs.Refusals.{Answer, refused, given}
 use Rattle.basis.specs.Units.{startOf}
+use Rattle.basis.specs.declared.kind.RunKind.{RunKind}
 use Rattle.line.specs.Demand.{Stands, Untouched, Valid, Safe}
 use Rattle.line.specs.Laws.Demand.{safe, finite}
 use Rattle.line.specs.Line.{Moment, loadAt, rehearseOf, loaded, leftFlash, Rehearses}
 use Rattle.line.specs.declared.exchange.Loss.{Loss}
 use Rattle.line.specs.declared.rehearse.Load.{Load}
 use Rattle.loader.specs.declared.state.Loader.{Loader}
+use Rattle.order.specs.Plan.{total}
 use Rattle.packet.specs.Packet.{packetMost}
 use Rattle.runs.specs.Map.{named}
 use Rattle.runs.specs.Pieces.{namedCount}
 use Rattle.session.specs.Laws.Steps.{sizes-right}
 use Rattle.session.specs.Phases.{ended}
-use Rattle.session.specs.Plan.{total}
 use Rattle.session.specs.Session.{Loadable}
-use Rattle.session.specs.declared.phase.RunKind.{RunKind}
 use Rattle.session.specs.declared.session.Session.{Session}
 
 module _ (board : ℕ) (few : board ≤ 255) (image m : List ℕ) (kind : RunKind) (l : Loader) (losses : ℕ → Loss)

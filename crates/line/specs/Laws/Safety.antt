@@ -14,6 +14,7 @@ use Rattle.basis.specs.Laws.Refusals.{apart}
 use Rattle.basis.specs.Lists.{Bytes}
 use Rattle.basis.specs.Refusals.{Answer, refused, given, first}
 use Rattle.basis.specs.Units.{pageOf, startOf}
+use Rattle.basis.specs.declared.kind.RunKind.{RunKind}
 use Rattle.image.specs.Flash.{eraseOf, storeOf}
 use Rattle.line.specs.Demand.{Untouched}
 use Rattle.line.specs.Laws.Places.{page-start, store-or, erase-or, equal-at}
@@ -26,16 +27,15 @@ use Rattle.loader.specs.Laws.Verify.{equals-stands}
 use Rattle.loader.specs.State.{resetOf, withCondition}
 use Rattle.loader.specs.declared.state.Condition.the-variants.{Serving}
 use Rattle.loader.specs.declared.state.Loader.{Loader}
+use Rattle.order.specs.Laws.Starts.{run-below, piece-below, piece-carried}
+use Rattle.order.specs.Plan.{pieceBytes, erasePacket, writePacket, verifyPacket, runPacket, runAddress}
 use Rattle.packet.specs.Laws.Turn.{restored-turned, undone}
 use Rattle.packet.specs.Turn.{turnedOf, restoredOf}
 use Rattle.runs.specs.Laws.Pages.{piece-touched}
 use Rattle.runs.specs.Laws.Pieces.{piece-passes, piece-some}
 use Rattle.runs.specs.Pages.{touched}
 use Rattle.runs.specs.Pieces.{pieceMost, pieceStarts, pieceLen, runStarts, runLen}
-use Rattle.session.specs.Laws.Starts.{run-below, piece-below, piece-carried}
-use Rattle.session.specs.Plan.{pieceBytes, erasePacket, writePacket, verifyPacket, runPacket, runAddress}
 use Rattle.session.specs.Session.{Loadable}
-use Rattle.session.specs.declared.phase.RunKind.{RunKind}
 
 -- a loader that serves, with no protect sequence open
 pub record Serves (l : Loader) : Type 0 where

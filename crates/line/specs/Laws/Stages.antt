@@ -13,6 +13,13 @@ use Rattle.basis.specs.Laws.Choice.{decide}
 use Rattle.basis.specs.Lists.{Bytes}
 use Rattle.basis.specs.Refusals.{Answer, given, first}
 use Rattle.basis.specs.Units.{startOf, mapBytes}
+use Rattle.basis.specs.declared.kind.RunKind.{RunKind}
+use Rattle.events.specs.Endings.{endsAt, asked}
+use Rattle.events.specs.Events.{isAck}
+use Rattle.events.specs.Laws.Endings.{fails-ends}
+use Rattle.events.specs.Laws.Events.{greeting-heard, ack-or}
+use Rattle.events.specs.declared.ending.Outcome.{Outcome}
+use Rattle.events.specs.declared.event.Event.{Event}
 use Rattle.image.specs.Laws.Flash.{length-erase, length-store}
 use Rattle.line.specs.Demand.{Untouched}
 use Rattle.line.specs.Laws.Exchange.{silence-is, acked, opened, over, standing, served, on-ack, on-last, on-else, on-greeting, on-silence}
@@ -25,23 +32,16 @@ use Rattle.loader.specs.Laws.Host.{kept}
 use Rattle.loader.specs.State.{resetOf}
 use Rattle.loader.specs.Take.{answerBytes}
 use Rattle.loader.specs.declared.state.Loader.{Loader}
+use Rattle.order.specs.Laws.Out.{Out, erases, writes, verifies, runs, out-after}
+use Rattle.order.specs.Laws.Starts.{piece-carried}
+use Rattle.order.specs.Plan.{total, pieceBytes, verifyPacket, beforeVerify, beforeR}
+use Rattle.order.specs.Steps.{packetOf, verifyAt, placeOf, packetAt}
 use Rattle.packet.specs.Turn.{turnedOf}
 use Rattle.runs.specs.Pieces.{runLen}
-use Rattle.session.specs.Laws.Events.{greeting-heard}
 use Rattle.session.specs.Laws.Marks.{marked-late, marked-more, all-marked}
-use Rattle.session.specs.Endings.{isAck, endsAt}
-use Rattle.session.specs.Laws.Endings.{fails-ends}
-use Rattle.session.specs.Laws.Series.{ack-or}
-use Rattle.session.specs.Laws.Starts.{piece-carried}
-use Rattle.session.specs.Laws.States.{phase-open}
-use Rattle.session.specs.Laws.Out.{Out, erases, writes, verifies, runs, out-after}
-use Rattle.session.specs.Phases.{ended, packetOut, verifyAt, placeOf, packetAt, asked}
-use Rattle.session.specs.Plan.{total, pieceBytes, verifyPacket, beforeVerify, beforeR}
+use Rattle.session.specs.Phases.{ended}
 use Rattle.session.specs.Session.{marked, Loadable}
-use Rattle.session.specs.declared.event.Event.{Event}
-use Rattle.session.specs.declared.ending.Outcome.{Outcome}
-use Rattle.session.specs.declared.phase.Phase.{Phase}
-use Rattle.session.specs.declared.phase.RunKind.{RunKind}
+use Rattle.order.specs.declared.step.Step.{Step}
 
 module _ (board : ℕ) (image m before : List ℕ) where
   -- flash after k acknowledgements: its size, the pages that are not touched, and the bytes that are marked
@@ -163,7 +163,7 @@ module _ (board : ℕ) (few : board ≤ 255) (image m before : List ℕ) (file :
             size = hg .size;
             untouched = hg .untouched;
             marked-stands = λ a n. marked-more board m (file .long) k a n (hg .marked-stands a)
-                (λ z v. let y : s ≡ z = place board s z (sym t ∙ v .phase) in
+                (λ z v. let y : s ≡ z = place board s z (sym t ∙ v .step) in
                 ap (λ (x : List ℕ). getD x a 0) same
                 ∙ verified board few image m file l serves f (h .size) bytes s (r .begins) e let-through a
                 (rw y (v .from)) (rw y (v .below)));
@@ -171,7 +171,7 @@ module _ (board : ℕ) (few : board ≤ 255) (image m before : List ℕ) (file :
         where
           let-through : loaderTakes board l (verifyPacket image m s) f ≡ given e
           let-through =
-              ap (λ (ph : Phase). loaderTakes board l (packetOut board image m kind ph) f) (sym t) ∙ q
+              ap (λ (x : Step). loaderTakes board l (packetOf board image m kind x) f) (sym t) ∙ q
 
           same : g ≡ f
           same =
@@ -265,5 +265,5 @@ module _ (board : ℕ) (few : board ≤ 255) (image m before : List ℕ) (file :
       go : (x : Moment) → At n x
           → At (suc n) (pick (ended (x .session .phase)) x (exchangeOf board image m (losses n) x))
       go x (starts z q) = rw (q, z) (first-stage (losses 0))
-      go x (stands e k z b s h q) = rw (q, phase-open board m k, z) (next-stage (losses (k + 1)) e k b s h)
+      go x (stands e k z b s h q) = rw (q, z) (next-stage (losses (k + 1)) e k b s h)
       go x (ends e u k h v q) = rw q (ends e u k h v refl)

@@ -13,17 +13,17 @@ use Rattle.basis.specs.Board.{flashSize, mapSize, pages}
 use Rattle.basis.specs.Laws.Choice.{decide}
 use Rattle.basis.specs.Lists.{Bytes}
 use Rattle.basis.specs.Units.{pageGroupOf}
+use Rattle.basis.specs.declared.kind.RunKind.{RunKind}
 use Rattle.line.specs.Demand.{Stands, Valid}
 use Rattle.line.specs.Laws.Demand.{valid}
 use Rattle.line.specs.Line.{loadAt}
 use Rattle.line.specs.declared.exchange.Loss.{Loss}
 use Rattle.loader.specs.State.{factoryOf}
+use Rattle.order.specs.Plan.{total}
 use Rattle.runs.specs.Laws.Map.{name-length, name-same}
 use Rattle.runs.specs.Laws.Runs.{rank-below}
 use Rattle.runs.specs.Map.{named, nameOf}
-use Rattle.session.specs.Plan.{total}
 use Rattle.session.specs.Session.{Loadable}
-use Rattle.session.specs.declared.phase.RunKind.{RunKind}
 
 abbrev image : List ℕ
 image = replicate flashSize 0x12

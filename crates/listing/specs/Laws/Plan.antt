@@ -5,7 +5,7 @@ use mathlib.Core.List.{List, [], _∷_, _++_, append-assoc}
 use mathlib.Core.Path.{_≡_, refl, sym, ap, _∙_}
 use native.Mathlib.Numerals.{add-one}
 use native.Mathlib.Omega.{arith}
-use borrow.Author.Tests.{lt-ltb, le-ltb, ltb-true, ltb-false}
+use borrow.Author.Tests.{lt-ltb, le-ltb}
 use lib.Dec.{ltb}
 use lib.ListN.{length, drop, length-drop, drop-of-length-le}
 use lib.Seq.{drop-cons, drop-nil}
@@ -13,50 +13,31 @@ use Rattle.basis.specs.Laws.Choice.{decide}
 use Rattle.basis.specs.Laws.Refusals.{apart, given-one, refused-one}
 use Rattle.basis.specs.Refusals.{Answer, refused, given}
 use Rattle.basis.specs.Units.{mapBytes}
+use Rattle.basis.specs.declared.kind.RunKind.{RunKind}
+use Rattle.order.specs.Laws.Plan.{plan-length, plan-at}
+use Rattle.order.specs.Laws.Steps.{stands-start, at-stands, left-step, left-end, first-at, follow-at}
+use Rattle.order.specs.Plan.{plan, total}
+use Rattle.order.specs.Steps.{stepAt, followingAt, firstOf, followOf, atStart}
+use Rattle.order.specs.declared.cursor.Following.{Following}
+use Rattle.order.specs.declared.step.Step.{Step}
 use Rattle.runs.specs.Pieces.{namedCount}
-use Rattle.session.specs.Laws.Phases.{at-stands, stands-start}
-use Rattle.session.specs.Laws.Plan.{plan-length, plan-at}
-use Rattle.session.specs.Laws.States.{phase-later, greeting-state, ack-next, ack-last}
 use Rattle.session.specs.Laws.Steps.{starting}
-use Rattle.session.specs.Phases.{atStart, phaseAt, afterOf}
-use Rattle.session.specs.Plan.{plan, total}
-use Rattle.session.specs.Session.{Sent, stateAt, started, measured, tookOf, Loadable}
-use Rattle.session.specs.declared.event.Event.{Event}
-use Rattle.session.specs.declared.phase.Phase.{Phase}
-use Rattle.session.specs.declared.phase.RunKind.{RunKind}
+use Rattle.session.specs.Session.{Sent, started, measured, Loadable}
 use Rattle.session.specs.declared.session.Next.{Next}
-use Rattle.session.specs.declared.session.Session.{Session}
 use Rattle.listing.specs.Lines.{headLine, stepLine, totalLine}
-use Rattle.listing.specs.Plan.{stepLines, planText, resetPacketAt, phaseAfter, listingAt, Listed, listingBy, longestLine, Sheet, sheet, followedBy, sheetOf, sheets}
+use Rattle.listing.specs.Plan.{stepLines, planText, resetPacketAt, listingAt, Listed, listingBy, longestLine, Sheet, sheet, followedBy, sheetOf, sheets}
 use Rattle.listing.specs.declared.plan.Listing.{Listing}
 
 -- ---- along the plan
 
-module _ (board : ℕ) (m : List ℕ) (long : length m ≡ mapBytes board) (some : 0 < namedCount board m) where
-  took-phase : (n : ℕ)
-      → tookOf board m (stateAt board m RunKind.Reset n) Event.Ack .phase
-      ≡ afterOf board m (phaseAt board m n)
-  unfolding tookOf
-  took-phase n = rw (phase-later board m n)
-
-  phase-after : (n : ℕ) → n < total board m → afterOf board m (phaseAt board m n) ≡ phaseAfter board m (n + 1)
-  phase-after n h =
-      sym (took-phase n)
-      ∙ decide (ltb (n + 1) (total board m))
-      (λ t. rw t (ap (λ (s : Session). s .phase)
-      (ack-next board m long some RunKind.Reset n (ltb-true (n + 1) (total board m) t))))
-      (λ t. rw t (ap (λ (s : Session). s .phase)
-      (ack-last board m long some RunKind.Reset n (omega (arith, ltb-false (n + 1) (total board m) t)))))
-
-  -- nothing is listed: the first packet follows the greeting
-  pub listing-first : (ph : Phase) (k : ℕ) → ph ≡ afterOf board m Phase.Greeting → k ≡ total board m
-      → record { phase = ph; listed = 0; total = k } ≡ listingAt board m 0
-  unfolding tookOf
-  listing-first ph k e f =
-      let g : ph ≡ phaseAt board m 0 = e
-      ∙ ap (λ (s : Session). s .phase) (greeting-state board m long some RunKind.Reset) in
-      let some-packet : 0 < total board m = omega arith in
-      rw (g, f, lt-ltb 0 (total board m) some-packet)
+-- nothing is listed: the first packet is next
+pub listing-first : (board : ℕ) (m : List ℕ) → length m ≡ mapBytes board → 0 < namedCount board m
+    → (f : Following) (k : ℕ) → f ≡ Following.Step (firstOf board m) → k ≡ total board m
+    → record { next = f; listed = 0; total = k } ≡ listingAt board m 0
+listing-first board m long some f k e g =
+    let h : f ≡ Following.Step (stepAt board m 0) = e ∙ ap Following.Step (first-at board m long some) in
+    let some-packet : 0 < total board m = omega arith in
+    rw (h, g, lt-ltb 0 (total board m) some-packet)
 
 -- ---- a listing of a file
 
@@ -64,27 +45,32 @@ module _ (board : ℕ) (image m : List ℕ) (l : Listing) (h : Listed board imag
   listed-total : l .total ≡ total board m
   listed-total = ap (λ (x : Listing). x .total) (h .stands)
 
-  module _ (more : l .listed < l .total) where
+  listed-left-is : l .next ≡ followingAt board m (l .listed)
+  listed-left-is = ap (λ (x : Listing). x .next) (h .stands)
+
+  module _ (s : Step) (next-is : l .next ≡ Following.Step s) where
     listed-below : l .listed < total board m
-    listed-below = omega (arith, listed-total)
+    listed-below = left-step board m (l .listed) s (sym listed-left-is ∙ next-is) .0
 
-    -- its phase is that of the next packet
-    pub listed-phase : l .phase ≡ phaseAt board m (l .listed)
-    listed-phase =
-        ap (λ (x : Listing). x .phase) (h .stands) ∙ rw (lt-ltb (l .listed) (total board m) listed-below)
+    pub listed-more : l .listed < l .total
+    listed-more = omega (arith, listed-total, listed-below)
 
-    pub listed-start : atStart board m (l .phase) ≡ true
+    -- its step is that of the next packet
+    pub listed-step : s ≡ stepAt board m (l .listed)
+    listed-step = left-step board m (l .listed) s (sym listed-left-is ∙ next-is) .1
+
+    pub listed-start : atStart board m s ≡ true
     listed-start =
-        ap (atStart board m) listed-phase
-        ∙ stands-start board m (h .file .long) (phaseAt board m (l .listed)) (l .listed)
+        ap (atStart board m) listed-step
+        ∙ stands-start board m (h .file .long) (stepAt board m (l .listed)) (l .listed)
         (at-stands board m (l .listed) listed-below)
 
-    pub listed-next : (ph : Phase) → ph ≡ afterOf board m (l .phase)
-        → record { phase = ph; listed = l .listed + 1; total = l .total } ≡ listingAt board m (l .listed + 1)
-    listed-next ph e =
-        let f : ph ≡ phaseAfter board m (l .listed + 1) = e ∙ ap (afterOf board m) listed-phase
-        ∙ phase-after board m (h .file .long) (h .file .some) (l .listed) listed-below in
-        λ i. record { phase = f i; listed = l .listed + 1; total = listed-total i }
+    pub listed-next : (f : Following) → f ≡ followOf board m s
+        → record { next = f; listed = l .listed + 1; total = l .total } ≡ listingAt board m (l .listed + 1)
+    listed-next f e =
+        let g : f ≡ followingAt board m (l .listed + 1) = e ∙ ap (followOf board m) listed-step
+        ∙ follow-at board m (h .file .long) (h .file .some) (l .listed) listed-below in
+        λ i. record { next = g i; listed = l .listed + 1; total = listed-total i }
 
     pub next-listed : (x : Listing) → x ≡ listingAt board m (l .listed + 1) → Listed board image m x
     next-listed x e =
@@ -107,10 +93,13 @@ module _ (board : ℕ) (image m : List ℕ) (l : Listing) (h : Listed board imag
           plan-at board image m RunKind.Reset (l .listed) [] listed-below,
         )
 
-  pub listed-end : l .total ≤ l .listed → drop (l .listed) (plan board image m RunKind.Reset) ≡ []
+  pub listed-end : l .next ≡ Following.End → drop (l .listed) (plan board image m RunKind.Reset) ≡ []
   listed-end e =
-      let k : length (plan board image m RunKind.Reset) ≤ l .listed = omega
-      (arith, plan-length board image m RunKind.Reset, listed-total) in
+      let k : length (plan board image m RunKind.Reset) ≤ l .listed = omega (
+        arith,
+        plan-length board image m RunKind.Reset,
+        left-end board m (l .listed) (sym listed-left-is ∙ e),
+      ) in
       drop-of-length-le (plan board image m RunKind.Reset) k
 
 -- ---- its start

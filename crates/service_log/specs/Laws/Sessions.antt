@@ -14,24 +14,22 @@ use Rattle.basis.specs.Laws.Refusals.{passed, done, given-one}
 use Rattle.basis.specs.Lists.{pairAt}
 use Rattle.basis.specs.Refusals.{given}
 use Rattle.basis.specs.Units.{startOf, mapBytes}
+use Rattle.basis.specs.declared.kind.RunKind.{RunKind}
+use Rattle.events.specs.Endings.{paperOutcome, failing}
+use Rattle.events.specs.declared.ending.Outcome.{Outcome}
+use Rattle.events.specs.declared.event.Event.{Event}
+use Rattle.order.specs.Laws.Totals.{total-fits, total-least, named-fits}
+use Rattle.order.specs.Plan.{total}
 use Rattle.runs.specs.Pieces.{namedCount}
 use Rattle.session.specs.Laws.Series.{came}
-use Rattle.session.specs.Laws.States.{phase-open}
-use Rattle.session.specs.Laws.Totals.{total-fits, total-least, named-fits}
-use Rattle.session.specs.Paper.{paperOutcome}
 use Rattle.session.specs.Phases.{ended}
-use Rattle.session.specs.Plan.{total}
-use Rattle.session.specs.Endings.{failing}
 use Rattle.session.specs.Session.{sessionWith, Came, waits, stands, fails, ends, atGreeting, series}
-use Rattle.session.specs.declared.ending.Outcome.{Outcome}
 use Rattle.session.specs.declared.phase.Phase.{Phase}
-use Rattle.session.specs.declared.phase.RunKind.{RunKind}
 use Rattle.session.specs.declared.session.Session.{Session}
 use Rattle.service_log.specs.Laws.FalseRecords.{false-valid, true-greeted, false-ungreeted}
 use Rattle.service_log.specs.Laws.Log.{write-given, read-given}
 use Rattle.service_log.specs.Log.{recordSize, recordVersion, known, isFalseOf, loggedOutcomeOf, twoBytes, fitTwo, recordBytes, writeOf, recordAt, readOf}
 use Rattle.service_log.specs.declared.read.Record.{Record}
-use Rattle.session.specs.declared.event.Event.{Event}
 
 -- ---- what is written reads back
 
@@ -133,7 +131,7 @@ module _ (board : ℕ) (m : List ℕ) (long : length m ≡ mapBytes board) (some
         (namedCount board m))
     came-logged s (waits e) h = absurd (true-false (sym h ∙ ap (λ (x : Session). ended (x .phase)) e))
     came-logged s (stands k b e) h =
-        absurd (true-false (sym h ∙ ap (λ (x : Session). ended (x .phase)) e ∙ phase-open board m k))
+        absurd (true-false (sym h ∙ ap (λ (x : Session). ended (x .phase)) e))
     came-logged s (fails o k b f e) h =
         rw e (write-given board room (sessionWith board m kind (Phase.Ended o) k) refl
         (counts-fit k short (omega arith)) (paperOutcome o) refl (failed-true o k b f) l)

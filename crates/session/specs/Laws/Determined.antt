@@ -9,9 +9,8 @@ use Rattle.basis.specs.Laws.Choice.{true-false}
 use Rattle.basis.specs.Laws.Refusals.{apart, given-one, refused-one, back-one, determined}
 use Rattle.basis.specs.Lists.{overlay}
 use Rattle.basis.specs.Refusals.{Answer}
-use Rattle.session.specs.Paper.{paperOutcome, paperRefusal, paperStepped, paperMark}
+use Rattle.session.specs.Paper.{paperRefusal, paperStepped, paperMark}
 use Rattle.session.specs.Session.{Sent, measured, sentBytes}
-use Rattle.session.specs.declared.ending.Outcome.{Outcome}
 use Rattle.session.specs.declared.session.Mark.{Mark}
 use Rattle.session.specs.declared.session.Refusal.{Refusal}
 use Rattle.session.specs.declared.session.Stepped.{Stepped}
@@ -33,26 +32,6 @@ refusal-back Refusal.Foreign = refl
 
 pub refusal-one : (x y : Refusal) → paperRefusal x ≡ paperRefusal y → x ≡ y
 refusal-one = back-one paperRefusal refusalBy refusal-back
-
--- the outcome of a number
-outcomeBy : ℕ → Outcome
-outcomeBy n =
-    pick (eqb n 0) Outcome.Valid
-    (pick (eqb n 40) Outcome.Silence
-    (pick (eqb n 41) Outcome.Bel
-    (pick (eqb n 42) Outcome.NoGreeting
-    Outcome.Other)))
-
-outcome-back : (x : Outcome) → outcomeBy (paperOutcome x) ≡ x
-unfolding outcomeBy
-outcome-back Outcome.Valid = refl
-outcome-back Outcome.Silence = refl
-outcome-back Outcome.Bel = refl
-outcome-back Outcome.NoGreeting = refl
-outcome-back Outcome.Other = refl
-
-pub outcome-one : (x y : Outcome) → paperOutcome x ≡ paperOutcome y → x ≡ y
-outcome-one = back-one paperOutcome outcomeBy outcome-back
 
 -- starting and stepping
 stepped-one : (r s : Stepped) → paperStepped r ≡ paperStepped s → r ≡ s

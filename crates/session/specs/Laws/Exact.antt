@@ -13,23 +13,23 @@ use Rattle.basis.specs.Laws.Choice.{decide, true-false}
 use Rattle.basis.specs.Laws.Refusals.{passed, given-one}
 use Rattle.basis.specs.Refusals.{given}
 use Rattle.basis.specs.Units.{mapBytes}
+use Rattle.basis.specs.declared.kind.RunKind.{RunKind}
+use Rattle.events.specs.Endings.{failing, endsAt, asked}
+use Rattle.events.specs.Laws.Endings.{outcome-one, ends-by, fails-ends}
+use Rattle.events.specs.Laws.Events.{ack-or, greeting-or}
+use Rattle.events.specs.declared.ending.Outcome.{Outcome}
+use Rattle.events.specs.declared.event.Event.{Event}
+use Rattle.order.specs.Laws.Steps.{stands-below, stands-at}
+use Rattle.order.specs.Plan.{total, beforeR}
 use Rattle.runs.specs.Pieces.{namedCount}
-use Rattle.session.specs.Endings.{failing, endsAt}
-use Rattle.session.specs.Laws.Determined.{outcome-one}
-use Rattle.session.specs.Laws.Endings.{ends-by, fails-ends}
-use Rattle.session.specs.Laws.Fits.{Fitting, fitting, fits-by, came-open, came-ended}
+use Rattle.session.specs.Laws.Fits.{Fitting, fitting, fits-by}
 use Rattle.session.specs.Laws.Marks.{marked-held, proved-is}
-use Rattle.session.specs.Laws.Phases.{greeted, stands-below, stands-at}
-use Rattle.session.specs.Laws.Series.{came, acks-state, acks-valid, event-taken, series-nil, series-ack, series-last, series-first, series-fails, first-fails, ack-or, greeting-or}
-use Rattle.session.specs.Laws.States.{stands-greeting, phase-open, phase-later, ack-next, greeting-state, waiting-fits, state-fits}
+use Rattle.session.specs.Laws.Series.{came, acks-state, acks-valid, event-taken, series-nil, series-ack, series-last, series-first, series-fails, first-fails}
+use Rattle.session.specs.Laws.States.{ack-next, greeting-state, waiting-fits, state-fits}
 use Rattle.session.specs.Laws.Steps.{step-taken}
-use Rattle.session.specs.Phases.{ended, phaseAt, asked}
-use Rattle.session.specs.Plan.{total, beforeR}
+use Rattle.session.specs.Phases.{ended, phaseAt}
 use Rattle.session.specs.Session.{sessionWith, atGreeting, stateAt, rightSizes, tookOf, sentOf, cameAt, fitsOf, stepOf, series, marked, provedOf, Came, waits, stands, fails, ends, Acknowledged, Shown}
-use Rattle.session.specs.declared.event.Event.{Event}
-use Rattle.session.specs.declared.ending.Outcome.{Outcome}
 use Rattle.session.specs.declared.phase.Phase.{Phase}
-use Rattle.session.specs.declared.phase.RunKind.{RunKind}
 use Rattle.session.specs.declared.session.Session.{Session}
 
 -- one series behind another
@@ -47,7 +47,7 @@ module _ (board : ℕ) (m : List ℕ) (long : length m ≡ mapBytes board) (some
       → fitsOf board m (sessionWith board m kind (Phase.Ended o) k) ≡ true
   ended-fits o k h =
       fits-by board m (sessionWith board m kind (Phase.Ended o) k)
-      (record { some = some; named-is = refl; total-is = refl; came-to = came-ended board m kind k o ∙ h })
+      (record { some = some; named-is = refl; total-is = refl; came-to = h })
 
   pub came-fits : (s : Session) → Came board m kind s → fitsOf board m s ≡ true
   came-fits s (waits e) = rw e (waiting-fits board m long some kind)
@@ -97,24 +97,15 @@ fits-came board m long s h = (f .some, go (s .phase) refl)
     came-in : (ph : Phase) → s .phase ≡ ph → cameAt board m (s .kind) ph k ≡ true
     came-in ph e = sym (ap (λ (x : Phase). cameAt board m (s .kind) x k) e) ∙ f .came-to
 
-    on : (ph : Phase) → s .phase ≡ ph → ended ph ≡ false → greeted ph ≡ true → Came board m (s .kind) s
-    on ph e o g =
-        let t = sym (came-open board m (s .kind) k ph o) ∙ came-in ph e in
-        stands k (stands-below board m long ph k t)
-        (counts (phaseAt board m k) k (e ∙ stands-at board m long ph k g t) refl)
-
     go : (ph : Phase) → s .phase ≡ ph → Came board m (s .kind) s
     go Phase.Greeting e =
-        waits (counts Phase.Greeting 0 e
-        (stands-greeting board m k
-        (sym (came-open board m (s .kind) k Phase.Greeting refl) ∙ came-in Phase.Greeting e)))
-    go (Phase.Erase p) e = on (Phase.Erase p) e refl refl
-    go (Phase.Write a) e = on (Phase.Write a) e refl refl
-    go (Phase.Verify a) e = on (Phase.Verify a) e refl refl
-    go Phase.Run e = on Phase.Run e refl refl
+        waits (counts Phase.Greeting 0 e (eqb-true k 0 (came-in Phase.Greeting e)))
+    go (Phase.Out x) e =
+        let t = came-in (Phase.Out x) e in
+        stands k (stands-below board m long x k t)
+        (counts (phaseAt board m k) k (e ∙ ap Phase.Out (stands-at board m long x k t)) refl)
     go (Phase.Ended o) e =
-        ends-by (asked (s .kind)) o (total board m) k
-        (sym (came-ended board m (s .kind) k o) ∙ came-in (Phase.Ended o) e)
+        ends-by (asked (s .kind)) o (total board m) k (came-in (Phase.Ended o) e)
         (λ p q. ends (counts (Phase.Ended Outcome.Valid) (total board m)
         (e ∙ ap Phase.Ended (outcome-one o Outcome.Valid p)) q))
         (λ l t. fails o k l t (counts (Phase.Ended o) k e refl))
@@ -132,7 +123,7 @@ module _ (board : ℕ) (m : List ℕ) (long : length m ≡ mapBytes board) (some
     (Event.Greeting ∷ replicate k Event.Ack) ++ (e ∷ []),
     sym (series-append board m (atGreeting board m kind) (Event.Greeting ∷ replicate k Event.Ack) (e ∷ [])
         ∙ ap (λ (s : Session). series board m s (e ∷ [])) (acks-state board m long some kind k l)
-        ∙ event-taken board m long some kind (stateAt board m kind k) e [] (phase-open board m k) q
+        ∙ event-taken board m long some kind (stateAt board m kind k) e [] refl q
         ∙ series-nil board m _),
   )
 
@@ -142,12 +133,12 @@ module _ (board : ℕ) (m : List ℕ) (long : length m ≡ mapBytes board) (some
   unfolding tookOf series
   failed-series Outcome.Valid k l f = absurd (true-false (sym f))
   failed-series Outcome.Silence k l f =
-      acks-then k Event.Silence Outcome.Silence l (rw (phase-later board m k, add-zero))
-  failed-series Outcome.Bel k l f = acks-then k Event.Bel Outcome.Bel l (rw (phase-later board m k, add-zero))
+      acks-then k Event.Silence Outcome.Silence l (rw add-zero)
+  failed-series Outcome.Bel k l f = acks-then k Event.Bel Outcome.Bel l (rw add-zero)
   failed-series Outcome.NoGreeting k l f =
       (Event.Other ∷ [], ap (sessionWith board m kind (Phase.Ended Outcome.NoGreeting)) (eqb-true k 0 f))
   failed-series Outcome.Other k l f =
-      acks-then k Event.Other Outcome.Other l (rw (phase-later board m k, add-zero))
+      acks-then k Event.Other Outcome.Other l (rw add-zero)
 
   came-series : (s : Session) → Came board m kind s
       → (es : List Event) × (s ≡ series board m (atGreeting board m kind) es)
@@ -216,7 +207,7 @@ module _ (board : ℕ) (m : List ℕ) (long : length m ≡ mapBytes board) (some
   cut-on (suc n) k (e ∷ es) j l a b =
       cut-event k e es j (omega arith) a b
       (λ t u. later (stateAt board m kind k) (stateAt board m kind (k + 1)) Event.Ack es j
-      (phase-open board m k)
+      refl
       (ack-next board m long some kind k (omega arith))
       (cut-on n (k + 1) es j (omega arith) (omega arith)
       (subst (λ (s : Session). j < s .acknowledged)
@@ -256,7 +247,7 @@ module _ (board : ℕ) (m : List ℕ) (long : length m ≡ mapBytes board) (some
         rest = c .1;
         piece = v .1;
         cut = c .2;
-        out = ap (λ (s : Session). s .phase) (c .3) ∙ v .3 .phase;
+        out = ap (λ (s : Session). s .phase) (c .3) ∙ ap Phase.Out (v .3 .step);
         from = v .3 .from;
         below = v .3 .below;
       }

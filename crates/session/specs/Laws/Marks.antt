@@ -12,21 +12,21 @@ use Rattle.basis.specs.Laws.Choice.{decide, both-true, both-second, both-false}
 use Rattle.basis.specs.Laws.Refusals.{skip, done}
 use Rattle.basis.specs.Refusals.{given}
 use Rattle.basis.specs.Units.{startOf, mapBytes}
+use Rattle.basis.specs.declared.kind.RunKind.{RunKind}
+use Rattle.order.specs.Laws.Plan.{plan-at}
+use Rattle.order.specs.Laws.Steps.{ranked-is, ranked-by, stands-below, stands-at, at-stands, stands-r}
+use Rattle.order.specs.Plan.{verifyPacket, plan, total, beforeR, beforeVerify}
+use Rattle.order.specs.Steps.{verifyAt, standsAt, packetOf}
+use Rattle.order.specs.declared.step.Step.{Step}
 use Rattle.runs.specs.Laws.Files.{bytes-past}
 use Rattle.runs.specs.Laws.Pieces.{piece-passes, in-piece, rank-in, rank-some, passes-below}
 use Rattle.runs.specs.Laws.Runs.{count-mono}
 use Rattle.runs.specs.Map.{named}
 use Rattle.runs.specs.Pieces.{pieceMost, pieceStarts, pieceLen}
 use Rattle.runs.specs.Runs.{count, home}
-use Rattle.session.specs.Laws.Fits.{fitting, came-open}
-use Rattle.session.specs.Laws.Phases.{ranked-is, ranked-by, stands-below, stands-at, at-stands}
-use Rattle.session.specs.Laws.Plan.{plan-at}
-use Rattle.session.specs.Laws.States.{stands-r}
-use Rattle.session.specs.Phases.{packetOut, verifyAt, standsAt}
-use Rattle.session.specs.Plan.{verifyPacket, plan, total, beforeR, beforeVerify}
+use Rattle.session.specs.Laws.Fits.{fitting}
 use Rattle.session.specs.Session.{cameAt, fitsOf, marked, provedOf, Held, markedFrom}
 use Rattle.session.specs.declared.phase.Phase.{Phase}
-use Rattle.session.specs.declared.phase.RunKind.{RunKind}
 use Rattle.session.specs.declared.session.Session.{Session}
 
 module _ (board : ℕ) (m : List ℕ) where
@@ -35,7 +35,7 @@ module _ (board : ℕ) (m : List ℕ) where
   unfolding marked standsAt
   held-marked j k s a h l =
       let t = ranked-is (pieceStarts m) (beforeVerify board m) s j
-      (sym (ap (λ (ph : Phase). standsAt board m ph j) (h .phase)) ∙ at-stands board m j (h .planned)) in
+      (sym (ap (λ (x : Step). standsAt board m x j) (h .step)) ∙ at-stands board m j (h .planned)) in
       let r : markedFrom board m a ≤ k = omega
       (arith, rank-in (named m) pieceMost s a (t .0) (h .from) (h .below)) in
       both-second _ _ (piece-passes (named m) pieceMost s a (h .from) (h .below)) ∙ le-leb _ _ r
@@ -68,7 +68,7 @@ module _ (board : ℕ) (m : List ℕ) (long : length m ≡ mapBytes board) where
         s,
         record {
           planned = stands-below board m long (verifyAt s) j h;
-          phase = sym (stands-at board m long (verifyAt s) j refl h);
+          step = sym (stands-at board m long (verifyAt s) j h);
           from = i .1;
           below = i .2;
         },
@@ -95,15 +95,14 @@ module _ (board : ℕ) (m : List ℕ) (long : length m ≡ mapBytes board) where
       (λ t. both-false _ _ t ∙ sym t)
 
   -- so R is out only when every named byte is marked
-  pub r-marked : (s : Session) (a : ℕ) → fitsOf board m s ≡ true → s .phase ≡ Phase.Run
+  pub r-marked : (s : Session) (a : ℕ) → fitsOf board m s ≡ true → s .phase ≡ Phase.Out Step.Run
       → marked board m (s .acknowledged) a ≡ named m a
   r-marked s a h e =
       all-marked (s .acknowledged) a
       (omega (
         arith,
         stands-r board m (s .acknowledged)
-            (sym (came-open board m (s .kind) (s .acknowledged) Phase.Run refl)
-            ∙ sym (ap (λ (ph : Phase). cameAt board m (s .kind) ph (s .acknowledged)) e)
+            (sym (ap (λ (ph : Phase). cameAt board m (s .kind) ph (s .acknowledged)) e)
             ∙ fitting board m s h .came-to),
       ))
 
@@ -119,7 +118,7 @@ module _ (board : ℕ) (m : List ℕ) (long : length m ≡ mapBytes board) where
         v .1,
         h .planned,
         plan-at board image m kind (v .0) d (h .planned)
-            ∙ ap (packetOut board image m kind) (h .phase),
+            ∙ ap (packetOf board image m kind) (h .step),
         h .from,
         h .below,
       )

@@ -11,17 +11,19 @@ use lib.ListN.{length, replicate}
 use Rattle.basis.specs.Choice.{pick}
 use Rattle.basis.specs.Laws.Choice.{decide, true-false}
 use Rattle.basis.specs.Units.{mapBytes}
+use Rattle.basis.specs.declared.kind.RunKind.{RunKind}
+use Rattle.events.specs.Endings.{failing}
+use Rattle.events.specs.Events.{isGreeting, isAck}
+use Rattle.events.specs.Laws.Events.{ack-or, greeting-or}
+use Rattle.events.specs.declared.ending.Awaited.{Awaited}
+use Rattle.events.specs.declared.ending.Outcome.{Outcome}
+use Rattle.events.specs.declared.event.Event.{Event}
+use Rattle.order.specs.Plan.{total, beforeR}
 use Rattle.runs.specs.Pieces.{namedCount}
-use Rattle.session.specs.Endings.{isGreeting, isAck, failing}
-use Rattle.session.specs.Laws.States.{phase-open, phase-later, greeting-state, ack-next, ack-last}
+use Rattle.session.specs.Laws.States.{greeting-state, ack-next, ack-last}
 use Rattle.session.specs.Phases.{ended, phaseAt, awaitsOf}
-use Rattle.session.specs.Plan.{total, beforeR}
 use Rattle.session.specs.Session.{sessionWith, atGreeting, stateAt, valid, heardBy, tookOf, series, Came, waits, stands, fails, ends}
-use Rattle.session.specs.declared.ending.Awaited.{Awaited}
-use Rattle.session.specs.declared.event.Event.{Event}
-use Rattle.session.specs.declared.ending.Outcome.{Outcome}
 use Rattle.session.specs.declared.phase.Phase.{Phase}
-use Rattle.session.specs.declared.phase.RunKind.{RunKind}
 use Rattle.session.specs.declared.session.Session.{Session}
 
 -- after the end nothing changes
@@ -58,29 +60,12 @@ module _ (board : ℕ) (m : List ℕ) (kind : RunKind) (s : Session) where
 -- ended valid
 abbrev pub isValid : Phase → Bool
 isValid Phase.Greeting = false
-isValid (Phase.Erase p) = false
-isValid (Phase.Write a) = false
-isValid (Phase.Verify a) = false
-isValid Phase.Run = false
+isValid (Phase.Out s) = false
 isValid (Phase.Ended Outcome.Valid) = true
 isValid (Phase.Ended Outcome.Silence) = false
 isValid (Phase.Ended Outcome.Bel) = false
 isValid (Phase.Ended Outcome.NoGreeting) = false
 isValid (Phase.Ended Outcome.Other) = false
-
-pub ack-or : {R : Type 0} (e : Event) → (e ≡ Event.Ack → R) → (isAck e ≡ false → R) → R
-ack-or Event.Greeting f g = g refl
-ack-or Event.Ack f g = f refl
-ack-or Event.Bel f g = g refl
-ack-or Event.Other f g = g refl
-ack-or Event.Silence f g = g refl
-
-pub greeting-or : {R : Type 0} (e : Event) → (e ≡ Event.Greeting → R) → (isGreeting e ≡ false → R) → R
-greeting-or Event.Greeting f g = f refl
-greeting-or Event.Ack f g = g refl
-greeting-or Event.Bel f g = g refl
-greeting-or Event.Other f g = g refl
-greeting-or Event.Silence f g = g refl
 
 pub series-nil : (board : ℕ) (m : List ℕ) (s : Session) → series board m s [] ≡ s
 unfolding series
@@ -88,10 +73,7 @@ series-nil board m s = refl
 
 open-valid : (ph : Phase) → ended ph ≡ false → isValid ph ≡ false
 open-valid Phase.Greeting h = refl
-open-valid (Phase.Erase p) h = refl
-open-valid (Phase.Write a) h = refl
-open-valid (Phase.Verify a) h = refl
-open-valid Phase.Run h = refl
+open-valid (Phase.Out s) h = refl
 open-valid (Phase.Ended o) h = absurd (true-false h)
 
 module _ (board : ℕ) (m : List ℕ) (long : length m ≡ mapBytes board) (some : 0 < namedCount board m)
@@ -103,11 +85,11 @@ module _ (board : ℕ) (m : List ℕ) (long : length m ≡ mapBytes board) (some
       → (o : Outcome) × (failing o k ≡ true)
       × (tookOf board m (stateAt board m kind k) e ≡ sessionWith board m kind (Phase.Ended o) k)
   unfolding tookOf
-  not-ack k Event.Greeting h l = (Outcome.Other, refl, rw (phase-later board m k, add-zero))
+  not-ack k Event.Greeting h l = (Outcome.Other, refl, rw add-zero)
   not-ack k Event.Ack h l = absurd (true-false h)
-  not-ack k Event.Bel h l = (Outcome.Bel, refl, rw (phase-later board m k, add-zero))
-  not-ack k Event.Other h l = (Outcome.Other, refl, rw (phase-later board m k, add-zero))
-  not-ack k Event.Silence h l = (Outcome.Silence, refl, rw (phase-later board m k, add-zero))
+  not-ack k Event.Bel h l = (Outcome.Bel, refl, rw add-zero)
+  not-ack k Event.Other h l = (Outcome.Other, refl, rw add-zero)
+  not-ack k Event.Silence h l = (Outcome.Silence, refl, rw add-zero)
 
   ack-came : (k : ℕ) → k < total board m
       → Came board m kind (tookOf board m (stateAt board m kind k) Event.Ack)
@@ -145,7 +127,7 @@ module _ (board : ℕ) (m : List ℕ) (long : length m ≡ mapBytes board) (some
   event-came : (s : Session) (e : Event) → Came board m kind s
       → Came board m kind (pick (ended (s .phase)) s (tookOf board m s e))
   event-came s e (waits q) = rw q (first-came e)
-  event-came s e (stands k l q) = rw (q, phase-open board m k) (state-came k e l)
+  event-came s e (stands k l q) = rw q (state-came k e l)
   event-came s e (fails o k l f q) = rw q (fails o k l f refl)
   event-came s e (ends q) = rw q (ends refl)
 
@@ -171,13 +153,13 @@ module _ (board : ℕ) (m : List ℕ) (long : length m ≡ mapBytes board) (some
       → series board m (stateAt board m kind k) (Event.Ack ∷ es)
       ≡ series board m (stateAt board m kind (k + 1)) es
   series-ack k es l =
-      event-taken (stateAt board m kind k) Event.Ack es (phase-open board m k)
+      event-taken (stateAt board m kind k) Event.Ack es refl
       (ack-next board m long some kind k l)
 
   pub series-last : (k : ℕ) (es : List Event) → k + 1 ≡ total board m
       → series board m (stateAt board m kind k) (Event.Ack ∷ es) ≡ valid board m kind
   series-last k es l =
-      event-taken (stateAt board m kind k) Event.Ack es (phase-open board m k)
+      event-taken (stateAt board m kind k) Event.Ack es refl
       (ack-last board m long some kind k l)
       ∙ series-ended board m (valid board m kind) es refl
 
@@ -188,7 +170,7 @@ module _ (board : ℕ) (m : List ℕ) (long : length m ≡ mapBytes board) (some
       let f = not-ack k e a l in (
         f .0,
         f .1,
-        event-taken (stateAt board m kind k) e es (phase-open board m k) (f .2)
+        event-taken (stateAt board m kind k) e es refl (f .2)
             ∙ series-ended board m (sessionWith board m kind (Phase.Ended (f .0)) k) es refl,
       )
 
@@ -285,7 +267,7 @@ module _ (board : ℕ) (m : List ℕ) (long : length m ≡ mapBytes board) (some
   not-yet : (k : ℕ) → isValid (series board m (stateAt board m kind k) [] .phase) ≡ false
   not-yet k =
       ap (λ (x : Session). isValid (x .phase)) (series-nil board m (stateAt board m kind k))
-      ∙ open-valid (phaseAt board m k) (phase-open board m k)
+      ∙ open-valid (phaseAt board m k) refl
 
   valid-on : (n k : ℕ) (es : List Event) → k + suc n ≡ total board m
       → isValid (series board m (stateAt board m kind k) es .phase) ≡ true

@@ -13,14 +13,14 @@ use Rattle.basis.specs.Laws.Refusals.{skip, stop, done, apart, given-one}
 use Rattle.basis.specs.Refusals.{refused, given}
 use Rattle.basis.specs.Laws.Units.{sizes-right as file-right}
 use Rattle.basis.specs.Units.{startOf, mapBytes, rightSizesIn}
+use Rattle.basis.specs.declared.kind.RunKind.{RunKind}
+use Rattle.events.specs.Endings.{goesOn}
+use Rattle.events.specs.declared.ending.Awaited.{Awaited}
+use Rattle.events.specs.declared.event.Event.{Event}
 use Rattle.packet.specs.Packet.{packetMost}
 use Rattle.runs.specs.Pieces.{namedCount}
-use Rattle.session.specs.Endings.{goesOn}
 use Rattle.session.specs.Phases.{ended}
 use Rattle.session.specs.Session.{atGreeting, measured, rightSizes, started, overOf, heardBy, sentOf, fitsOf, stepOf, Loadable}
-use Rattle.session.specs.declared.ending.Awaited.{Awaited}
-use Rattle.session.specs.declared.event.Event.{Event}
-use Rattle.session.specs.declared.phase.RunKind.{RunKind}
 use Rattle.session.specs.declared.session.Next.{Next}
 use Rattle.session.specs.declared.session.Session.{Session}
 

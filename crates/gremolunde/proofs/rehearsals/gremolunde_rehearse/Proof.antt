@@ -5,11 +5,11 @@ use mathlib.Core.List.{List}
 use mathlib.Core.Path.{_≡_, ap, sym, _∙_}
 use Rattle.basis.specs.Board.{pages}
 use Rattle.basis.specs.Refusals.{Answer}
+use Rattle.basis.specs.declared.kind.RunKind.{RunKind}
 use Rattle.line.specs.Line.{rehearseOf, loaded, leftFlash, Rehearses}
 use Rattle.line.specs.declared.exchange.Loss.{Loss}
 use Rattle.line.specs.declared.rehearse.Load.{Load}
 use Rattle.loader.specs.declared.state.Loader.{Loader}
-use Rattle.session.specs.declared.phase.RunKind.{RunKind}
 use Rattle.gremolunde.specs.Answers.{rehearsedAnswer}
 use Rattle.gremolunde.specs.declared.rehearsals.Rehearsal.{Rehearsal}
 use Rattle.gremolunde.specs.declared.states.LoaderState.{LoaderState}

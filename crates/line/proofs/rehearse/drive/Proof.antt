@@ -9,9 +9,9 @@ use lib.ListN.{length}
 use Rattle.basis.specs.Board.{pages}
 use Rattle.line.proofs.Driving.{len-fits, exchanged, not-past, done, again}
 use Rattle.line.specs.Line.{Moment, Lent, lossAt, momentAt, momentOn}
-use Rattle.session.specs.Laws.Totals.{total-most}
+use Rattle.order.specs.Laws.Totals.{total-most}
+use Rattle.order.specs.Plan.{total}
 use Rattle.session.specs.Phases.{ended}
-use Rattle.session.specs.Plan.{total}
 use Rattle.line.proofs.rehearse.drive.Statement.{statement}
 use Rattle.line.proofs.rehearse.drive.Tie as tie
 use Rattle.packet.specs.Packet.{packetMost}

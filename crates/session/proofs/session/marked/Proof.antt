@@ -6,7 +6,7 @@ use borrow.Author.Needs.{needs}
 use borrow.Author.Tests.{not-true, not-false}
 use Rattle.runs.specs.Map.{named}
 use Rattle.session.proofs.Marks.{mark-past, mark-unnamed, mark-ranked, rank-few}
-use Rattle.session.proofs.Surveys.{told}
+use Rattle.order.specs.Laws.Surveys.{told}
 use Rattle.session.proofs.session.marked.Statement.{statement}
 use Rattle.session.proofs.session.marked.Tie as tie
 
@@ -36,13 +36,13 @@ add-pieces c = let s = survey-at (c .before) in
           (c .before .one .ensures) (s .before .before .before .if1 .left),
     )
 
-add-result : tie.Need-add-result
-add-result c =
-    let s = survey-at (c .before .before) in
-    omega (arith, told (entry s .args .map .now) (entry s .args .address .0) (s .survey .ensures))
+before-verify-requires : tie.Need-before-verify-requires
+before-verify-requires c κs = let s = survey-at (c .before) in
+    let t = told (entry s .args .map .now) (entry s .args .address .0) (s .survey .ensures) in
+    (t .runs-few, t .pieces-few)
 
-add-result-2 : tie.Need-add-result-2
-add-result-2 c = let s = survey-at (c .before .before) in
+add-result : tie.Need-add-result
+add-result c = let s = survey-at (c .before .before) in
     let m = entry s .args .map .now in
     let a = entry s .args .address .0 in
     omega (
@@ -50,11 +50,13 @@ add-result-2 c = let s = survey-at (c .before .before) in
       told m a (s .survey .ensures),
       rank-few m a (s .survey .ensures) (c .before .before .one .ensures)
           (s .before .before .before .if1 .left),
+      c .before-verify .ensures,
     )
 
 returns-3 : tie.Need-returns-3
 returns-3 c = let s = survey-at (c .before .before) in
-    mark-ranked _ (entry s .pre) _ _ (s .survey .ensures) (c .before .before .one .ensures) (is-named s)
+    mark-ranked _ (entry s .pre) _ _ (s .survey .ensures) (c .before .before .one .ensures)
+    (c .before-verify .ensures) (is-named s)
 
 pub marked-spec : {M : Type 1} → statement M
 marked-spec =
@@ -66,6 +68,6 @@ marked-spec =
     (λ c κs. search needs)
     (λ c κs. search needs)
     add-pieces
+    before-verify-requires
     add-result
-    add-result-2
     returns-3)

@@ -1,13 +1,15 @@
--- `opening` meets its contract: the phase after the greeting is that of the first packet.
+-- `opening` meets its contract: the first step has the first packet.
+use mathlib.Core.Path.{ap}
 use borrow.Author.Needs.{needs}
 use Rattle.basis.specs.Board.{pages}
+use Rattle.order.specs.declared.cursor.Following.{Following}
 use Rattle.listing.specs.Laws.Plan.{listing-first}
 use Rattle.listing.proofs.plan.Listing.opening.Statement.{statement}
 use Rattle.listing.proofs.plan.Listing.opening.Tie as tie
 
 returns : tie.Need-returns
 returns c =
-    listing-first pages _ (c .before .before .pre .0) (c .before .before .pre .1) _ _ (c .after .ensures)
+    listing-first pages _ (c .before .before .pre .0) (c .before .before .pre .1) _ _ (ap Following.Step (c .first .ensures))
     (c .before .before .pre .2)
 
 pub opening-spec : {M : Type 1} → statement M

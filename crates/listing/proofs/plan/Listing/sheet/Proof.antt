@@ -1,17 +1,20 @@
 -- `sheet` meets its contract: what is left to write, from here, gives what was to be given.
 use Prim.Native.Nat.{_-_, ℕ, _+_, _≤_, _<_}
-use native.Mathlib.Omega.{arith}
-use lib.ListN.{length, drop, length-append}
-use Rattle.listing.specs.Plan.{Listed, resetPacketAt, listingAt, longestLine, Sheet, sheet, sheetOf}
 use mathlib.Core.List.{List, [], _++_}
 use mathlib.Core.Path.{_≡_, refl, sym, ap, _∙_}
+use native.Mathlib.Omega.{arith}
+use borrow.Author.Needs.{needs}
+use lib.ListN.{length, drop, length-append}
 use Rattle.basis.specs.Board.{pages}
-use Rattle.basis.specs.Lists.{overlay, stored, copyOf}
 use Rattle.basis.specs.Laws.Lists.{copy-overlay}
-use Rattle.session.specs.Plan.{plan}
-use Rattle.session.specs.declared.phase.RunKind.{RunKind}
+use Rattle.basis.specs.Lists.{overlay, stored, copyOf}
+use Rattle.basis.specs.declared.kind.RunKind.{RunKind}
+use Rattle.order.specs.Plan.{plan}
+use Rattle.order.specs.declared.cursor.Following.{Following}
+use Rattle.order.specs.declared.step.Step.{Step}
+use Rattle.listing.specs.Laws.Plan.{listed-more, listed-left, listed-end, next-listed, sheet-end, sheet-full, sheet-line}
 use Rattle.listing.specs.Lines.{stepLine}
-use Rattle.listing.specs.Laws.Plan.{listed-left, listed-end, next-listed, sheet-end, sheet-full, sheet-line}
+use Rattle.listing.specs.Plan.{Listed, resetPacketAt, listingAt, longestLine, Sheet, sheet, sheetOf}
 use Rattle.listing.specs.declared.plan.Listing.{Listing}
 use Rattle.listing.proofs.Buffers.{copy-then}
 use Rattle.listing.proofs.plan.Listing.sheet.Statement.{statement}
@@ -59,13 +62,13 @@ module _ (image m old : List ℕ) (g : Sheet) (l : Listing) (h : Listed pages im
       ended (sheet-full (length buffer - at) (l .listed)
       (drop (l .listed) (plan pages image m RunKind.Reset)) s)
 
-  writing-end : l .total ≤ l .listed
+  writing-end : l .next ≡ Following.End
       → (l ≡ listingAt pages m (g .listed)) × (at ≡ length (g .text)) × (buffer ≡ overlay (g .text) old)
   writing-end s =
       ended (ap (sheetOf (length buffer - at) (l .listed)) (listed-end pages image m l h s)
       ∙ sheet-end (length buffer - at) (l .listed))
 
-  module _ (more : l .listed < l .total) (room : longestLine ≤ length buffer - at) where
+  module _ (s : Step) (next-is : l .next ≡ Following.Step s) (room : longestLine ≤ length buffer - at) where
     abbrev line : List ℕ
     line = stepLine (l .listed + 1) (resetPacketAt pages image m (l .listed))
 
@@ -78,6 +81,7 @@ module _ (image m old : List ℕ) (g : Sheet) (l : Listing) (h : Listed pages im
           ap (λ (y : Listing). y .listed) e,
           ap (λ (y : Listing). y .total) e,
           ap (λ (y : Listing). y .total) (h .stands),
+          listed-more pages image m l h s next-is,
         )
 
     -- one line more
@@ -90,12 +94,12 @@ module _ (image m old : List ℕ) (g : Sheet) (l : Listing) (h : Listed pages im
         let rest : Sheet = sheetOf (length buffer - at - length line) (l .listed + 1)
         (drop (l .listed + 1) (plan pages image m RunKind.Reset)) in
         let q : left image m (length buffer - at) l ≡ sheet (line ++ rest .text) (rest .listed) =
-        ap (sheetOf (length buffer - at) (l .listed)) (listed-left pages image m l h more)
+        ap (sheetOf (length buffer - at) (l .listed)) (listed-left pages image m l h s next-is)
         ∙ sheet-line (length buffer - at) (l .listed) (resetPacketAt pages image m (l .listed))
         (drop (l .listed + 1) (plan pages image m RunKind.Reset)) room in
         let r : length b - e ≡ length buffer - at - length line = omega (arith, f .0) in
         let y : left image m (length b - e) x ≡ rest = rw (n, r) in (
-          next-listed pages image m l h more x ex,
+          next-listed pages image m l h s next-is x ex,
           rw y (record {
             same = same ∙ w .same;
             inside = omega (arith, f .0, f .2);
@@ -130,49 +134,54 @@ loop-holds c =
     let a = c .before .before .before .args in
     (c .before .before .before .pre, writing-start (a .image .now) (a .map .now) (a .buffer .now) (a .self))
 
-sub-if2 : tie.Need-sub-if2 Inv-loop μ-loop
-sub-if2 c = omega (arith, c .before .before .loop .inv .1 .inside)
+-- the turn of the loop, as the places behind its tests and its line see it
+abbrev turn : tie.After-known-told Inv-loop μ-loop → tie.At-loop Inv-loop μ-loop
+turn c = c .before .before .before
+
+abbrev line-at : tie.After-listing Inv-loop μ-loop → tie.After-line Inv-loop μ-loop
+line-at c = c .before .before .before
+
+abbrev room-at : tie.After-line Inv-loop μ-loop → tie.Else1 Inv-loop μ-loop
+room-at c = c .before .before
 
 same-length : tie.Need-same-length Inv-loop μ-loop
-same-length c = omega (arith, c .before .before .before .loop .inv .1 .same)
+same-length c = omega (arith, c .before .before .loop .inv .1 .same)
 
 returns : tie.Need-returns Inv-loop μ-loop
 returns c =
-    writing-full _ _ _ _ _ (c .before .before .before .loop .inv .0) _ _
-    (c .before .before .before .loop .inv .1) (c .if2 .taken)
+    let w = c .before .before .loop .inv in writing-end _ _ _ _ _ (w .0) _ _ (w .1) (c .enum-told .given .1)
 
-line-requires : tie.Need-line-requires Inv-loop μ-loop
-line-requires c κs = (
-  c .before .before .before .before .loop .inv .0,
-  c .before .before .if1 .taken,
-  omega (arith, c .before .if2 .left),
-)
-
-loop-less : tie.Need-loop-less Inv-loop μ-loop
-loop-less c =
-    writing-falls _ _ _ _ _
-    (c .before .before .before .before .before .before .before .before .loop .inv .0) _ _
-    (c .before .before .before .before .before .before .before .before .loop .inv .1)
-    (c .before .before .before .before .before .before .if1 .taken)
-    (c .before .before .before .before .before .if2 .left) _ (c .before .before .before .line .ensures .0)
-
-loop-again : tie.Need-loop-again Inv-loop μ-loop
-loop-again c =
-    let f = c .before .before .before .line .ensures in
-    writing-next _ _ _ _ _
-    (c .before .before .before .before .before .before .before .before .loop .inv .0) _ _
-    (c .before .before .before .before .before .before .before .before .loop .inv .1)
-    (c .before .before .before .before .before .before .if1 .taken)
-    (c .before .before .before .before .before .if2 .left) _ _ _ (f .0)
-    (c .before .before .before .line .kept .1 .1 .1 .0) (f .1, f .2, f .3)
+sub-if1 : tie.Need-sub-if1 Inv-loop μ-loop
+sub-if1 c = omega (arith, turn c .loop .inv .1 .inside)
 
 same-length-2 : tie.Need-same-length-2 Inv-loop μ-loop
-same-length-2 c = omega (arith, c .before .before .loop .inv .1 .same)
+same-length-2 c = omega (arith, turn (c .before) .loop .inv .1 .same)
 
 returns-2 : tie.Need-returns-2 Inv-loop μ-loop
 returns-2 c =
-    writing-end _ _ _ _ _ (c .before .before .loop .inv .0) _ _ (c .before .before .loop .inv .1)
-    (c .if1 .left)
+    let w = turn (c .before) .loop .inv in writing-full _ _ _ _ _ (w .0) _ _ (w .1) (c .if1 .taken)
+
+line-requires : tie.Need-line-requires Inv-loop μ-loop
+line-requires c κs = (
+  turn (c .before .before) .loop .inv .0,
+  c .before .before .before .next .given .1,
+  omega (arith, c .before .if1 .left),
+)
+
+loop-less : tie.Need-loop-less Inv-loop μ-loop
+loop-less c = let l = line-at c in
+    let r = room-at l in
+    let w = turn (r .before) .loop .inv in
+    writing-falls _ _ _ _ _ (w .0) _ _ (w .1) _ (r .before .before .next .given .1) (r .if1 .left) _
+    (l .line .ensures .0)
+
+loop-again : tie.Need-loop-again Inv-loop μ-loop
+loop-again c = let l = line-at c in
+    let r = room-at l in
+    let w = turn (r .before) .loop .inv in
+    let f = l .line .ensures in
+    writing-next _ _ _ _ _ (w .0) _ _ (w .1) _ (r .before .before .next .given .1) (r .if1 .left) _ _ _ (f .0)
+    (l .line .kept .1 .1 .1 .1 .0) (f .1, f .2, f .3)
 
 pub sheet-spec : {M : Type 1} → statement M
 sheet-spec =
@@ -181,11 +190,13 @@ sheet-spec =
     Inv-loop
     μ-loop
     loop-holds
-    sub-if2
+    (λ c. search needs)
+    (λ c. search needs)
     same-length
     returns
+    sub-if1
+    same-length-2
+    returns-2
     line-requires
     loop-less
-    loop-again
-    same-length-2
-    returns-2)
+    loop-again)

@@ -1,10 +1,10 @@
 -- `ends` meets its contract: the ending is held against the one that was asked for.
 use mathlib.Core.Path.{ap, _∙_}
 use borrow.Author.Needs.{needs}
-use Rattle.session.specs.Endings.{endsAt}
-use Rattle.session.specs.declared.ending.Outcome.{Outcome}
 use Rattle.session.proofs.session.Session.ends.Statement.{statement}
 use Rattle.session.proofs.session.Session.ends.Tie as tie
+use Rattle.events.specs.Endings.{endsAt}
+use Rattle.events.specs.declared.ending.Outcome.{Outcome}
 
 returns : tie.Need-returns
 returns c =

@@ -4,11 +4,11 @@ use mathlib.Core.List.{List, [], _∷_}
 use mathlib.Core.Path.{ap, sym, _∙_}
 use borrow.Author.Needs.{needs}
 use Rattle.basis.specs.Board.{pages}
-use Rattle.session.specs.Laws.Series.{greeting-or}
+use Rattle.events.specs.Laws.Events.{greeting-or}
+use Rattle.events.specs.declared.ending.Awaited.{Awaited}
+use Rattle.events.specs.declared.event.Event.{Event}
 use Rattle.session.specs.Laws.Steps.{heard-over}
 use Rattle.session.specs.Session.{movedOf, heardBy}
-use Rattle.session.specs.declared.ending.Awaited.{Awaited}
-use Rattle.session.specs.declared.event.Event.{Event}
 use Rattle.session.specs.declared.phase.Phase.{Phase}
 use Rattle.session.proofs.Events.{another}
 use Rattle.session.proofs.session.Session.greeted.Statement.{statement}

@@ -1,8 +1,8 @@
 -- `over` meets its contract: the session moves to the event's ending.
 use mathlib.Core.Path.{ap, _∙_}
 use borrow.Author.Needs.{needs}
+use Rattle.events.specs.declared.ending.Outcome.{Outcome}
 use Rattle.session.specs.Session.{movedOf}
-use Rattle.session.specs.declared.ending.Outcome.{Outcome}
 use Rattle.session.specs.declared.phase.Phase.{Phase}
 use Rattle.session.proofs.session.Session.over.Statement.{statement}
 use Rattle.session.proofs.session.Session.over.Tie as tie

@@ -5,9 +5,9 @@ use borrow.Author.Needs.{needs}
 use lib.ListN.{length}
 use Rattle.basis.specs.Board.{pages}
 use Rattle.basis.specs.Lists.{overlay}
+use Rattle.order.specs.Laws.Totals.{total-most}
 use Rattle.session.specs.Laws.Fits.{fitting, came-most, came-start, took-start}
-use Rattle.session.specs.Laws.Totals.{total-most}
-use Rattle.session.specs.Phases.{atStart, packetOut}
+use Rattle.session.specs.Phases.{packetOut, onStart}
 use Rattle.session.specs.declared.session.Session.{Session}
 use Rattle.session.proofs.session.Session.sent.Statement.{statement}
 use Rattle.session.proofs.session.Session.sent.Tie as tie
@@ -32,13 +32,14 @@ send-requires c κs = let s = c .before .before .before .before .before in
       s .pre .0,
       s .pre .1,
       s .pre .2,
-      ap (λ (x : Session). atStart pages m (x .phase)) (c .before .took .ensures)
+      ap (λ (x : Session). onStart pages m (x .phase)) (c .before .took .ensures)
           ∙ took-start pages m (s .pre .1) (s .args .self) (s .args .event) (s .pre .3),
     )
 
 returns : tie.Need-returns
-returns c = let s = c .before .before .before .before .before .before .before .before .args in
-    let e = c .before .before .before .before .took .ensures in (
+returns c = let heard = c .before .before .before .before in
+    let s = heard .before .before .before .before .args in
+    let e = heard .took .ensures in (
       e,
       c .before .before .send .ensures .0
           ∙ ap (λ (x : Session). length

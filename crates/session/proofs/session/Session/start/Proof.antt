@@ -9,16 +9,16 @@ use borrow.Author.Tests.{not-true, not-false}
 use lib.ListN.{length}
 use lib.Seq.{set-split}
 use Rattle.basis.specs.Board.{flashSize, mapSize, openingByte, pages}
+use Rattle.basis.specs.declared.kind.RunKind.{RunKind}
+use Rattle.order.specs.Plan.{total}
 use Rattle.packet.specs.Packet.{packetMost}
 use Rattle.runs.specs.Survey.{surveyOf}
 use Rattle.runs.specs.declared.survey.Surveyed.{Surveyed}
 use Rattle.session.specs.Laws.Steps.{start-size, start-empty, start-given, sizes-right}
-use Rattle.session.specs.Plan.{total}
 use Rattle.session.specs.Session.{atGreeting, rightSizes}
 use Rattle.session.specs.declared.phase.Phase.{Phase}
-use Rattle.session.specs.declared.phase.RunKind.{RunKind}
 use Rattle.session.proofs.Handing.{left-alone, handed}
-use Rattle.session.proofs.Surveys.{told, Told}
+use Rattle.order.specs.Laws.Surveys.{told, Told}
 use Rattle.session.proofs.session.Session.start.Statement.{statement}
 use Rattle.session.proofs.session.Session.start.Tie as tie
 

@@ -57,21 +57,20 @@ returns-3 c =
     (sym (c .before .fits2 .ensures) ∙ not-true _ (c .if3 .taken)))
 
 sent-requires : tie.Need-sent-requires
-sent-requires c κs =
-    let z = right (c .before .before .before .before .before .before) in
-    (z .0, z .1, z .2, fitted (c .before .before))
+sent-requires c κs = let fits = c .before .before in
+    let z = right (fits .before .before .before .before) in (z .0, z .1, z .2, fitted fits)
 
 returns-4 : tie.Need-returns-4
-returns-4 c =
-    let a = entry (c .before .before .before .before .before .before .before .before .before) .args in
+returns-4 c = let heard = c .before .before .before .before in
+    let fits = heard .before in
+    let goes-on = fits .before .before in
+    let sizes = goes-on .before .before in
+    let a = entry sizes .args in
     let t = c .before .before .sent .ensures in
     handed _ _ _
     (sym (ap (stepOf pages (a .image .now) (a .map .now) (length (a .buffer .now)) (a .self))
-    (c .before .before .before .before .classify .ensures))
-    ∙ step-taken pages _ _ _ _ _
-    (sized (c .before .before .before .before .before .before .before .before .before))
-    (going (c .before .before .before .before .before .before .before))
-    (fitted (c .before .before .before .before .before)))
+    (heard .classify .ensures))
+    ∙ step-taken pages _ _ _ _ _ (sized sizes) (going goes-on) (fitted fits))
     (t .0) (t .1) (t .2)
 
 pub step-spec : {M : Type 1} → statement M

@@ -2,8 +2,8 @@
 use mathlib.Core.Path.{ap, sym, _∙_}
 use borrow.Author.Needs.{needs}
 use Rattle.basis.specs.Board.{pages}
+use Rattle.events.specs.declared.ending.Awaited.{Awaited}
 use Rattle.session.specs.Session.{heardBy, tookOf}
-use Rattle.session.specs.declared.ending.Awaited.{Awaited}
 use Rattle.session.proofs.session.Session.took.Statement.{statement}
 use Rattle.session.proofs.session.Session.took.Tie as tie
 

@@ -1,0 +1,5 @@
+// What the board does after the last packet.
+pub enum RunKind {
+    Reset,
+    Jump,
+}

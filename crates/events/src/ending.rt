@@ -1,0 +1,92 @@
+// How a session goes on and how it ends: any event but the one that it awaits is an end.
+ghost use mathlib.Core.Path.{_≡_};
+ghost use Rattle.events.specs.Endings.{paperOutcome, asked, endingOf, failing, endsAt};
+use crate::event::Event;
+use basis::kind::RunKind;
+
+// The event that goes on: the greeting, or an acknowledgement.
+pub enum Awaited {
+    Greeting,
+    Ack,
+}
+
+pub enum Outcome {
+    Valid,
+    Silence,
+    Bel,
+    NoGreeting,
+    Other,
+}
+
+// The ending that an event brings. It is never called with the one awaited, which goes on.
+pub fn ending(awaited: Awaited, event: Event) -> Outcome
+    ensures { λ r. ⌜ r ≡ endingOf awaited event ⌝ }
+{
+    match awaited {
+        Awaited::Greeting => match event {
+            Event::Greeting => Outcome::NoGreeting,
+            Event::Ack => Outcome::NoGreeting,
+            Event::Bel => Outcome::NoGreeting,
+            Event::Other => Outcome::NoGreeting,
+            Event::Silence => Outcome::Silence,
+        },
+        Awaited::Ack => match event {
+            Event::Greeting => Outcome::Other,
+            Event::Ack => Outcome::Other,
+            Event::Bel => Outcome::Bel,
+            Event::Other => Outcome::Other,
+            Event::Silence => Outcome::Silence,
+        },
+    }
+}
+
+impl Outcome {
+    // The ending that was asked for.
+    pub fn asked(kind: RunKind) -> Outcome
+        ensures { λ r. ⌜ r ≡ asked kind ⌝ }
+    {
+        match kind {
+            RunKind::Reset => Outcome::Valid,
+            RunKind::Jump => Outcome::Valid,
+        }
+    }
+
+    // As the service log says it.
+    pub fn number(self) -> u8
+        ensures { λ r. ⌜ r ≡ paperOutcome self ⌝ }
+    {
+        match self {
+            Outcome::Valid => 0,
+            Outcome::Silence => 40,
+            Outcome::Bel => 41,
+            Outcome::NoGreeting => 42,
+            Outcome::Other => 43,
+        }
+    }
+
+    // Whether events lead to this ending with `k` of `total` packets acknowledged.
+    pub fn follows(self, asked: Outcome, total: u32, k: u32) -> bool
+        ensures { λ r. ⌜ r ≡ endsAt asked total self k ⌝ }
+    {
+        if self.number() == asked.number() {
+            return k == total;
+        }
+        if total <= k {
+            return false;
+        }
+        self.fails(k)
+    }
+
+    // No greeting is an ending only before the first packet.
+    fn fails(self, k: u32) -> bool
+        ensures { λ r. ⌜ r ≡ failing self k ⌝ }
+    {
+        match self {
+            Outcome::Valid => false,
+            Outcome::Silence => true,
+            Outcome::Bel => true,
+            Outcome::NoGreeting => k == 0,
+            Outcome::Other => true,
+        }
+    }
+}

@@ -1,0 +1,70 @@
+-- `follow` meets its contract, step by step; a step at a start stands on the board.
+use mathlib.Core.Path.{sym, ap, _∙_}
+use borrow.Author.Needs.{needs}
+use Rattle.basis.specs.Board.{pages}
+use Rattle.order.specs.Laws.Starts.{run-below, piece-below}
+use Rattle.order.specs.Steps.{atStart, followOf}
+use Rattle.order.proofs.cursor.follow.Statement.{statement}
+use Rattle.order.proofs.cursor.follow.Tie as tie
+
+after-erase-requires : tie.Need-after-erase-requires
+after-erase-requires c κs =
+    let s = c .before .before .before .before in (
+      s .pre .0,
+      run-below pages (s .args .map .now) (s .pre .0) _
+          (sym (ap (atStart pages (s .args .map .now)) (c .before .step .given .1)) ∙ s .pre .1),
+    )
+
+after-write-requires : tie.Need-after-write-requires
+after-write-requires c κs =
+    let s = c .before .before .before .before in (
+      s .pre .0,
+      piece-below pages (s .args .map .now) (s .pre .0) _
+          (sym (ap (atStart pages (s .args .map .now)) (c .before .step2 .given .1)) ∙ s .pre .1),
+    )
+
+after-verify-requires : tie.Need-after-verify-requires
+after-verify-requires c κs =
+    let s = c .before .before .before .before in (
+      s .pre .0,
+      piece-below pages (s .args .map .now) (s .pre .0) _
+          (sym (ap (atStart pages (s .args .map .now)) (c .before .step3 .given .1)) ∙ s .pre .1),
+    )
+
+returns : tie.Need-returns
+returns c =
+    c .after-erase .ensures
+    ∙ sym (ap (followOf pages (c .before .before .before .before .before .args .map .now))
+    (c .before .before .step .given .1))
+
+returns-2 : tie.Need-returns-2
+returns-2 c =
+    c .after-write .ensures
+    ∙ sym (ap (followOf pages (c .before .before .before .before .before .args .map .now))
+    (c .before .before .step2 .given .1))
+
+returns-3 : tie.Need-returns-3
+returns-3 c =
+    c .after-verify .ensures
+    ∙ sym (ap (followOf pages (c .before .before .before .before .before .args .map .now))
+    (c .before .before .step3 .given .1))
+
+returns-4 : tie.Need-returns-4
+unfolding followOf
+returns-4 c = sym (ap (followOf pages (c .before .before .before .args .map .now)) (c .enum-told .given .1))
+
+pub follow-spec : {M : Type 1} → statement M
+follow-spec =
+    tie.close
+    (tie.spec
+    (λ c. search needs)
+    after-erase-requires
+    (λ c. search needs)
+    after-write-requires
+    (λ c. search needs)
+    after-verify-requires
+    (λ c. search needs)
+    returns
+    returns-2
+    returns-3
+    returns-4)

@@ -1,0 +1,73 @@
+-- `send` meets its contract, step by step.
+use mathlib.Core.Path.{refl, sym, ap, _∙_}
+use borrow.Author.Needs.{needs}
+use Rattle.basis.specs.Board.{pages}
+use Rattle.order.specs.Steps.{atStart}
+use Rattle.order.proofs.sending.send.Statement.{statement}
+use Rattle.order.proofs.sending.send.Tie as tie
+
+send-erase-requires : tie.Need-send-erase-requires
+send-erase-requires c κs = let here = c .before .before in
+    let s = here .before .before .before .before .before in (
+      s .pre .1,
+      s .pre .2,
+      sym (ap (atStart pages (s .args .map .now)) (here .step .given .1))
+          ∙ s .pre .3,
+    )
+
+send-piece-requires : tie.Need-send-piece-requires
+send-piece-requires c κs = let here = c .before .before in
+    let s = here .before .before .before .before .before in (
+      s .pre .0,
+      s .pre .1,
+      s .pre .2,
+      refl,
+      sym (ap (atStart pages (s .args .map .now)) (here .step2 .given .1)) ∙ s .pre .3,
+    )
+
+send-piece-requires-2 : tie.Need-send-piece-requires-2
+send-piece-requires-2 c κs = let here = c .before .before in
+    let s = here .before .before .before .before .before in (
+      s .pre .0,
+      s .pre .1,
+      s .pre .2,
+      refl,
+      sym (ap (atStart pages (s .args .map .now)) (here .step3 .given .1)) ∙ s .pre .3,
+    )
+
+returns : tie.Need-returns
+returns c =
+    rw (c .before .before .before .before .before .step .given .1) (c .before .before .send-erase .ensures)
+
+returns-2 : tie.Need-returns-2
+returns-2 c =
+    rw (c .before .before .before .before .before .step2 .given .1) (c .before .before .send-piece .ensures)
+
+returns-3 : tie.Need-returns-3
+returns-3 c =
+    rw (c .before .before .before .before .before .step3 .given .1) (c .before .before .send-piece2 .ensures)
+
+returns-4 : tie.Need-returns-4
+returns-4 c =
+    rw (c .before .before .before .before .enum-told .given .1) (c .before .before .send-run .ensures)
+
+pub send-spec : {M : Type 1} → statement M
+send-spec =
+    tie.close
+    (tie.spec
+    (λ c. search needs)
+    send-erase-requires
+    (λ c. search needs)
+    send-piece-requires
+    (λ c. search needs)
+    send-piece-requires-2
+    (λ c. search needs)
+    (λ c κs. search needs)
+    (λ c. search needs)
+    returns
+    (λ c. search needs)
+    returns-2
+    (λ c. search needs)
+    returns-3
+    (λ c. search needs)
+    returns-4)

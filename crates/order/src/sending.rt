@@ -1,0 +1,112 @@
+// The packet of a step, built into the caller's buffer.
+ghost use mathlib.Core.Path.{_≡_};
+ghost use mathlib.Core.Bool.{true};
+ghost use Prim.Native.Nat.{_+_, _≤_};
+ghost use lib.ListN.{length, getD};
+ghost use Rattle.basis.specs.Board.{flashSize, mapSize, pages};
+ghost use Rattle.basis.specs.Lists.{overlay};
+ghost use Rattle.packet.specs.Packet.{packet, packetMost};
+ghost use Rattle.packet.specs.Table.{listed, inShape};
+ghost use Rattle.runs.specs.Pieces.{pieceStarts, runStarts};
+ghost use Rattle.order.specs.Steps.{atStart, packetOf};
+ghost use Rattle.order.specs.Plan.{carriesPiece, pieceBytes, runAddress, erasePacket, runPacket};
+use crate::step::Step;
+use basis::board::PAGES;
+use basis::kind::RunKind;
+use basis::units::Address;
+use basis::units::Page;
+use packet::build::Built;
+use packet::build::build;
+use packet::table::ERASE;
+use packet::table::RUN;
+use packet::table::VERIFY;
+use packet::table::WRITE;
+use runs::pages::page_row_len;
+use runs::places::PIECE;
+use runs::places::row_len;
+
+// Gives the packet's length.
+pub fn send(image: &[u8], map: &[u8], kind: RunKind, step: Step, buffer: &mut [u8]) -> usize
+    requires { ⌜
+        (length (now image) ≡ flashSize) × (length (now map) ≡ mapSize) × (packetMost ≤ length (now buffer))
+        × (atStart pages (now map) step ≡ true)
+        ⌝ }
+    ensures { λ r. ⌜
+        (let p = packetOf pages (now (image .entry)) (now (map .entry)) kind step in
+        (r ≡ length p) × (now (buffer .exit) ≡ overlay p (now (buffer .entry))))
+        ⌝ }
+{
+    match step {
+        Step::Erase(page) => send_erase(map, page, buffer),
+        Step::Write(address) => send_piece(image, map, WRITE, address, buffer),
+        Step::Verify(address) => send_piece(image, map, VERIFY, address, buffer),
+        Step::Run => send_run(kind, buffer),
+    }
+}
+
+fn send_erase(map: &[u8], page: Page, buffer: &mut [u8]) -> usize
+    requires { ⌜
+        (length (now map) ≡ mapSize) × (packetMost ≤ length (now buffer))
+        × (runStarts pages (now map) (page .0) ≡ true)
+        ⌝ }
+    ensures { λ r. ⌜
+        (let p = erasePacket pages (now (map .entry)) (page .0) in
+        (r ≡ length p) × (now (buffer .exit) ≡ overlay p (now (buffer .entry))))
+        ⌝ }
+{
+    let count = [page_row_len(map, page, PAGES) as u8];
+    put(buffer, ERASE, page.start(), &count)
+}
+
+// W or V.
+fn send_piece(image: &[u8], map: &[u8], command: u8, address: Address, buffer: &mut [u8]) -> usize
+    requires { ⌜
+        (length (now image) ≡ flashSize) × (length (now map) ≡ mapSize) × (packetMost ≤ length (now buffer))
+        × (carriesPiece command ≡ true) × (pieceStarts (now map) (address .0) ≡ true)
+        ⌝ }
+    ensures { λ r. ⌜
+        (let d = pieceBytes (now (image .entry)) (now (map .entry)) (address .0) in
+        let p = packet command (address .0) d in
+        (r ≡ length p) × (now (buffer .exit) ≡ overlay p (now (buffer .entry))))
+        ⌝ }
+{
+    let from = address.0 as usize;
+    let end = from + row_len(map, address, PIECE) as usize;
+    put(buffer, command, address, &image[from..end])
+}
+
+fn send_run(kind: RunKind, buffer: &mut [u8]) -> usize
+    requires { ⌜ packetMost ≤ length (now buffer) ⌝ }
+    ensures { λ r. ⌜
+        (r ≡ length (runPacket kind)) × (now (buffer .exit) ≡ overlay (runPacket kind) (now (buffer .entry)))
+        ⌝ }
+{
+    put(buffer, RUN, run_address(kind), b"")
+}
+
+fn run_address(kind: RunKind) -> Address
+    ensures { λ r. ⌜ r .0 ≡ runAddress kind ⌝ }
+{
+    match kind {
+        RunKind::Reset => Address(1),
+        RunKind::Jump => Address(0),
+    }
+}
+
+// A packet that stands in the table, into a buffer that has room for any.
+fn put(buffer: &mut [u8], command: u8, address: Address, plain: &[u8]) -> usize
+    requires { ⌜
+        (packetMost ≤ length (now buffer)) × (listed command ≡ true)
+        × (inShape command (length (now plain) + 5) (getD (now plain) 0 0) ≡ true)
+        ⌝ }
+    ensures { λ r. ⌜
+        (let p = packet command (address .0) (now (plain .entry)) in
+        (r ≡ length p) × (now (buffer .exit) ≡ overlay p (now (buffer .entry))))
+        ⌝ }
+{
+    match build(buffer, command, address, plain) {
+        Built::Packet(len) => len,
+        Built::NoRoom => 0,
+        Built::Refused(_) => 0,
+    }
+}
