@@ -276,23 +276,25 @@ static unsigned lent;
 #define BIT(part) (1u << (part))
 #define LENT(part) parts[part].bytes, parts[part].length
 
-/* The bytes that the line in hand brings. */
+/* The bytes that the line in hand brings, and where such bytes are lent from. */
 static uint8_t brought[CAPACITY];
+static part brought_to;
 
-static void bring(size_t length) {
-    parts[INPUT] = part_at(INPUT, 0, length);
+static int bring(size_t length) {
+    size_t place = place_of(brought_to);
+    if (length > CAPACITY - place) {
+        return 0;
+    }
+    parts[INPUT] = part_at(brought_to.buffer, place, length);
     if (length == 0) {
         parts[INPUT].bytes = NULL;
     }
+    return 1;
 }
 
 static int bring_bytes(word w) {
     size_t length;
-    if (!bytes_of(w, CAPACITY, brought, &length)) {
-        return 0;
-    }
-    bring(length);
-    return 1;
+    return bytes_of(w, CAPACITY, brought, &length) && bring(length);
 }
 
 static int bring_text(word w) {
@@ -300,8 +302,7 @@ static int bring_text(word w) {
         return 0;
     }
     memcpy(brought, w.at, w.length);
-    bring(w.length);
-    return 1;
+    return bring(w.length);
 }
 
 static int overlap(part a, part b) {
@@ -482,12 +483,22 @@ static int keep(const word *words, int of, void *kept, size_t size) {
 
 /* Requests: what is kept. */
 
+static int lend_input(const word *words) {
+    part next;
+    if (words[1].at == NULL || words[2].at != NULL || !part_of(words[0], words[1], 0, &next)) {
+        return 0;
+    }
+    brought_to = next;
+    give_number(0);
+    return 1;
+}
+
 static int ask_lend(const word *words) {
     int p = name_of(words[0], buffers, INPUT);
     uint64_t length;
     part next;
     if (p < 0) {
-        return 0;
+        return is(words[0], buffers[INPUT]) && lend_input(words + 1);
     }
     next = part_at(p, 0, 0);
     if (words[2].at != NULL) {
@@ -686,10 +697,14 @@ static int ask_hex(const word *words) {
            give_reader(gremolunde_hex_start(LENT(IMAGE), LENT(MAP)), (gremolunde_hex){0});
 }
 
-static int ask_record(const word *words) {
-    return bring_text(words[0]) && lend(BIT(INPUT), BIT(IMAGE) | BIT(MAP)) &&
+static int take_record(void) {
+    return lend(BIT(INPUT), BIT(IMAGE) | BIT(MAP)) &&
            give_reader(gremolunde_hex_record(reader, LENT(INPUT), LENT(IMAGE), LENT(MAP)), reader);
 }
+
+static int ask_record(const word *words) { return bring_text(words[0]) && take_record(); }
+
+static int ask_line(const word *words) { return bring_bytes(words[0]) && take_record(); }
 
 static int ask_close(const word *words) {
     (void)words;
@@ -874,6 +889,7 @@ static const struct request {
     {"take", 1, 1, ask_take},
     {"hex", 0, 0, ask_hex},
     {"record", 1, 1, ask_record},
+    {"line", 1, 1, ask_line},
     {"close", 0, 0, ask_close},
     {"write", 1, 1, ask_write},
     {"start", 1, 1, ask_start},
@@ -945,6 +961,7 @@ static void begin(void) {
     for (b = 0; b < INPUT; b++) {
         parts[b] = part_at(b, 0, lengths[b]);
     }
+    brought_to = part_at(INPUT, 0, 0);
     loader = gremolunde_loader_new();
     reader = gremolunde_hex_start(LENT(IMAGE), LENT(MAP)).reader;
 }

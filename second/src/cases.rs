@@ -153,6 +153,11 @@ impl Desk {
             None => vec![],
         };
         match (name, &words[..]) {
+            (b"lend", ["input", buffer, place]) => {
+                let (buffer, place) = (Buffer::from_word(buffer)?, words::address(place)?);
+                self.buffers.lend_input(buffer, place)?;
+                Some(Answer::nothing())
+            }
             (b"lend", [name, part @ ..]) => self.lend(name, part),
             (b"fill", [buffer, place, length, byte]) => {
                 self.fill(part(buffer, place, length)?, words::byte(byte)?)
@@ -230,6 +235,7 @@ impl Desk {
             (b"reset", []) => self.reset(),
             (b"take", [input]) => self.take(&words::bytes(input)?),
             (b"hex", []) => self.start_hex(),
+            (b"line", [bytes]) => self.take_record(&words::bytes(bytes)?),
             (b"close", []) => self.close(),
             (b"write", [from]) => self.write(words::address(from)?),
             (b"start", [run]) => self.start(words::run(run)?),

@@ -195,6 +195,8 @@ pub struct Buffers {
     bytes: Vec<Vec<u8>>,
     /// What is lent for the part that has a buffer's name.
     lent: Vec<Option<Part>>,
+    /// Where the bytes that lines bring are put.
+    input: (Buffer, u32),
     /// Where bytes are not as before the last call.
     changed: Vec<Stretch>,
 }
@@ -209,6 +211,7 @@ impl Buffers {
         Buffers {
             bytes: all.clone().map(Buffer::at_first).collect(),
             lent: all.map(part).collect(),
+            input: (Buffer::Input, 0),
             changed: Vec::new(),
         }
     }
@@ -238,6 +241,13 @@ impl Buffers {
         Some(())
     }
 
+    /// Puts what lines bring elsewhere from now on; none outside the buffer.
+    pub fn lend_input(&mut self, buffer: Buffer, place: u32) -> Option<()> {
+        Part::within(buffer, place, 0)?;
+        self.input = (buffer, place);
+        Some(())
+    }
+
     /// What is lent under a name that calls have a part for.
     pub fn part(&self, name: Buffer) -> Part {
         self.lent[name as usize].expect("a part of calls")
@@ -250,7 +260,8 @@ impl Buffers {
     /// Gets ready for a call that brings some bytes of its own, writes some
     /// parts and reads others. None where what it may write overlaps anything.
     pub fn call(&mut self, brought: &[u8], written: &[Buffer], read: &[Buffer]) -> Option<()> {
-        let input = Part::within(Buffer::Input, 0, brought.len().try_into().ok()?)?;
+        let (buffer, place) = self.input;
+        let input = Part::within(buffer, place, brought.len().try_into().ok()?)?;
         let written: Vec<Part> = written.iter().map(|name| self.part(*name)).collect();
         let read = read.iter().map(|name| self.part(*name));
         let read: Vec<Part> = read.chain([input]).collect();

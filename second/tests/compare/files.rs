@@ -51,7 +51,7 @@ fn file(pair: &mut Pair, random: &mut Random) {
     let mut state = pair.hex(IMAGE, MAP);
     let records = random.below(140);
     for _ in 0..records {
-        let text = text(random);
+        let text = any_text(random);
         state = record(pair, random, state, &text);
         if random.once_in(10) {
             let made_up = made_up(random);
@@ -65,7 +65,7 @@ fn file(pair: &mut Pair, random: &mut Random) {
         (_, state) = pair.record(state, END, IMAGE, MAP);
         let after = random.below(4);
         for _ in 0..after {
-            let text = text(random);
+            let text = any_text(random);
             state = record(pair, random, state, &text);
         }
     }
@@ -73,6 +73,9 @@ fn file(pair: &mut Pair, random: &mut Random) {
 }
 
 fn record(pair: &mut Pair, random: &mut Random, state: ReaderRecord, text: &[u8]) -> ReaderRecord {
+    if random.once_in(8) {
+        pair.move_input(random.below(64));
+    }
     let (image, map) = lent(random);
     pair.record(state, text, image, map).1
 }
@@ -109,8 +112,7 @@ fn made_up(random: &mut Random) -> ReaderRecord {
     }
 }
 
-/// A record's text, right or wrong in one of the table's ways. A line end in
-/// it would end the case line.
+/// As `any_text`, but on one line.
 pub fn text(random: &mut Random) -> Vec<u8> {
     let mut text = any_text(random);
     for character in text.iter_mut().filter(|character| **character == b'\n') {
@@ -119,6 +121,7 @@ pub fn text(random: &mut Random) -> Vec<u8> {
     text
 }
 
+/// A record's text, right or wrong in one of the table's ways.
 fn any_text(random: &mut Random) -> Vec<u8> {
     let text = sound(random);
     match random.below(24) {

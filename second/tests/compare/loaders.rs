@@ -41,7 +41,10 @@ fn one_input(pair: &mut Pair, random: &mut Random, state: LoaderRecord) -> Loade
         pair.take(made_up, &input, FLASH, ANSWER);
         pair.reset(made_up);
     }
-    let (flash, answer) = lent(random, &input);
+    if random.once_in(8) {
+        pair.move_input(random.below(64));
+    }
+    let (flash, answer) = lent(pair, random, &input);
     let (_, next) = pair.take(state, &input, flash, answer);
     let leaves = next.condition == 2;
     if (leaves && random.once_in(2)) || random.once_in(150) {
@@ -51,12 +54,12 @@ fn one_input(pair: &mut Pair, random: &mut Random, state: LoaderRecord) -> Loade
 }
 
 /// Flash and answer buffer, at times side by side or of a wrong size.
-fn lent(random: &mut Random, input: &[u8]) -> (Part, Part) {
+fn lent(pair: &Pair, random: &mut Random, input: &[u8]) -> (Part, Part) {
     let length = random.within(24, 40);
     let answer = match random.below(8) {
         0 => NEXT_TO_FLASH.behind(length),
         1 => FLASH.before(length),
-        2 => Part::new(Buffer::Input, input.len() as u32, length),
+        2 => pair.behind_input(input, length),
         _ => ANSWER.with_length(length),
     };
     match random.below(60) {

@@ -33,6 +33,9 @@ fn write(pair: &mut Pair, random: &mut Random) {
         0 => Part::NULL,
         _ => RECORD.with_length(length),
     };
+    if random.once_in(8) {
+        pair.move_input(random.below(64));
+    }
     let bytes = pair.log(state, buffer);
     pair.outcome(state);
     if !bytes.is_empty() {

@@ -54,11 +54,14 @@ fn build_any(pair: &mut Pair, random: &mut Random) {
 
 /// Builds into a buffer of this length, which may lie right behind the data.
 fn build(pair: &mut Pair, random: &mut Random, output: u32, command: u8, length: u32) {
+    if random.once_in(8) {
+        pair.move_input(random.below(64));
+    }
+    let mut plain = random.bytes(length);
     let output = random.pick(&[
         OUTPUT.with_length(output),
-        Part::new(Buffer::Input, length, output),
+        pair.behind_input(&plain, output),
     ]);
-    let mut plain = random.bytes(length);
     if command == b'P' && length == 1 {
         plain[0] = random.pick(&[OPEN, ADD, CLOSE, 0x02, 0x10]);
     }

@@ -12,6 +12,8 @@ pub struct Pair {
     desk: Desk,
     /// None once a difference was found.
     wire: Option<Wire>,
+    /// Where lines put in `input` what they bring.
+    brought: u32,
     tally: Tally,
 }
 
@@ -20,6 +22,7 @@ impl Pair {
         Pair {
             desk: Desk::new(),
             wire: Some(Wire::open()),
+            brought: 0,
             tally: Tally::default(),
         }
     }
@@ -97,6 +100,18 @@ impl Pair {
                 format!("lend {word} {buffer} {place:08X} {length}")
             }
         });
+    }
+
+    /// Lines put what they bring at this place of `input` from now on.
+    pub fn move_input(&mut self, place: u32) {
+        self.ask(format!("lend input input {place:08X}"));
+        self.brought = place;
+    }
+
+    /// So many bytes right behind what a line brings.
+    pub fn behind_input(&self, brought: &[u8], length: u32) -> Part {
+        let place = self.brought + brought.len() as u32;
+        Part::new(Buffer::Input, place, length)
     }
 
     fn lend_file(&mut self, image: Part, map: Part) {
@@ -193,7 +208,11 @@ impl Pair {
     ) -> (u8, ReaderRecord) {
         self.set_reader(record);
         self.lend_file(image, map);
-        let answer = self.call("record", [b"record ", text].concat());
+        let line = match text.contains(&b'\n') {
+            true => format!("line {}", hex_digits(text)).into_bytes(),
+            false => [b"record ", text].concat(),
+        };
+        let answer = self.call("record", line);
         self.given(&answer, "reader");
         (answer.number, self.desk.reader())
     }

@@ -286,7 +286,10 @@ fn step_any(pair: &mut Pair, random: &mut Random, state: SessionRecord) -> Sessi
     let silent = random.pick(&[0, 0, 0, 0, 1, 0x80]);
     let file = lent(random);
     let buffer = match random.once_in(8) {
-        true => Part::new(Buffer::Input, bytes.len() as u32, 259),
+        true => {
+            pair.move_input(random.below(64));
+            pair.behind_input(&bytes, 259)
+        }
         false => buffer(random),
     };
     pair.step(state, silent, &bytes, file, buffer).1
