@@ -334,8 +334,9 @@ static int lend(unsigned reads, unsigned writes) {
     return 1;
 }
 
-#define BLOCK 512
+/* A call is watched in what it is lent and so many bytes on either side, a block at a time. */
 #define AROUND 4096
+#define BLOCK 512
 
 /* Under an emulator this takes half the time of memcmp. */
 static int as_before(int buffer, size_t place) {
@@ -905,7 +906,7 @@ static const struct request {
 
 /* Splits a word at its first space: what stands before it, and what is left behind it, if there is one. */
 static word split(word *left) {
-    const char *space = left->at == NULL ? NULL : memchr(left->at, ' ', left->length);
+    const char *space = memchr(left->at, ' ', left->length);
     word first = *left;
     left->at = space == NULL ? NULL : space + 1;
     left->length = space == NULL ? 0 : first.length - (size_t)(space + 1 - first.at);
