@@ -39,8 +39,5 @@ pub const GREETING: [u8; ANSWER] = *b"ADuC702x   -62 I31    \n\r";
 pub fn right_sizes(image: usize, map: usize) -> bool
     ensures { λ r. ⌜ r ≡ rightSizesIn flashSize image map ⌝ }
 {
-    if image != SIZE {
-        return false;
-    }
-    map == MAP
+    image == SIZE && map == MAP
 }
