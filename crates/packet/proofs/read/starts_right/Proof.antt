@@ -9,7 +9,8 @@ returns : tie.Need-returns
 returns c = simp (lt-leb 2 _ (c .if1 .taken))
 
 returns-2 : tie.Need-returns-2
-returns-2 c = simp (le-leb 2 _ (c .before .before .before .if1 .left), eq-eqb _ startByte (c .before .if2 .taken))
+returns-2 c =
+    simp (le-leb 2 _ (c .before .before .before .if1 .left), eq-eqb _ startByte (c .before .if2 .taken))
 
 returns-3 : tie.Need-returns-3
 returns-3 c = simp (le-leb 2 _ (c .before .before .if1 .left), ne-eqb _ startByte (c .if2 .left))
