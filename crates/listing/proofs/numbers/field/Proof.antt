@@ -32,4 +32,11 @@ returns c =
     (c .before .before .decimal .ensures)
 
 pub field-spec : {M : Type 1} → statement M
-field-spec = tie.close (tie.spec (λ c κs. search needs) (λ c. search needs) decimal-requires (λ c. search needs) returns)
+field-spec =
+    tie.close
+    (tie.spec
+    (λ c κs. search needs)
+    (λ c. search needs)
+    decimal-requires
+    (λ c. search needs)
+    returns)
