@@ -1,4 +1,4 @@
--- The board: its sizes, and how it greets.
+-- The board: its sizes, what a packet carries to it, and how it greets.
 use Prim.Native.Nat.{ℕ, _*_}
 use mathlib.Core.List.{List, [], _∷_}
 
@@ -22,6 +22,10 @@ flashSize = 0xF800
 -- the map is 7,936 bytes: one bit for each byte of flash
 abbrev pub mapSize : ℕ
 mapSize = 7936
+
+-- a packet carries at most 250 bytes of a file, and so a piece has no more
+abbrev pub dataMost : ℕ
+dataMost = 250
 
 -- the byte that opens the board
 abbrev pub openingByte : ℕ

@@ -1,4 +1,4 @@
-// The board: its pages and groups, a map of one bit a byte, and how it greets.
+// The board: its pages and groups, a map of one bit a byte, what a packet carries, and how it greets.
 ghost use mathlib.Core.Path.{_≡_};
 ghost use Rattle.basis.specs.Board.{flashSize};
 ghost use Rattle.basis.specs.Units.{rightSizesIn};
@@ -19,6 +19,9 @@ pub const SIZE: usize = END as usize;
 
 pub const MAP: usize = SIZE / 8;
 
+// A packet carries at most this many bytes of a file, and so a piece has no more.
+pub const DATA: usize = 250;
+
 // The byte that opens the board.
 pub const OPENING: u8 = 0x08;
 
@@ -36,8 +39,5 @@ pub const GREETING: [u8; ANSWER] = *b"ADuC702x   -62 I31    \n\r";
 pub fn right_sizes(image: usize, map: usize) -> bool
     ensures { λ r. ⌜ r ≡ rightSizesIn flashSize image map ⌝ }
 {
-    if image != SIZE {
-        return false;
-    }
-    map == MAP
+    image == SIZE && map == MAP
 }

@@ -1,7 +1,7 @@
 // Lent buffers: bytes written at a place or at the start, the rest as it was; and bytes read from a place.
 ghost use mathlib.Core.Path.{_≡_};
 ghost use Prim.Native.Nat.{_+_, _*_, _<_, _≤_};
-ghost use lib.ListN.{length, getD, take};
+ghost use lib.ListN.{length, getD, take, replicate};
 ghost use Rattle.basis.specs.Lists.{overlay, copyOf, pairAt};
 
 // The bytes from place `at` on, whatever stood there.
@@ -13,6 +13,16 @@ pub fn copy(buffer: &mut [u8], at: usize, bytes: &[u8])
     while i < bytes.len() {
         buffer[at + i] = bytes[i];
         i += 1;
+    }
+}
+
+// `count` bytes from place `at` on become `x`.
+pub fn fill(buffer: &mut [u8], at: usize, count: usize, x: u8)
+    requires { ⌜ at + count ≤ length (now buffer) ⌝ }
+    ensures { λ _. ⌜ now (buffer .exit) ≡ copyOf (now (buffer .entry)) at (replicate count x) ⌝ }
+{
+    for i in 0..count {
+        buffer[at + i] = x;
     }
 }
 

@@ -3,16 +3,14 @@ ghost use mathlib.Core.Path.{_≡_};
 ghost use Prim.Native.Nat.{_+_, _≤_};
 ghost use lib.ListN.{length};
 ghost use Rattle.image.specs.Flash.{eraseOf, storeOf};
+use basis::buffers::fill;
 use basis::units::Address;
 
 pub fn erase(flash: &mut [u8], from: Address, count: usize)
     requires { ⌜ from .0 + count ≤ length (now flash) ⌝ }
     ensures { λ _. ⌜ now (flash .exit) ≡ eraseOf (now (flash .entry)) (from .0) count ⌝ }
 {
-    let at = from.0 as usize;
-    for i in 0..count {
-        flash[at + i] = 0xFF;
-    }
+    fill(flash, from.0 as usize, count, 0xFF);
 }
 
 // A store can clear bits and never sets one.

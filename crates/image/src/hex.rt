@@ -2,7 +2,7 @@
 ghost use mathlib.Core.Path.{_≡_};
 ghost use mathlib.Core.Bool.{false};
 ghost use Prim.Native.Nat.{_+_, _*_, _≤_};
-ghost use lib.ListN.{length, replicate};
+ghost use lib.ListN.{length};
 ghost use Rattle.basis.specs.Refusals.{given};
 ghost use Rattle.basis.specs.Board.{flashSize, mapSize};
 ghost use Rattle.image.specs.Record.{count, kind, shapeOf};
@@ -15,8 +15,11 @@ use crate::record::framing;
 use crate::record::shape;
 use crate::record::wide;
 use basis::board::END;
+use basis::board::MAP;
+use basis::board::SIZE;
 use basis::board::right_sizes;
 use basis::buffers::copy;
+use basis::buffers::fill;
 use basis::buffers::pair_at;
 use basis::units::Address;
 use runs::places::any_named;
@@ -48,8 +51,8 @@ impl Hex {
         if !right_sizes(image.len(), map.len()) {
             return Read::Refused(Refusal::Size);
         }
-        fill(image, 0xFF);
-        fill(map, 0);
+        fill(image, 0, SIZE, 0xFF);
+        fill(map, 0, MAP, 0);
         Read::Taken(Hex {
             linear: 0,
             segment: 0,
@@ -218,14 +221,4 @@ fn put(image: &mut [u8], map: &mut [u8], from: Address, bytes: &[u8]) -> bool
     copy(image, at, bytes);
     name_all(map, from, count);
     true
-}
-
-fn fill(bytes: &mut [u8], x: u8)
-    ensures { λ _. ⌜ now (bytes .exit) ≡ replicate (length (now (bytes .entry))) x ⌝ }
-{
-    let mut i = 0;
-    while i < bytes.len() {
-        bytes[i] = x;
-        i += 1;
-    }
 }

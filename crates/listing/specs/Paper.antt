@@ -3,11 +3,10 @@ use Rattle.basis.specs.Refusals.{Answer, refused, given}
 use Rattle.image.specs.Paper.{paperRefusal}
 use Rattle.session.specs.Paper.{paperRefusal as sessionRefusal}
 use Rattle.listing.specs.Feed.{Progress}
-use Rattle.listing.specs.Text.{Blame, stopped, going, Verdict}
+use Rattle.listing.specs.Text.{Blame, stopped, going}
 use Rattle.listing.specs.declared.plan.Begun.{Begun}
 use Rattle.listing.specs.declared.plan.Listing.{Listing}
 use Rattle.listing.specs.declared.text.Blame as Code
-use Rattle.listing.specs.declared.text.Ended.{Ended}
 use Rattle.listing.specs.declared.text.Reading.{Reading}
 
 -- the refusal's number, and its line
@@ -18,11 +17,6 @@ paperBlame b = record { line = b .line; number = paperRefusal (b .refusal) }
 abbrev pub paperReading : Reading → Progress
 paperReading (Reading.Open t) = going t
 paperReading (Reading.Refused b) = stopped (paperBlame b)
-
--- a whole text
-abbrev pub paperEnded : Ended → Verdict
-paperEnded Ended.File = going tt
-paperEnded (Ended.Refused b) = stopped (paperBlame b)
 
 -- a listing that is begun, or the refusal
 abbrev pub paperBegun : Begun → Answer Listing

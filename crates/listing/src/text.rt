@@ -1,11 +1,12 @@
 // Hex text, byte by byte: each line is a record, and how the text is cut into reads does not matter.
 ghost use mathlib.Core.Path.{_≡_};
-ghost use lib.ListN.{set, take};
+ghost use Prim.Native.Nat.{_≤_};
+ghost use lib.ListN.{length, set, take};
 ghost use Rattle.basis.specs.Board.{flashSize};
 ghost use Rattle.image.specs.Hex.{settled, startIn, recordIn};
-ghost use Rattle.listing.specs.Text.{going, result, trimmedOf, readIn};
-ghost use Rattle.listing.specs.Feed.{endedOf, state, nextLine, afterLine, keepOneOf, withKept, fedByte, byteIn, feedIn, Keeps, lastIn, shutOf, closeIn};
-ghost use Rattle.listing.specs.Paper.{paperReading, paperEnded};
+ghost use Rattle.listing.specs.Text.{going, trimmedOf, lineRoom};
+ghost use Rattle.listing.specs.Feed.{state, nextLine, afterLine, keepOneOf, withKept, fedByte, byteIn, feedIn, Keeps, lastIn, shutOf, closeIn};
+ghost use Rattle.listing.specs.Paper.{paperReading};
 use basis::buffers::first;
 use image::hex::Hex;
 use image::hex::Read;
@@ -37,12 +38,6 @@ pub enum Reading {
 struct Stretch {
     reading: Reading,
     len: usize,
-}
-
-// What a whole text came to.
-pub enum Ended {
-    File,
-    Refused(Blame),
 }
 
 impl Reading {
@@ -92,7 +87,9 @@ impl Reading {
         reading
     }
 
+    // In a shorter buffer the start of a longer line could pass for a record.
     fn keep(self, bytes: &[u8], line: &mut [u8]) -> Stretch
+        requires { ⌜ lineRoom ≤ length (now line) ⌝ }
         ensures { λ r. ⌜
             Keeps flashSize (paperReading self) (now (line .entry)) (now (bytes .entry))
             (paperReading (r .reading)) (now (line .exit)) (r .len)
@@ -131,16 +128,6 @@ impl Reading {
         match self {
             Reading::Open(text) => text.last(line, image, map).shut(),
             Reading::Refused(blame) => Reading::Refused(blame),
-        }
-    }
-
-    // What a text that is closed came to.
-    fn ended(self) -> Ended
-        ensures { λ r. ⌜ paperEnded r ≡ endedOf (paperReading self) ⌝ }
-    {
-        match self {
-            Reading::Open(_) => Ended::File,
-            Reading::Refused(blame) => Ended::Refused(blame),
         }
     }
 
@@ -252,19 +239,6 @@ impl Text {
             Read::Refused(refusal) => Reading::Refused(Blame { line: 0, refusal }),
         }
     }
-}
-
-// A whole text at once.
-pub fn read(text: &[u8], image: &mut [u8], map: &mut [u8]) -> Ended
-    ensures { λ r. ⌜
-        result (paperEnded r) (now (image .exit)) (now (map .exit))
-        ≡ readIn flashSize (now (text .entry)) (now (image .entry)) (now (map .entry))
-        ⌝ }
-{
-    let mut line = [0u8; LINE];
-    let started = Reading::start(image, map);
-    let reading = started.feed(text, &mut line, image, map);
-    reading.close(&line, image, map).ended()
 }
 
 // One byte more behind the first `n`, where there is room; how many are kept then.

@@ -4,6 +4,7 @@ use mathlib.Core.Bool.{Bool, not}
 use mathlib.Core.List.{List, [], _∷_, _++_, map}
 use lib.Dec.{leb, ltb, eqb}
 use lib.ListN.{length, getD, take, drop}
+use Rattle.basis.specs.Board.{dataMost}
 use Rattle.basis.specs.Choice.{pick, both}
 use Rattle.basis.specs.Refusals.{Answer, given, Rule, _when_, first}
 use Rattle.basis.specs.Sums.{sumOf, checksumOf}
@@ -38,9 +39,6 @@ unfoldable pub packet : ℕ → ℕ → List ℕ → List ℕ
 packet c a d = startByte ∷ nextStartByte ∷ summed c a d ++ (checksumOf (summed c a d) ∷ [])
 
 -- W and V carry at most 250 bytes, so no packet is longer than 259
-abbrev pub dataMost : ℕ
-dataMost = 250
-
 abbrev pub packetMost : ℕ
 packetMost = dataMost + 9
 

@@ -3,9 +3,10 @@ ghost use mathlib.Core.Path.{_≡_};
 ghost use Prim.Native.Nat.{_+_, _≤_};
 ghost use mathlib.Core.List.{map};
 ghost use lib.ListN.{length};
+ghost use Rattle.basis.specs.Board.{dataMost};
 ghost use Rattle.basis.specs.Lists.{overlay};
 ghost use Rattle.basis.specs.Refusals.{counted, written};
-ghost use Rattle.packet.specs.Packet.{frontOf, carriedOf, packet, buildOf, dataMost, packetMost};
+ghost use Rattle.packet.specs.Packet.{frontOf, carriedOf, packet, buildOf, packetMost};
 ghost use Rattle.packet.specs.Paper.{paperBuilt};
 use crate::table::NEXT_START;
 use crate::table::Refusal;
@@ -14,12 +15,13 @@ use crate::table::START;
 use crate::table::VERIFY;
 use crate::table::look_up;
 use crate::turn::turned;
+use basis::board::DATA;
 use basis::buffers::first_byte;
 use basis::sums::checksum;
 use basis::units::Address;
 
-// No packet is longer: eight bytes, 250 of data, and the checksum.
-pub const PACKET: usize = 259;
+// No packet is longer: eight bytes, the data, and the checksum.
+pub const PACKET: usize = 8 + DATA + 1;
 
 pub enum Built {
     // The packet's length.

@@ -54,10 +54,7 @@ fn starts_right(input: &[u8]) -> bool
     if input.len() < 2 {
         return false;
     }
-    if input[0] != START {
-        return false;
-    }
-    input[1] == NEXT_START
+    input[0] == START && input[1] == NEXT_START
 }
 
 // A packet that is whole and sums to zero: what the command table says of it.

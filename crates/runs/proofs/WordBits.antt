@@ -14,7 +14,7 @@ use Rattle.runs.proofs.Tallies.{tally-next}
 use Rattle.basis.specs.Bits.{bit}
 use Rattle.runs.specs.Map.{named, wordOf}
 
-pub word-join : (m : List ℕ) (j i k : ℕ) → wordOf m (i + j) k * 256 ^ j + wordOf m i j ≡ wordOf m i (j + k)
+word-join : (m : List ℕ) (j i k : ℕ) → wordOf m (i + j) k * 256 ^ j + wordOf m i j ≡ wordOf m i (j + k)
 unfolding wordOf
 word-join m zero i k = rw (add-zero i, zero-add k) (omega arith)
 word-join m (suc j) i k =
@@ -23,6 +23,11 @@ word-join m (suc j) i k =
     let p : wordOf m (i + 1 + j) k * 256 ^ suc j ≡ wordOf m (i + 1 + j) k * 256 ^ j * 256 = rw pow-suc
     (sym (mul-assoc (wordOf m (i + 1 + j) k) (256 ^ j) 256)) in
     rw (e, suc-add) (omega arith)
+
+-- two halves joined
+pub halves-join : (m : List ℕ) (j i x y : ℕ) → x ≡ wordOf m (i + j) j → y ≡ wordOf m i j
+    → x * 256 ^ j + y ≡ wordOf m i (j + j)
+halves-join m j i x y e f = rw (e, f) (word-join m j i j)
 
 -- ---- places taken one by one
 

@@ -2,14 +2,15 @@
 use Prim.Native.Nat.{ℕ}
 use mathlib.Core.List.{List}
 use mathlib.Core.Bool.{Bool}
+use Rattle.basis.specs.Board.{dataMost}
 use Rattle.basis.specs.Units.{startOf}
 use Rattle.runs.specs.Map.{named}
 use Rattle.runs.specs.Pages.{touched}
 use Rattle.runs.specs.Runs.{count, starts, len}
 
--- a piece has at most 250 bytes
+-- a piece has at most as many bytes as a packet carries: 250
 abbrev pub pieceMost : ℕ
-pieceMost = 250
+pieceMost = dataMost
 
 -- a piece of named bytes starts at the address, and this long it is
 abbrev pub pieceStarts : List ℕ → ℕ → Bool

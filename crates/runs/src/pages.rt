@@ -6,6 +6,7 @@ ghost use Rattle.basis.specs.Units.{startOf};
 ghost use Rattle.runs.specs.Pages.{touched};
 ghost use Rattle.runs.specs.Runs.{next, len};
 use crate::places::any_named;
+use crate::places::next_named;
 use basis::board::PAGE;
 use basis::units::Page;
 
@@ -17,20 +18,15 @@ pub fn touched(map: &[u8], page: Page) -> bool
     any_named(map, page.start(), PAGE)
 }
 
-// The lowest touched page from `from` on and below `limit`, or `limit`.
+// The lowest touched page from `from` on and below `limit`, or `limit`: that of the lowest named byte.
 pub fn next_touched(map: &[u8], from: Page, limit: Page) -> Page
     requires { ⌜ (limit .0 < 2 ^ 23) × (startOf (limit .0) ≤ 8 * length (now map)) ⌝ }
     ensures { λ r. ⌜ r .0 ≡ next (touched (now (map .entry))) (from .0) (limit .0 - from .0) ⌝ }
 {
-    let end = limit.0;
-    let mut at = from.0;
-    while at < end {
-        if touched(map, Page(at)) {
-            return Page(at);
-        }
-        at += 1;
+    if limit.0 <= from.0 {
+        return from;
     }
-    Page(at)
+    next_named(map, from.start(), limit.start()).page()
 }
 
 // How many touched pages stand in a row from `from` on, at most `cap`.

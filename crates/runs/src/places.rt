@@ -7,10 +7,11 @@ ghost use Rattle.runs.specs.Map.{named, anyNamed, nameAllOf, Stride};
 ghost use Rattle.runs.specs.Runs.{next, len};
 use crate::map::name;
 use crate::map::named;
+use basis::board::DATA;
 use basis::units::Address;
 
-// A piece has at most this many bytes.
-pub const PIECE: u32 = 250;
+// A piece has at most as many bytes as a packet carries.
+pub const PIECE: u32 = DATA as u32;
 
 // The lowest named address from `from` on and below `limit`, or `limit`.
 pub fn next_named(map: &[u8], from: Address, limit: Address) -> Address

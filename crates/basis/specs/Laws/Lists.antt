@@ -120,6 +120,12 @@ copy-overlay w old (x ∷ s) k e h =
     (copy-overlay (w ++ (x ∷ [])) old s (k + 1) (simp length-append (omega arith)) (omega arith)
     ∙ rw (append-assoc w (x ∷ []) s))
 
+-- as many bytes as there are, from the start on: nothing else is left
+pub copy-all : (old s : List ℕ) → length s ≡ length old → copyOf old 0 s ≡ s
+copy-all old s e =
+    let l : length old ≤ length s = omega arith in
+    copy-overlay [] old s 0 refl (omega arith) ∙ rw (drop-of-length-le old l, append-nil)
+
 -- a part of bytes is bytes
 pub bytes-drop : (n : ℕ) (s : List ℕ) → Bytes s → Bytes (drop n s)
 bytes-drop n s b k = rw getD-drop (b (n + k))

@@ -1,19 +1,18 @@
 -- Two outcomes that a contract permits are equal: the paper's numbers and values tell all cases apart.
 use Prim.Native.Nat.{ℕ}
 use mathlib.Core.List.{List}
-use mathlib.Core.Path.{_≡_, refl, sym, ap, _∙_}
+use mathlib.Core.Path.{_≡_, sym, ap, _∙_}
 use native.Mathlib.Omega.{arith}
 use Rattle.basis.specs.Laws.Refusals.{apart, given-one, refused-one, determined}
 use Rattle.basis.specs.Refusals.{Answer}
 use Rattle.image.specs.Laws.Determined.{refusal-one}
 use Rattle.session.specs.Laws.Determined.{refusal-one as session-one}
 use Rattle.listing.specs.Feed.{Fed, state}
-use Rattle.listing.specs.Paper.{paperBlame, paperReading, paperEnded, paperBegun}
-use Rattle.listing.specs.Text.{Blame, stopped, going, Result, result}
+use Rattle.listing.specs.Paper.{paperBlame, paperReading, paperBegun}
+use Rattle.listing.specs.Text.{Blame, stopped, going}
 use Rattle.listing.specs.declared.plan.Begun.{Begun}
 use Rattle.listing.specs.declared.plan.Listing.{Listing}
 use Rattle.listing.specs.declared.text.Blame as Code
-use Rattle.listing.specs.declared.text.Ended.{Ended}
 use Rattle.listing.specs.declared.text.Reading.{Reading}
 
 -- what is stopped is not going on
@@ -42,22 +41,6 @@ feed-determined r s a b i j m n p q =
       ap (λ (x : Fed). x .line) e,
       ap (λ (x : Fed). x .image) e,
       ap (λ (x : Fed). x .map) e,
-    )
-
--- a whole text
-ended-one : (r s : Ended) → paperEnded r ≡ paperEnded s → r ≡ s
-ended-one Ended.File Ended.File e = refl
-ended-one Ended.File (Ended.Refused b) e = absurd (lined-apart (sym e))
-ended-one (Ended.Refused a) Ended.File e = absurd (lined-apart e)
-ended-one (Ended.Refused a) (Ended.Refused b) e = ap Ended.Refused (blame-one a b (cc))
-
-pub read-determined : {x : Result} (r s : Ended) (i j m n : List ℕ) → result (paperEnded r) i m ≡ x
-    → result (paperEnded s) j n ≡ x → (r ≡ s) × (i ≡ j) × (m ≡ n)
-read-determined r s i j m n p q =
-    let e = p ∙ sym q in (
-      ended-one r s (ap (λ (y : Result). y .verdict) e),
-      ap (λ (y : Result). y .image) e,
-      ap (λ (y : Result). y .map) e,
     )
 
 -- a listing's start

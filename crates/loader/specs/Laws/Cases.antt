@@ -10,7 +10,7 @@ use lib.Dec.{leb, lit<}
 use lib.ListN.{length, getD, set, take, drop, replicate, length-append, length-replicate, length-set, take-append-drop}
 use lib.Seq.{length-take-le, getD-set-same}
 use Rattle.basis.specs.Bits.{bit}
-use Rattle.basis.specs.Board.{pages, pageSize, flashSize, answerMost, ackByte, belByte}
+use Rattle.basis.specs.Board.{pages, pageSize, flashSize, dataMost, answerMost, ackByte, belByte}
 use Rattle.basis.specs.Laws.Choice.{both-second}
 use Rattle.basis.specs.Laws.Lists.{copy-overlay}
 use Rattle.basis.specs.Laws.Refusals.{skip, stop}
@@ -29,7 +29,7 @@ use Rattle.loader.specs.Protection.{none}
 use Rattle.loader.specs.Take.{takeOf, quiet, answerBytes}
 use Rattle.loader.specs.Verify.{equalsOf}
 use Rattle.packet.specs.Laws.Turn.{restored-turned}
-use Rattle.packet.specs.Packet.{packet, rows, readOf, dataMost}
+use Rattle.packet.specs.Packet.{packet, rows, readOf}
 use Rattle.packet.specs.Table.{eraseByte, writeByte, verifyByte}
 
 -- ---- what the entry gives decides what it answers

@@ -6,7 +6,7 @@ use mathlib.Core.Path.{_≡_, refl, ap, _∙_}
 use borrow.Author.Tests.{ne-eqb}
 use lib.Dec.{eqb}
 use lib.ListN.{length, getD}
-use Rattle.basis.specs.Board.{answerMost, openingByte}
+use Rattle.basis.specs.Board.{answerMost, openingByte, dataMost}
 use Rattle.basis.specs.Choice.{pick}
 use Rattle.basis.specs.Refusals.{Answer, given, first}
 use Rattle.basis.specs.Units.{startOf}
@@ -18,7 +18,7 @@ use Rattle.loader.specs.Take.{takeOf, sentData}
 use Rattle.loader.specs.declared.state.Condition.the-variants.{Waiting, Serving}
 use Rattle.loader.specs.declared.state.Loader.{Loader}
 use Rattle.packet.specs.Laws.Packet.{packet-data, carried-plainly, read-erase, read-write, read-verify, read-run}
-use Rattle.packet.specs.Packet.{carriedOf, packet, Parts, said, readOf, dataMost}
+use Rattle.packet.specs.Packet.{carriedOf, packet, Parts, said, readOf}
 use Rattle.packet.specs.Table.{eraseByte, writeByte, verifyByte, protectByte, runByte}
 use Rattle.packet.specs.Turn.{turnedOf}
 

@@ -15,7 +15,8 @@ use Rattle.basis.specs.Laws.Sums.{sum-closed}
 use Rattle.basis.specs.Refusals.{refused, given, first}
 use Rattle.basis.specs.Sums.{sumOf}
 use Rattle.packet.specs.Laws.Table.{table-passes, table-holds, kind-counts}
-use Rattle.packet.specs.Packet.{carriedOf, summed, packet, buildOf, count, command, kind, joined, Parts, parts, said, startsRight, rows, tabledOf, readOf, packetMost, dataMost}
+use Rattle.basis.specs.Board.{dataMost}
+use Rattle.packet.specs.Packet.{carriedOf, summed, packet, buildOf, count, command, kind, joined, Parts, parts, said, startsRight, rows, tabledOf, readOf, packetMost}
 use Rattle.packet.specs.Table.{eraseByte, writeByte, verifyByte, protectByte, runByte, listed, dataCount, inShape, table}
 
 pub packet-length : (c a : ℕ) (d : List ℕ) → length (packet c a d) ≡ length d + 9

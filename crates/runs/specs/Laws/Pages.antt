@@ -1,5 +1,5 @@
 -- Laws of touched pages.
-use Prim.Native.Nat.{ℕ, _+_, _*_, _≤_, _<_}
+use Prim.Native.Nat.{ℕ, _+_, _-_, _*_, _≤_, _<_}
 use native.Mathlib.Omega.{arith}
 use mathlib.Core.Path.{_≡_, ap, sym, _∙_}
 use mathlib.Core.Bool.{true, false}
@@ -13,7 +13,7 @@ use Rattle.runs.specs.Map.{named}
 use Rattle.runs.specs.Pages.{touched}
 use Rattle.runs.specs.Runs.{count, len, next}
 use Rattle.runs.specs.Laws.Map.{named-past}
-use Rattle.runs.specs.Laws.Runs.{count-skip, count-mono, rank-below, any-next, next-ge, next-pass, next-skip}
+use Rattle.runs.specs.Laws.Runs.{count-skip, count-mono, rank-below, any-next, next-ge, next-le, next-pass, next-skip, next-only}
 use Rattle.runs.specs.Laws.Pieces.{piece-passes}
 use Rattle.basis.specs.Board.{pageSize}
 
@@ -48,6 +48,22 @@ module _ (m : List ℕ) where
 
   pub named-touched : (a : ℕ) → named m a ≡ true → touched m (pageOf a) ≡ true
   named-touched a t = some-touched (pageOf a) a t (omega arith) (omega arith)
+
+  -- the lowest touched page is the page of the lowest named byte
+  pub next-page : (q n : ℕ) → q ≤ n
+      → next (touched m) q (n - q) ≡ pageOf (next (named m) (startOf q) (startOf n - startOf q))
+  next-page q n g =
+      let a = next (named m) (startOf q) (startOf n - startOf q) in
+      let from = next-ge (named m) (startOf n - startOf q) (startOf q) in
+      let upto = next-le (named m) (startOf n - startOf q) (startOf q) in
+      next-only (touched m) (n - q) q (pageOf a) (omega arith) (omega arith)
+      (λ j u v. decide (touched m j)
+      (λ t. let s = touched-some j t in
+      absurd (true-false (sym (s .1)
+      ∙ next-skip (named m) (startOf n - startOf q) (startOf q) (s .0) (omega (arith, s .2))
+      (omega (arith, s .3)))))
+      (λ t. t))
+      (λ l. named-touched a (next-pass (named m) (startOf n - startOf q) (startOf q) (omega arith)))
 
   -- a piece lies in touched pages
   pub piece-touched : (cap s a : ℕ) → s ≤ a → a < s + len (named m) s cap → touched m (pageOf a) ≡ true

@@ -9,7 +9,7 @@ use mathlib.Core.Bool.{Bool, true, false}
 use lib.Dec.{eqb, ltb}
 use borrow.Author.Tests.{eq-eqb, ne-eqb, eqb-true, eqb-false, lt-ltb, le-ltb, ltb-true, ltb-false}
 use Rattle.basis.specs.Choice.{pick, both, any}
-use Rattle.basis.specs.Laws.Choice.{decide}
+use Rattle.basis.specs.Laws.Choice.{decide, true-false}
 use Rattle.runs.specs.Runs.{count, len, next, select}
 
 -- ---- counts
@@ -154,6 +154,23 @@ module _ (p : ℕ → Bool) where
       (λ t. absurd (omega (arith, rw t at l)))
       (λ t. ⊎-elim (λ e. subst (λ (k : ℕ). p k ≡ false) e t) (λ q. next-skip f (suc a) j q (rw t at l))
       (eq-or-lt-of-le g))
+
+  pub next-le : (f a : ℕ) → next p a f ≤ a + f
+  unfolding next
+  next-le zero a = omega arith
+  next-le (suc f) a = decide (p a) (λ t. rw t (omega arith)) (λ t. rw t (omega (arith, next-le f (suc a))))
+
+  -- nothing else is the lowest that passes, or the end where none does
+  pub next-only : (f a x : ℕ) → a ≤ x → x ≤ a + f → ((j : ℕ) → a ≤ j → j < x → p j ≡ false)
+      → (x < a + f → p x ≡ true) → next p a f ≡ x
+  next-only f a x g l none some =
+      decide (ltb (next p a f) x)
+      (λ d. let h = ltb-true (next p a f) x d in
+      absurd (true-false (sym (next-pass f a (omega arith)) ∙ none (next p a f) (next-ge f a) h)))
+      (λ d. decide (ltb x (next p a f))
+      (λ e. let h = ltb-true x (next p a f) e in
+      absurd (true-false (sym (some (omega (arith, next-le f a))) ∙ next-skip f a x g h)))
+      (λ e. omega (arith, ltb-false (next p a f) x d, ltb-false x (next p a f) e)))
 
 -- ---- rows
 

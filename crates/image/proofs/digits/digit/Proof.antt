@@ -23,6 +23,13 @@ module _ (low high c : ℕ) where
   above : high < c → both (leb low c) (leb c high) ≡ false
   above h = ap (both (leb low c)) (lt-leb _ _ h) ∙ both-no (leb low c)
 
+-- the character behind the digits, and behind the upper case
+abbrev past-digits : tie.Else2 → ℕ
+past-digits c = c .before .before .args .c
+
+abbrev past-upper : tie.Else4 → ℕ
+past-upper c = past-digits (c .before .before)
+
 returns : tie.Need-returns
 unfolding digitOf
 returns c = simp (within 0x30 0x39 (c .before .before .args .c) (omega arith) (omega arith))
@@ -30,56 +37,42 @@ returns c = simp (within 0x30 0x39 (c .before .before .args .c) (omega arith) (o
 returns-2 : tie.Need-returns-2
 unfolding digitOf
 returns-2 c =
-    simp (
-      above 0x30 0x39 (c .before .before .before .before .args .c) (omega arith),
-      within 0x41 0x46 (c .before .before .before .before .args .c) (omega arith) (omega arith),
-    )
+    let x = past-digits (c .before .before) in
+    simp (above 0x30 0x39 x (omega arith), within 0x41 0x46 x (omega arith) (omega arith))
 
 returns-3 : tie.Need-returns-3
 unfolding digitOf
 returns-3 c =
+    let x = past-upper (c .before .before) in
     simp (
-      above 0x30 0x39 (c .before .before .before .before .before .before .args .c) (omega arith),
-      above 0x41 0x46 (c .before .before .before .before .before .before .args .c) (omega arith),
-      within 0x61 0x66 (c .before .before .before .before .before .before .args .c) (omega arith)
-          (omega arith),
+      above 0x30 0x39 x (omega arith),
+      above 0x41 0x46 x (omega arith),
+      within 0x61 0x66 x (omega arith) (omega arith),
     )
 
 returns-4 : tie.Need-returns-4
 unfolding digitOf
 returns-4 c =
-    simp (
-      below 0x30 0x39 (c .before .args .c) (omega arith),
-      below 0x41 0x46 (c .before .args .c) (omega arith),
-      below 0x61 0x66 (c .before .args .c) (omega arith),
-    )
+    let x = c .before .args .c in
+    simp (below 0x30 0x39 x (omega arith), below 0x41 0x46 x (omega arith), below 0x61 0x66 x (omega arith))
 
 returns-5 : tie.Need-returns-5
 unfolding digitOf
 returns-5 c =
-    simp (
-      above 0x30 0x39 (c .before .before .before .args .c) (omega arith),
-      below 0x41 0x46 (c .before .before .before .args .c) (omega arith),
-      below 0x61 0x66 (c .before .before .before .args .c) (omega arith),
-    )
+    let x = past-digits (c .before) in
+    simp (above 0x30 0x39 x (omega arith), below 0x41 0x46 x (omega arith), below 0x61 0x66 x (omega arith))
 
 returns-6 : tie.Need-returns-6
 unfolding digitOf
 returns-6 c =
-    simp (
-      above 0x30 0x39 (c .before .before .before .before .before .args .c) (omega arith),
-      above 0x41 0x46 (c .before .before .before .before .before .args .c) (omega arith),
-      below 0x61 0x66 (c .before .before .before .before .before .args .c) (omega arith),
-    )
+    let x = past-upper (c .before) in
+    simp (above 0x30 0x39 x (omega arith), above 0x41 0x46 x (omega arith), below 0x61 0x66 x (omega arith))
 
 returns-7 : tie.Need-returns-7
 unfolding digitOf
 returns-7 c =
-    simp (
-      above 0x30 0x39 (c .before .before .before .before .before .before .args .c) (omega arith),
-      above 0x41 0x46 (c .before .before .before .before .before .before .args .c) (omega arith),
-      above 0x61 0x66 (c .before .before .before .before .before .before .args .c) (omega arith),
-    )
+    let x = past-upper (c .before .before) in
+    simp (above 0x30 0x39 x (omega arith), above 0x41 0x46 x (omega arith), above 0x61 0x66 x (omega arith))
 
 pub digit-spec : {M : Type 1} → statement M
 digit-spec =

@@ -60,6 +60,13 @@ module _ (address kind : ℕ) (s old : List ℕ) (few : length s ≤ 16) (room :
       ∙ ap (λ (l : List ℕ). overlay (l ++ (0x0A ∷ [])) old)
       (t ∙ ap (λ (y : ℕ). 0x3A ∷ spelt (content address kind s ++ (y ∷ []))) ex)
 
+-- where the head was summed, and the entry
+abbrev summed-at : tie.After-complement → tie.After-sum
+summed-at c = c .before .before .before
+
+abbrev entry : tie.After-sum → tie.Start
+entry c = c .before .before .before .before
+
 spell-requires : tie.Need-spell-requires
 spell-requires c κs = simp length-set (omega arith)
 
@@ -70,44 +77,49 @@ spell-requires-2 c κs =
 
 spell-requires-3 : tie.Need-spell-requires-3
 spell-requires-3 c κs =
-    let spell = c .before .before .before .before .before .before .before .before .spell in
-    omega (arith, c .before .before .before .before .spell2 .kept .0, simp length-set at (spell .kept .0))
+    let bytes = c .before .before .before .before in
+    let head = bytes .before .before .before .before in
+    omega (arith, bytes .spell2 .kept .0, simp length-set at (head .spell .kept .0))
 
 slice-write-buffer-2 : tie.Need-slice-write-buffer-2
 slice-write-buffer-2 c =
-    let spell2 = c .before .before .before .before .before .before .before .spell2 in
-    let p = c .before .before .before .before .before .before .before .before .before .before .before in
-    let spell = p .spell in
-    omega (arith, c .before .before .spell3 .kept .0, spell2 .kept .0, simp length-set at (spell .kept .0))
+    let check = c .before .before in
+    let bytes = check .before .before .before .before .before in
+    let head = bytes .before .before .before .before in
+    omega (
+      arith,
+      check .spell3 .kept .0,
+      bytes .spell2 .kept .0,
+      simp length-set at (head .spell .kept .0),
+      entry (summed-at (head .before .before .before)) .pre,
+    )
 
 same-length : tie.Need-same-length
 same-length c =
-    let spell2 = c .before .before .before .before .before .before .before .spell2 in
-    let p = c .before .before .before .before .before .before .before .before .before .before .before in
-    let spell = p .spell in
+    let check = c .before .before in
+    let bytes = check .before .before .before .before .before in
+    let head = bytes .before .before .before .before in
     simp length-set
-    (c .before .before .spell3 .kept .0 ∙ spell2 .kept .0 ∙ simp length-set at (spell .kept .0))
+    (check .spell3 .kept .0 ∙ bytes .spell2 .kept .0 ∙ simp length-set at (head .spell .kept .0))
 
 returns : tie.Need-returns
 returns c =
-    let spell2 = c .before .before .before .before .before .before .before .spell2 in
-    let p = c .before .before .before .before .before .before .before .before .before .before .before in
-    let spell = p .spell in
-    let complement = p .before .before .before .complement in
-    let wrapping-add-u8 = p .before .before .before .before .wrapping-add-u8 in
-    let sum2 = p .before .before .before .before .before .sum2 in
-    let sum = p .before .before .before .before .before .before .sum in
-    let q = p .before .before .before .before .before .before .before .before .before .before in
-    let pre = q .pre in
-    let a = q .args in
+    let check = c .before .before in
+    let bytes = check .before .before .before .before .before in
+    let head = bytes .before .before .before .before in
+    let closed = head .before .before .before in
+    let total = closed .before in
+    let summed = summed-at closed in
+    let pre = entry summed .pre in
+    let a = entry summed .args in
     let s = a .bytes .now in
-    let head = length s ∷ a .address / 256 ∷ a .address % 256 ∷ a .kind ∷ [] in
-    let total = checksum-parts head s (wrapping-add-u8 .result)
-    (omega (arith, wrapping-add-u8 .ensures, sum .ensures, sum2 .ensures)) in (
+    let four = length s ∷ a .address / 256 ∷ a .address % 256 ∷ a .kind ∷ [] in
+    let sums = checksum-parts four s (total .wrapping-add-u8 .result)
+    (omega (arith, total .wrapping-add-u8 .ensures, summed .sum .ensures, total .before .sum2 .ensures)) in (
       sym (text-length (a .address) (a .kind) s (a .buffer .now) (pre .0) (pre .1)),
       print-done (a .address) (a .kind) s (a .buffer .now) (pre .0) (pre .1) _ _ _ _
-          (omega (arith, complement .ensures) ∙ total) (spell .ensures) (spell2 .ensures)
-          (c .before .before .spell3 .ensures),
+          (omega (arith, closed .complement .ensures) ∙ sums) (head .spell .ensures) (bytes .spell2 .ensures)
+          (check .spell3 .ensures),
     )
 
 pub print-spec : {M : Type 1} → statement M

@@ -20,18 +20,22 @@ log-put a b old new n e f = rw e f
 
 returns : tie.Need-returns
 returns c =
+    let printed = c .before .before in
+    let shown = printed .before .before .before in
     log-put _ _ _ _ _
-    (sym (c .before .before .before .before .before .before .before .read .ensures)
-    ∙ ap paperReading (c .before .before .before .before .before .x .given .1))
-    (c .before .before .record-line .ensures)
+    (sym (shown .before .before .read .ensures) ∙ ap paperReading (shown .x .given .1))
+    (printed .record-line .ensures)
 
 returns-2 : tie.Need-returns-2
 returns-2 c =
+    let printed = c .before .before in
+    let numbered = printed .before in
+    let shown = numbered .before .before .before in
     log-put _ _ _ _ _
-    (sym (c .before .before .before .before .before .before .before .before .read .ensures)
-    ∙ ap paperReading (c .before .before .before .before .before .before .why .given .1)
-    ∙ ap refused (sym (c .before .before .before .number .ensures)))
-    (c .before .before .refusal-line .ensures)
+    (sym (shown .before .before .read .ensures)
+    ∙ ap paperReading (shown .why .given .1)
+    ∙ ap refused (sym (numbered .number .ensures)))
+    (printed .refusal-line .ensures)
 
 pub log-line-spec : {M : Type 1} → statement M
 log-line-spec =

@@ -5,7 +5,7 @@ use mathlib.Core.Path.{_≡_}
 use native.Mathlib.Omega.{arith}
 use lib.ListN.{length}
 use Rattle.basis.specs.Lists.{overlay}
-use Rattle.listing.specs.Lines.{recordLine}
+use Rattle.listing.specs.Lines.{recordLine, logRoom}
 use Rattle.listing.proofs.Buffers.{Field, put-first, put-next, put-over}
 use borrow.Author.Needs.{needs}
 use Rattle.listing.proofs.log.record_line.Statement.{statement}
@@ -25,58 +25,70 @@ module _ (old u v w x y b1 b2 b3 b4 b5 : List ℕ) (e1 e2 e3 e4 e5 r1 r2 r3 r4 r
       let e : (((u ++ v) ++ w) ++ x) ++ y ≡ u ++ (v ++ (w ++ (x ++ y))) = simp append-assoc in
       rw e at (put-over old ((((u ++ v) ++ w) ++ x) ++ y) b5 e5 p5 (omega (arith, f5 .1 .1)))
 
-last-field-requires : tie.Need-last-field-requires
-last-field-requires c κs =
-    let d4 = c .before .before .before .before .before in
-    let d3 = d4 .before .before .before .before .before .before in
-    let d2 = d3 .before .before .before .before .before .before in
-    let d1 = d2 .before .before .before .before .before .before in
-    omega (
-      arith,
-      d1 .field .ensures .1 .1,
-      d2 .field2 .ensures .1 .1,
-      d3 .field3 .ensures .1 .1,
-      d4 .field4 .ensures .1 .1,
-      d1 .field .kept .0,
-      d2 .field2 .kept .0,
-      d3 .field3 .kept .0,
-      d4 .field4 .kept .0,
-      d1 .before .before .before .before .before .pre,
+-- where each number was written, seen from where the next one's word was lent, and the entry
+abbrev entry : tie.After-field → tie.Start
+entry c = c .before .before .before .before .before
+
+abbrev version-at : tie.After-field-arg3 → tie.After-field
+version-at c = c .before .before .before
+
+abbrev outcome-at : tie.After-field-arg5 → tie.After-field2
+outcome-at c = c .before .before .before
+
+abbrev acknowledged-at : tie.After-field-arg7 → tie.After-field3
+acknowledged-at c = c .before .before .before
+
+abbrev total-at : tie.After-last-field-arg → tie.After-field4
+total-at c = c .before .before .before
+
+-- how far the numbers reach, that the buffer is as long as it was, and that this is enough
+reach : (c : tie.After-field4) →
+    let acknowledged = acknowledged-at (c .before .before .before) in
+    let outcome = outcome-at (acknowledged .before .before .before) in
+    let start = entry (version-at (outcome .before .before .before)) in
+    (c .field4 .result ≤ 111) × (length (c .field4 .last .0) ≡ length (start .args .buffer .now)) ×
+    (logRoom ≤ length (start .args .buffer .now))
+reach c =
+    let acknowledged = acknowledged-at (c .before .before .before) in
+    let outcome = outcome-at (acknowledged .before .before .before) in
+    let version = version-at (outcome .before .before .before) in (
+      omega (
+        arith,
+        version .field .ensures .1 .1,
+        outcome .field2 .ensures .1 .1,
+        acknowledged .field3 .ensures .1 .1,
+        c .field4 .ensures .1 .1,
+      ),
+      omega (
+        arith,
+        version .field .kept .0,
+        outcome .field2 .kept .0,
+        acknowledged .field3 .kept .0,
+        c .field4 .kept .0,
+      ),
+      entry version .pre,
     )
+
+last-field-requires : tie.Need-last-field-requires
+last-field-requires c κs = omega (arith, reach (total-at (c .before .before)))
 
 same-length : tie.Need-same-length
 same-length c =
-    let d4 = c .before .before .before .before .before .before .before .before in
-    let d3 = d4 .before .before .before .before .before .before in
-    let d2 = d3 .before .before .before .before .before .before in
-    let d1 = d2 .before .before .before .before .before .before in
-    omega (
-      arith,
-      d1 .field .kept .0,
-      d2 .field2 .kept .0,
-      d3 .field3 .kept .0,
-      d4 .field4 .kept .0,
-      c .before .before .last-field .kept .0,
-    )
+    let done = c .before .before in
+    let total = total-at (done .before .before .before) in
+    omega (arith, reach total .1, done .last-field .kept .0)
 
 returns : tie.Need-returns
 unfolding recordLine
 returns c =
-    let d5 = c .before .before in
-    let d4 = d5 .before .before .before .before .before .before in
-    let d3 = d4 .before .before .before .before .before .before in
-    let d2 = d3 .before .before .before .before .before .before in
-    let d1 = d2 .before .before .before .before .before .before in
-    five-fields _ _ _ _ _ _ _ _ _ _ _ _ _ _ _ _ _ _ _ _ _ (d1 .field .ensures) (d2 .field2 .ensures)
-    (d3 .field3 .ensures) (d4 .field4 .ensures) (d5 .last-field .ensures)
-    (omega (
-      arith,
-      d1 .field .ensures .1 .1,
-      d2 .field2 .ensures .1 .1,
-      d3 .field3 .ensures .1 .1,
-      d4 .field4 .ensures .1 .1,
-      d1 .before .before .before .before .before .pre,
-    ))
+    let done = c .before .before in
+    let total = total-at (done .before .before .before) in
+    let acknowledged = acknowledged-at (total .before .before .before) in
+    let outcome = outcome-at (acknowledged .before .before .before) in
+    let version = version-at (outcome .before .before .before) in
+    five-fields _ _ _ _ _ _ _ _ _ _ _ _ _ _ _ _ _ _ _ _ _ (version .field .ensures)
+    (outcome .field2 .ensures) (acknowledged .field3 .ensures) (total .field4 .ensures)
+    (done .last-field .ensures) (omega (arith, reach total))
 
 pub record-line-spec : {M : Type 1} → statement M
 record-line-spec =

@@ -25,6 +25,11 @@ decimal-room n h = ap length (decimal-more n h) ∙ length-append (decimalOf (n 
 decimal-some : (n at r : ℕ) → n < 10 → at + length (decimalOf n) ≤ r → at < r
 decimal-some n at r h l = let e = ap length (decimal-one n h) in omega arith
 
+-- and that for the last digit, behind the others
+decimal-behind : (n at e r l : ℕ) → 10 ≤ n → at + length (decimalOf n) ≤ r
+    → e ≡ at + length (decimalOf (n / 10)) → l ≡ r → e < l
+decimal-behind n at e r l h room ee el = omega (arith, decimal-room n h)
+
 -- a number of one digit, and one more digit of a longer one
 module _ (b : List ℕ) (at n : ℕ) where
   decimal-last : n < 10 → Field b at (decimalOf n) (set b at (48 + n)) (at + 1) (at + 20)
@@ -49,31 +54,11 @@ decimal-at t = and 1 decimal-kinds.ps (is 1 decimal-kinds.ps μ-decimal t) decim
 abbrev decimal-below : ℕ → In 1 decimal-kinds.ps
 decimal-below t = and 1 decimal-kinds.ps (falls 1 decimal-kinds.ps _<_ μ-decimal t) decimal.Pre
 
-decimal-cast-buffer :
-    (t : ℕ) →
-    decimal-lts.Need-cast-buffer (decimal-below t, decimal.Post) (decimal-at t) decimal.Post
-decimal-cast-buffer t c = search needs
-
-decimal-add-buffer :
-    (t : ℕ) →
-    decimal-lts.Need-add-buffer (decimal-below t, decimal.Post) (decimal-at t) decimal.Post
-decimal-add-buffer t c = search needs
-
 decimal-slice-write-buffer : (t : ℕ) → decimal-lts.Need-slice-write-buffer (
   decimal-below t,
   decimal.Post,
 ) (decimal-at t) decimal.Post
 decimal-slice-write-buffer t c = decimal-some _ _ _ (c .if1 .taken) (c .before .before .pre .1)
-
-decimal-add-result :
-    (t : ℕ) →
-    decimal-lts.Need-add-result (decimal-below t, decimal.Post) (decimal-at t) decimal.Post
-decimal-add-result t c = search needs
-
-decimal-same-length :
-    (t : ℕ) →
-    decimal-lts.Need-same-length (decimal-below t, decimal.Post) (decimal-at t) decimal.Post
-decimal-same-length t c = search needs
 
 decimal-returns :
     (t : ℕ) → decimal-lts.Need-returns (decimal-below t, decimal.Post) (decimal-at t) decimal.Post
@@ -92,55 +77,30 @@ decimal-decimal-requires t c κs = (
   ),
 )
 
-decimal-cast-buffer-2 :
-    (t : ℕ) →
-    decimal-lts.Need-cast-buffer-2 (decimal-below t, decimal.Post) (decimal-at t) decimal.Post
-decimal-cast-buffer-2 t c = search needs
-
-decimal-add-buffer-2 :
-    (t : ℕ) →
-    decimal-lts.Need-add-buffer-2 (decimal-below t, decimal.Post) (decimal-at t) decimal.Post
-decimal-add-buffer-2 t c = search needs
-
 decimal-slice-write-buffer-2 : (t : ℕ) → decimal-lts.Need-slice-write-buffer-2 (
   decimal-below t,
   decimal.Post,
 ) (decimal-at t) decimal.Post
 decimal-slice-write-buffer-2 t c =
-    let s = c .before .before .before .before .before .before in
-    omega (
-      arith,
-      decimal-room (s .args .n) (c .before .before .before .before .if1 .left),
-      s .pre .1,
-      c .before .before .decimal .ensures .0,
-      c .before .before .decimal .kept .0,
-    )
+    let called = c .before .before in
+    let tested = called .before .before in
+    decimal-behind _ _ _ _ _ (tested .if1 .left) (tested .before .before .pre .1) (called .decimal .ensures .0)
+    (called .decimal .kept .0)
 
 decimal-add-result-2 :
     (t : ℕ) →
     decimal-lts.Need-add-result-2 (decimal-below t, decimal.Post) (decimal-at t) decimal.Post
-decimal-add-result-2 t c =
-    let s = c .before .before .before .before .before .before in
-    omega (
-      arith,
-      decimal-room (s .args .n) (c .before .before .before .before .if1 .left),
-      s .pre .1,
-      c .before .before .decimal .ensures .0,
-      c .before .before .decimal .kept .0,
-    )
-
-decimal-same-length-2 :
-    (t : ℕ) →
-    decimal-lts.Need-same-length-2 (decimal-below t, decimal.Post) (decimal-at t) decimal.Post
-decimal-same-length-2 t c = search needs
+decimal-add-result-2 t c = omega (arith, decimal-slice-write-buffer-2 t c)
 
 decimal-returns-2 :
     (t : ℕ) →
     decimal-lts.Need-returns-2 (decimal-below t, decimal.Post) (decimal-at t) decimal.Post
 decimal-returns-2 t c =
-    let s = c .before .before .before .before .before .before in
-    decimal-next _ _ _ _ _ _ (c .before .before .before .before .if1 .left)
-    (decimal-most (s .args .n) (s .fits .n .fits)) (c .before .before .decimal .ensures)
+    let called = c .before .before in
+    let tested = called .before .before in
+    let entry = tested .before .before in
+    decimal-next _ _ _ _ _ _ (tested .if1 .left) (decimal-most (entry .args .n) (entry .fits .n .fits))
+    (called .decimal .ensures)
 
 pub +decimal-spec : {M : Type 1} → statement M
 +decimal-spec =
@@ -150,16 +110,16 @@ pub +decimal-spec : {M : Type 1} → statement M
     (decimal-below t, decimal.Post)
     (decimal-at t)
     decimal.Post
-    (decimal-cast-buffer t)
-    (decimal-add-buffer t)
+    (λ c. search needs)
+    (λ c. search needs)
     (decimal-slice-write-buffer t)
-    (decimal-add-result t)
-    (decimal-same-length t)
+    (λ c. search needs)
+    (λ c. search needs)
     (decimal-returns t)
     (decimal-decimal-requires t)
-    (decimal-cast-buffer-2 t)
-    (decimal-add-buffer-2 t)
+    (λ c. search needs)
+    (λ c. search needs)
     (decimal-slice-write-buffer-2 t)
     (decimal-add-result-2 t)
-    (decimal-same-length-2 t)
+    (λ c. search needs)
     (decimal-returns-2 t)

@@ -23,13 +23,22 @@ field-put b at n w c d e ec f = (
 
 decimal-requires : tie.Need-decimal-requires
 decimal-requires c κs =
-    let s = c .before .before .before .before .before .before .before in
-    omega (arith, decimal-most (s .args .n) (s .fits .n .fits), c .before .before .before .copy .kept .0)
+    let copied = c .before .before .before in
+    let entry = copied .before .before .before .before in
+    omega (arith, decimal-most (entry .args .n) (entry .fits .n .fits), copied .copy .kept .0)
 
 returns : tie.Need-returns
 returns c =
-    field-put _ _ _ _ _ _ _ (c .before .before .before .before .before .before .copy .ensures)
-    (c .before .before .decimal .ensures)
+    let printed = c .before .before in
+    let copied = printed .before .before .before .before in
+    field-put _ _ _ _ _ _ _ (copied .copy .ensures) (printed .decimal .ensures)
 
 pub field-spec : {M : Type 1} → statement M
-field-spec = tie.close (tie.spec (λ c κs. search needs) (λ c. search needs) decimal-requires (λ c. search needs) returns)
+field-spec =
+    tie.close
+    (tie.spec
+    (λ c κs. search needs)
+    (λ c. search needs)
+    decimal-requires
+    (λ c. search needs)
+    returns)

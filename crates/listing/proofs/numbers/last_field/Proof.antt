@@ -20,9 +20,16 @@ last-put b at n w c e f = (
 
 returns : tie.Need-returns
 returns c =
-    let a = c .before .before .before .before .before .before .args in
-    last-put (a .buffer .now) (a .at) (a .n) (a .word .now) _ _ (c .before .before .field .ensures)
+    let printed = c .before .before in
+    let a = printed .before .before .before .before .args in
+    last-put (a .buffer .now) (a .at) (a .n) (a .word .now) _ _ (printed .field .ensures)
 
 pub last-field-spec : {M : Type 1} → statement M
 last-field-spec =
-    tie.close (tie.spec (λ c κs. search needs) (λ c. search needs) (λ c. search needs) (λ c. search needs) returns)
+    tie.close
+    (tie.spec
+    (λ c κs. search needs)
+    (λ c. search needs)
+    (λ c. search needs)
+    (λ c. search needs)
+    returns)

@@ -28,14 +28,12 @@ refused-put x old b c d e q r s f g p h =
 
 returns : tie.Need-returns
 returns c =
-    let f = c .before .before .before .before .before .before .before .before .field .ensures in
-    refused-put _ _ _ _ _ _ _ _ _ f (c .before .before .last-field .ensures)
-    (c .before .before .before .number .ensures)
-    (omega (
-      arith,
-      f .1 .1,
-      c .before .before .before .before .before .before .before .before .before .before .before .before .pre,
-    ))
+    let printed = c .before .before in
+    let numbered = printed .before in
+    let line = numbered .before .before .before .before .before in
+    let entry = line .before .before .before .before in
+    refused-put _ _ _ _ _ _ _ _ _ (line .field .ensures) (printed .last-field .ensures)
+    (numbered .number .ensures) (omega (arith, line .field .ensures .1 .1, entry .pre))
 
 pub refusal-at-spec : {M : Type 1} → statement M
 refusal-at-spec =

@@ -9,9 +9,10 @@ use Rattle.listing.proofs.refusals.refusal_line.Tie as tie
 returns : tie.Need-returns
 unfolding refusalLine
 returns c =
-    let f = c .before .before .last-field .ensures in
-    put-over _ _ _ _ (put-first _ _ _ _ _ f)
-    (omega (arith, f .1 .1, c .before .before .before .before .before .before .pre))
+    let printed = c .before .before in
+    let entry = printed .before .before .before .before in
+    let f = printed .last-field .ensures in
+    put-over _ _ _ _ (put-first _ _ _ _ _ f) (omega (arith, f .1 .1, entry .pre))
 
 pub refusal-line-spec : {M : Type 1} → statement M
 refusal-line-spec =

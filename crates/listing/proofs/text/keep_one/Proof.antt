@@ -13,4 +13,11 @@ returns-2 : tie.Need-returns-2
 returns-2 c = (sym (keep-more _ _ (c .if1 .left)), search needs)
 
 pub keep-one-spec : {M : Type 1} → statement M
-keep-one-spec = tie.close (tie.spec returns (λ c. search needs) (λ c. search needs) (λ c. search needs) returns-2)
+keep-one-spec =
+    tie.close
+    (tie.spec
+    returns
+    (λ c. search needs)
+    (λ c. search needs)
+    (λ c. search needs)
+    returns-2)

@@ -9,7 +9,8 @@ use Rattle.basis.specs.Laws.Refusals.{leaves, writes, alike}
 use Rattle.basis.specs.Refusals.{refused, given, first}
 use Rattle.packet.specs.Laws.Packet.{packet-length, build-small, build-table, build-packet}
 use Rattle.packet.specs.Laws.Table.{table-holds, shape-short}
-use Rattle.packet.specs.Packet.{packet, buildOf, dataMost, packetMost}
+use Rattle.basis.specs.Board.{dataMost}
+use Rattle.packet.specs.Packet.{packet, buildOf, packetMost}
 use Rattle.packet.specs.Paper.{paperRow}
 use Rattle.packet.specs.Table.{table}
 use Rattle.packet.proofs.build.build.Statement.{statement}

@@ -45,24 +45,11 @@ loop-holds : tie.Need-loop-holds Inv-loop μ-loop
 unfolding gathered
 loop-holds c = search needs
 
-mul-out : tie.Need-mul-out Inv-loop μ-loop
-mul-out c =
-    omega (
-      arith,
-      gathered-fits (15 - c .before .before .args .left) (c .before .before .args .b) (c .before .loop .i)
-          (c .loop-test .taken),
-    )
-
-shr-out : tie.Need-shr-out Inv-loop μ-loop
-shr-out c = omega arith
-
-add-out : tie.Need-add-out Inv-loop μ-loop
-add-out c =
-    omega (
-      arith,
-      gathered-fits (15 - c .before .before .args .left) (c .before .before .args .b) (c .before .loop .i)
-          (c .loop-test .taken),
-    )
+room : (c : tie.In-loop Inv-loop μ-loop)
+    → let a = c .before .before .args in gathered (15 - a .left) (a .b) (c .before .loop .i) < 128
+room c =
+    let a = c .before .before .args in
+    gathered-fits (15 - a .left) (a .b) (c .before .loop .i) (c .loop-test .taken)
 
 loop-again : tie.Need-loop-again Inv-loop μ-loop
 unfolding gathered
@@ -83,10 +70,10 @@ rotated-spec =
     loop-holds
     (λ c. search needs)
     (λ c. search needs)
-    mul-out
+    (λ c. omega (arith, room c))
     (λ c. search needs)
-    shr-out
-    add-out
+    (λ c. omega arith)
+    (λ c. omega (arith, room c))
     (λ c. search needs)
     (λ c. search needs)
     loop-again

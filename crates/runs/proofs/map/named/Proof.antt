@@ -9,4 +9,11 @@ unfolding named
 returns c = search needs
 
 pub named-spec : {M : Type 1} → statement M
-named-spec = tie.close (tie.spec (λ c. search needs) (λ c. search needs) (λ c. search needs) (λ c. search needs) returns)
+named-spec =
+    tie.close
+    (tie.spec
+    (λ c. search needs)
+    (λ c. search needs)
+    (λ c. search needs)
+    (λ c. search needs)
+    returns)

@@ -1,46 +1,39 @@
--- `next_touched` meets its contract: the search from the start gives what the search from here does.
-use Prim.Native.Nat.{_-_}
-use mathlib.Core.Path.{_≡_, refl, sym, _∙_}
+-- `next_touched` meets its contract: the page of the lowest named byte is the lowest touched page.
+use Prim.Native.Nat.{ℕ, _-_, _≤_}
+use mathlib.Core.List.{List}
+use mathlib.Core.Path.{_≡_, sym, ap, _∙_}
 use native.Mathlib.Omega.{arith}
 use borrow.Author.Needs.{needs}
+use Rattle.basis.specs.Units.{pageOf, startOf}
+use Rattle.runs.specs.Map.{named}
 use Rattle.runs.specs.Pages.{touched}
 use Rattle.runs.specs.Runs.{next}
-use Rattle.runs.proofs.Turns.{next-end, next-stop, next-go}
+use Rattle.runs.specs.Laws.Pages.{next-page}
+use Rattle.runs.proofs.Turns.{next-end}
 use Rattle.runs.proofs.pages.next_touched.Statement.{statement}
 use Rattle.runs.proofs.pages.next_touched.Tie as tie
 
-abbrev Inv-loop : tie.InvT-loop
-Inv-loop map end at₀ at = next (touched map) at₀ (end - at₀) ≡ next (touched map) at (end - at)
+-- the page of the byte s that is found between the starts of two pages
+found : (m : List ℕ) (q n a b s r : ℕ) → q ≤ n → a ≡ startOf q → b ≡ startOf n
+    → s ≡ next (named m) a (b - a) → r ≡ pageOf s → r ≡ next (touched m) q (n - q)
+found m q n a b s r g ea eb es er = er ∙ ap pageOf (rw (ea, eb) at es) ∙ sym (next-page m q n g)
 
-abbrev μ-loop : tie.MeasureT-loop
-μ-loop map end at₀ at = end - at
+returns : tie.Need-returns
+returns c = sym (next-end _ _ _ (c .if1 .taken))
 
-loop-holds : tie.Need-loop-holds Inv-loop μ-loop
-loop-holds c = refl
-
-returns : tie.Need-returns Inv-loop μ-loop
-returns c =
-    sym (c .before .before .before .loop .inv
-    ∙ next-stop _ _ _ (omega arith) (sym (c .before .touched .ensures) ∙ c .if1 .taken))
-
-loop-again : tie.Need-loop-again Inv-loop μ-loop
-loop-again c =
-    c .before .before .before .loop .inv
-    ∙ next-go _ _ _ (omega arith) (sym (c .before .touched .ensures) ∙ c .if1 .left)
-
-returns-2 : tie.Need-returns-2 Inv-loop μ-loop
-returns-2 c = sym (c .before .loop .inv ∙ next-end _ _ _ (omega arith))
+returns-2 : tie.Need-returns-2
+returns-2 c =
+    let starts = c .before .before in
+    found _ _ _ _ _ _ _ (omega arith) (starts .before .start .ensures) (starts .start2 .ensures)
+    (c .before .next-named .ensures) (c .page .ensures)
 
 pub next-touched-spec : {M : Type 1} → statement M
 next-touched-spec =
     tie.close
     (tie.spec
-    Inv-loop
-    μ-loop
-    loop-holds
-    (λ c κs. search needs)
     returns
-    (λ c. search needs)
-    (λ c. search needs)
-    loop-again
+    (λ c κs. search needs)
+    (λ c κs. search needs)
+    (λ c κs. search needs)
+    (λ c κs. search needs)
     returns-2)

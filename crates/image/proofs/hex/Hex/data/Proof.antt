@@ -61,8 +61,11 @@ lent image map i m a d b n r t ea en er p = rw (← ea, ← en, ← er) p
 abbrev count-at : tie.After-pair-at → tie.Else1
 count-at c = c .before .before .before
 
+abbrev counted-at : tie.After-wide → tie.Start
+counted-at c = c .before .before .before .before .before
+
 abbrev entry : tie.Else1 → tie.Start
-entry c = c .before .before .before .before .before .before
+entry c = counted-at (c .before)
 
 abbrev bytes-at : tie.Else1 → List ℕ
 bytes-at c = entry c .args .bytes .now

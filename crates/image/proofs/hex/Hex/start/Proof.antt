@@ -1,16 +1,19 @@
 -- `start` meets its contract: its test is that of the table, then both are filled.
 use Prim.Native.Nat.{ℕ, _/_}
 use mathlib.Core.Bool.{true, false}
-use mathlib.Core.Path.{_≡_, refl, sym, _∙_}
+use mathlib.Core.Path.{_≡_, sym, _∙_}
 use mathlib.Core.List.{List}
-use lib.ListN.{length, replicate}
-use borrow.Author.Tests.{not-true, not-false, eq-eqb}
+use native.Mathlib.Omega.{arith}
+use lib.ListN.{length, replicate, length-replicate}
+use borrow.Author.Tests.{not-true, not-false}
+use Rattle.basis.specs.Lists.{copyOf}
+use Rattle.basis.specs.Laws.Lists.{copy-all}
 use Rattle.basis.specs.Laws.Units.{sizes-right}
 use Rattle.basis.specs.Units.{rightSizesIn}
 use Rattle.basis.specs.Refusals.{refused, given, first}
 use Rattle.image.specs.Hex.{settledAs, settled, fresh, startIn}
 use borrow.Author.Needs.{needs}
-use Rattle.basis.specs.Board.{flashSize}
+use Rattle.basis.specs.Board.{flashSize, mapSize}
 use Rattle.image.proofs.hex.Hex.start.Statement.{statement}
 use Rattle.image.proofs.hex.Hex.start.Tie as tie
 
@@ -21,22 +24,47 @@ module _ (size : ℕ) (image map : List ℕ) where
   start-size e = simp e
 
   start-given : (i m : List ℕ) → rightSizesIn size (length image) (length map) ≡ true
-      → i ≡ replicate (length image) 0xFF → m ≡ replicate (length map) 0
+      → i ≡ copyOf image 0 (replicate size 0xFF) → m ≡ copyOf map 0 (replicate (size / 8) 0)
       → settledAs (given fresh) i m ≡ settled (startIn size image map) image map
   unfolding first startIn
   start-given i m e ei em =
       let s = sizes-right size (length image) (length map) e in
-      simp (ei, em, s .0, s .1, eq-eqb size size refl, eq-eqb (size / 8) (size / 8) refl)
+      simp (
+        ei ∙ copy-all image (replicate size 0xFF) (simp length-replicate (sym (s .0))),
+        em ∙ copy-all map (replicate (size / 8) 0) (simp length-replicate (sym (s .1))),
+        e,
+      )
+
+-- what the test says of the entry
+abbrev entry : tie.Else1 → tie.Start
+entry c = c .before .before .before .before
+
+sized : (c : tie.Else1) → let a = entry c .args in
+    rightSizesIn flashSize (length (a .image .now)) (length (a .map .now)) ≡ true
+sized c = sym (c .before .right-sizes .ensures) ∙ not-false _ (c .if1 .left)
+
+right : (c : tie.Else1) → let a = entry c .args in
+    (length (a .image .now) ≡ flashSize) × (length (a .map .now) ≡ mapSize)
+right c = sizes-right flashSize _ _ (sized c)
+
+-- where the test was passed, seen from the first filling
+abbrev tested : tie.After-fill → tie.Else1
+tested c = c .before .before
 
 returns : tie.Need-returns
 returns c = start-size flashSize _ _ (sym (c .before .right-sizes .ensures) ∙ not-true _ (c .if1 .taken))
 
+fill-requires : tie.Need-fill-requires
+fill-requires c κs = omega (arith, right (c .before) .0)
+
+fill-requires-2 : tie.Need-fill-requires-2
+fill-requires-2 c κs = omega (arith, right (tested (c .before .before .before)) .1)
+
 returns-2 : tie.Need-returns-2
 returns-2 c =
-    let tested = c .before .before .before .before .before .before .before .before in
-    start-given flashSize _ _ _ _
-    (sym (tested .before .right-sizes .ensures) ∙ not-false _ (tested .if1 .left))
-    (c .before .before .before .before .before .before .fill .ensures) (c .before .before .fill2 .ensures)
+    let second = c .before .before in
+    let first = second .before .before .before .before in
+    start-given flashSize _ _ _ _ (sized (tested first)) (first .fill .ensures) (second .fill2 .ensures)
 
 pub start-spec : {M : Type 1} → statement M
 start-spec =
@@ -44,8 +72,8 @@ start-spec =
     (tie.spec
     (λ c κs. search needs)
     returns
-    (λ c κs. search needs)
-    (λ c κs. search needs)
+    fill-requires
+    fill-requires-2
     (λ c. search needs)
     (λ c. search needs)
     returns-2)

@@ -32,8 +32,11 @@ module _ (size : ℕ) (h : Hex) (line image map : List ℕ) (p : length image �
   take-applied b e s = rw (record-cut size h image map line (right-sizes size _ _ p q) going, e, s)
 
 -- the entry, and what is known where the characters passed
+abbrev lent-at : tie.After-characters-arg → tie.Start
+lent-at c = c .before .before .before .before .before
+
 abbrev entry : tie.After-characters → tie.Start
-entry c = c .before .before .before .before .before .before
+entry c = lent-at (c .before)
 
 abbrev checked-at : tie.After-enum-told → tie.After-characters
 checked-at c = c .before .before .before .before
@@ -70,11 +73,12 @@ apply-requires c κs =
 
 returns-2 : tie.Need-returns-2
 returns-2 c =
-    let told = c .before .before .before .before .before .before .before .before in
+    let applied = c .before .before .before .before in
+    let told = applied .before .before .before .before in
     let start = entry (checked-at told) in
     let pre = start .pre in
     let characters = checked-at told .characters in
-    c .before .before .before .before .apply .ensures
+    applied .apply .ensures
     ∙ ap (λ x. settled x (now (start .args .image)) (now (start .args .map)))
     (take-applied flashSize _ _ _ _ (pre .1) (pre .2) (pre .3) _ (passed told)
     (ap (take (length (line-at told) / 2)) (characters .ensures .1)

@@ -23,9 +23,10 @@ module _ (size : ℕ) (r : Reading) (line image map : List ℕ) where
 
 returns : tie.Need-returns
 returns c =
-    byte-open _ _ _ _ _ _ _ _
-    (c .before .before .before .before .before .before .before .before .before .before .before .self .given .1)
-    (c .before .before .before .before .before .before .byte .ensures)
+    let image-back = c .before .before .before in
+    let fed = image-back .before .before .before in
+    let shown = fed .before .before .before .before .before in
+    byte-open _ _ _ _ _ _ _ _ (shown .self .given .1) (fed .byte .ensures)
 
 returns-2 : tie.Need-returns-2
 returns-2 c = byte-refused _ _ _ _ _ _ _ (c .before .self2 .given .1)

@@ -54,9 +54,10 @@ Inv-loop bytes line₀ image₀ map₀ reading₀ i₀ line image map reading i 
 abbrev μ-loop : tie.MeasureT-loop
 μ-loop bytes line₀ image₀ map₀ reading₀ i₀ line image map reading i = length bytes - i
 
--- a turn's places, the last first: the byte's, the stretch's, the test's; and the entry
-abbrev stretch-at : tie.After-byte Inv-loop μ-loop → tie.After-keep Inv-loop μ-loop
-stretch-at c = c .before .before .before .before .before .before
+-- a turn's places, the last first: the stretch's, seen from where the byte lends the line; the test's; and
+-- the entry
+abbrev stretch-at : tie.After-byte-arg Inv-loop μ-loop → tie.After-keep Inv-loop μ-loop
+stretch-at c = c .before .before .before
 
 abbrev test-at : tie.After-keep Inv-loop μ-loop → tie.In-loop Inv-loop μ-loop
 test-at c = c .before .before .before
@@ -69,13 +70,14 @@ loop-again c = (
   search needs,
   search needs,
   search needs,
-  (let byte-at = c .before .before .before .before in
-      let keep = stretch-at byte-at .keep in
-      let test = test-at (stretch-at byte-at) in
+  (let fed = c .before .before .before .before in
+      let stretch = stretch-at (fed .before .before .before) in
+      let keep = stretch .keep in
+      let test = test-at stretch in
       let turn = test .before in
       feed-next flashSize _ _ _ _ _ _ _ (test .loop-test .taken)
       (rest-lent (entry turn .args .bytes .now) (turn .loop .i)) (keep .ensures .0) (keep .ensures .1 _ _)
-      (byte-at .byte .ensures)
+      (fed .byte .ensures)
       ∙ turn .loop .inv .3),
 )
 

@@ -20,4 +20,11 @@ returns-2 : tie.Need-returns-2
 returns-2 c = shut-stopped _ _ (ap paperReading (c .before .self2 .given .1))
 
 pub shut-spec : {M : Type 1} → statement M
-shut-spec = tie.close (tie.spec (λ c. search needs) (λ c κs. search needs) (λ c. search needs) returns returns-2)
+shut-spec =
+    tie.close
+    (tie.spec
+    (λ c. search needs)
+    (λ c κs. search needs)
+    (λ c. search needs)
+    returns
+    returns-2)

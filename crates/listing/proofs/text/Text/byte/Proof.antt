@@ -24,11 +24,12 @@ module _ (size : ℕ) (t : Text) (b : ℕ) (line image map : List ℕ) where
 
 returns : tie.Need-returns
 returns c =
-    ended-by _ _ _ _ _ _ _ _ _ _
-    (c .before .before .before .before .before .before .before .before .before .before .if1 .taken)
-    (c .before .before .before .before .before .before .before .trimmed .ensures
-    ∙ ap trimmedOf (c .before .before .before .before .before .before .before .before .first .ensures))
-    (c .before .before .before .before .take .ensures)
+    let taken = c .before .before .before .before in
+    let trimmed = taken .before .before .before in
+    let kept = trimmed .before in
+    let ended = kept .before .before in
+    ended-by _ _ _ _ _ _ _ _ _ _ (ended .if1 .taken)
+    (trimmed .trimmed .ensures ∙ ap trimmedOf (kept .first .ensures)) (taken .take .ensures)
 
 returns-2 : tie.Need-returns-2
 returns-2 c =

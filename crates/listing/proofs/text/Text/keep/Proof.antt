@@ -64,13 +64,15 @@ returns c =
     (c .before .before .before .before .loop .inv .2)
 
 loop-again : tie.Need-loop-again Inv-loop μ-loop
-loop-again c = (
-  search needs,
-  search needs,
-  gone-more _ _ _ _ _ _ _ _ _ (c .before .before .before .before .before .before .before .loop-test .taken)
-      (c .before .before .before .before .before .if1 .left) (c .before .before .keep-one .ensures)
-      (c .before .before .before .before .before .before .before .before .loop .inv .2),
-)
+loop-again c =
+    let kept = c .before .before in
+    let tested = kept .before .before .before in
+    let turn = tested .before .before in (
+      search needs,
+      search needs,
+      gone-more _ _ _ _ _ _ _ _ _ (turn .loop-test .taken) (tested .if1 .left) (kept .keep-one .ensures)
+          (turn .before .loop .inv .2),
+    )
 
 returns-2 : tie.Need-returns-2 Inv-loop μ-loop
 returns-2 c =

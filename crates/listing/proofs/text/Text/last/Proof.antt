@@ -33,10 +33,17 @@ returns c = last-none _ _ _ _ _ (omega (arith, c .if1 .taken))
 
 returns-2 : tie.Need-returns-2
 returns-2 c =
-    last-line _ _ _ _ _ _ _ _ _ (c .before .before .before .before .before .before .before .before .if1 .left)
-    (c .before .before .before .before .before .before .before .first .ensures)
-    (c .before .before .before .before .take .ensures)
+    let taken = c .before .before .before .before in
+    let kept = taken .before .before .before in
+    last-line _ _ _ _ _ _ _ _ _ (kept .before .if1 .left) (kept .first .ensures) (taken .take .ensures)
 
 pub last-spec : {M : Type 1} → statement M
 last-spec =
-    tie.close (tie.spec returns (λ c κs. search needs) (λ c κs. search needs) (λ c. search needs) (λ c. search needs) returns-2)
+    tie.close
+    (tie.spec
+    returns
+    (λ c κs. search needs)
+    (λ c κs. search needs)
+    (λ c. search needs)
+    (λ c. search needs)
+    returns-2)

@@ -24,4 +24,11 @@ returns-2 c =
     ∙ c .before .before .before .close .ensures)
 
 pub shut-spec : {M : Type 1} → statement M
-shut-spec = tie.close (tie.spec (λ c κs. search needs) (λ c. search needs) (λ c. search needs) returns returns-2)
+shut-spec =
+    tie.close
+    (tie.spec
+    (λ c κs. search needs)
+    (λ c. search needs)
+    (λ c. search needs)
+    returns
+    returns-2)

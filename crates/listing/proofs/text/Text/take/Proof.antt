@@ -16,17 +16,23 @@ took : (n k : ℕ) → n ≡ k → (r x : Read) (i m : List ℕ) (o : Settled) �
     → settledAs (paperRead r) i m ≡ o → Shown k (afterLine n (paperRead x)) i m o
 took n k e r x i m o f g = rw e (shown k r x i m o f g)
 
+-- where the record was taken, seen from where both buffers are back
+abbrev record-at : tie.After-slice-known4 → tie.After-record
+record-at c = c .before .before .before .before
+
 returns : tie.Need-returns
 returns c =
-    took _ _ (c .before .before .before .before .before .before .before .before .before .before .wrapping-add-u64 .ensures)
-    _ _ _ _ _ (c .before .next .given .1)
-    (c .before .before .before .before .before .before .before .«record» .ensures)
+    let recorded = record-at (c .before .before .before) in
+    let counted = recorded .before .before .before in
+    took _ _ (counted .wrapping-add-u64 .ensures) _ _ _ _ _ (c .before .next .given .1)
+    (recorded .«record» .ensures)
 
 returns-2 : tie.Need-returns-2
 returns-2 c =
-    took _ _ (c .before .before .before .before .before .before .before .before .before .before .wrapping-add-u64 .ensures)
-    _ _ _ _ _ (c .before .refusal .given .1)
-    (c .before .before .before .before .before .before .before .«record» .ensures)
+    let recorded = record-at (c .before .before .before) in
+    let counted = recorded .before .before .before in
+    took _ _ (counted .wrapping-add-u64 .ensures) _ _ _ _ _ (c .before .refusal .given .1)
+    (recorded .«record» .ensures)
 
 pub take-spec : {M : Type 1} → statement M
 take-spec =

@@ -32,4 +32,12 @@ returns-3 c =
 pub took-spec : {M : Type 1} → statement M
 took-spec =
     tie.close
-    (tie.spec returns (λ c. search needs) (λ c κs. search needs) (λ c. search needs) (λ c. search needs) returns-2 (λ c. search needs) returns-3)
+    (tie.spec
+    returns
+    (λ c. search needs)
+    (λ c κs. search needs)
+    (λ c. search needs)
+    (λ c. search needs)
+    returns-2
+    (λ c. search needs)
+    returns-3)

@@ -23,4 +23,12 @@ returns c =
 
 pub took-whole-spec : {M : Type 1} → statement M
 took-whole-spec =
-    tie.close (tie.spec (λ c κs. search needs) (λ c. search needs) (λ c. search needs) sub-t6 (λ c. search needs) (λ c κs. search needs) returns)
+    tie.close
+    (tie.spec
+    (λ c κs. search needs)
+    (λ c. search needs)
+    (λ c. search needs)
+    sub-t6
+    (λ c. search needs)
+    (λ c κs. search needs)
+    returns)

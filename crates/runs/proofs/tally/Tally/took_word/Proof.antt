@@ -1,9 +1,10 @@
 -- `took_word` meets its contract: each run of a word starts a piece, but for one that goes on from before.
-use Prim.Native.Nat.{ℕ, _-_, _^_}
+use Prim.Native.Nat.{ℕ, _+_, _-_, _/_, _^_, _≤_}
 use mathlib.Core.Path.{_≡_, ap, _∙_}
 use native.Mathlib.Omega.{arith}
 use borrow.Author.Needs.{needs}
-use lib.Count.{ones-le, trailing-le}
+use lib.Bits.{bitAnd}
+use lib.Count.{ones, ones-le, trailing-le}
 use Rattle.runs.specs.Tally.{tookBits}
 use Rattle.runs.proofs.WordSteps.{word-runs, word-none, word-mixed}
 use Rattle.runs.proofs.tally.Tally.took_word.Statement.{statement}
@@ -20,6 +21,18 @@ returns-2 c =
     let e : 2 ^ 64 - 1 ≡ g .word = omega arith in
     c .took-whole .ensures ∙ ap (λ (w : ℕ). tookBits (g .cap) (g .self) w 64) e
 
+-- what is taken off is no more than there is
+within : (c : tie.After-joins) → let g = c .before .before .before .args in
+    ones (bitAnd (g .word) (g .word / 2)) + c .joins .result ≤ g .self .pieces + ones (g .word)
+within c =
+    let g = c .before .before .before .args in
+    let j = c .joins in
+    omega (
+      arith,
+      word-runs (g .cap) (g .word) (g .self) (omega arith) (omega arith) (omega arith) (j .result)
+          (j .ensures),
+    )
+
 joins-requires : tie.Need-joins-requires
 joins-requires c κs = omega (arith, trailing-le 64 (2 ^ 64 - 1 - c .before .before .args .word))
 
@@ -28,26 +41,6 @@ add-t11 c = omega (arith, ones-le 64 (c .before .before .before .before .args .w
 
 add-t12 : tie.Need-add-t12
 add-t12 c = omega (arith, ones-le 64 (c .before .before .before .before .before .args .word) (omega arith))
-
-sub-t13 : tie.Need-sub-t13
-sub-t13 c =
-    let g = c .before .before .before .before .before .args in
-    let j = c .before .before .joins in
-    omega (
-      arith,
-      word-runs (g .cap) (g .word) (g .self) (omega arith) (omega arith) (omega arith) (j .result)
-          (j .ensures),
-    )
-
-sub-t14 : tie.Need-sub-t14
-sub-t14 c =
-    let g = c .before .before .before .before .before .args in
-    let j = c .before .before .joins in
-    omega (
-      arith,
-      word-runs (g .cap) (g .word) (g .self) (omega arith) (omega arith) (omega arith) (j .result)
-          (j .ensures),
-    )
 
 returns-3 : tie.Need-returns-3
 returns-3 c =
@@ -66,6 +59,6 @@ took-word-spec =
     joins-requires
     add-t11
     add-t12
-    sub-t13
-    sub-t14
+    (λ c. omega (arith, within (c .before .before)))
+    (λ c. omega (arith, within (c .before .before)))
     returns-3)
