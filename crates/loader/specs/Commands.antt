@@ -42,13 +42,16 @@ eraseRows board l a n =
     ∷ 8 when protectedPages (l .protection) (pageOf a) (pageOf a + n)
     ∷ []
 
+-- the pages become 0xFF
+abbrev pub pagesErased : Loader → ℕ → ℕ → List ℕ → Answer Effect
+pagesErased l a n f = given (record { loader = l; flash = eraseOf f (startOf (pageOf a)) (n * pageSize) })
+
 unfoldable pub erasing : ℕ → Loader → ℕ → ℕ → List ℕ → Answer Effect
 erasing board l a n f =
     first (9 when l .sequence .opened ∷ [])
     (pick (massErase a n)
     (given (record { loader = clearedOf l; flash = eraseOf f 0 (length f) }))
-    (first (eraseRows board l a n)
-    (given (record { loader = l; flash = eraseOf f (startOf (pageOf a)) (n * pageSize) }))))
+    (first (eraseRows board l a n) (pagesErased l a n f)))
 
 -- W: each byte becomes old AND new
 unfoldable pub writeRows : ℕ → Loader → ℕ → ℕ → List Rule

@@ -1,16 +1,17 @@
--- `take` meets its contract: the two sizes, then what was heard and what is told of it.
+-- `take` meets its contract: the two sizes, then what was heard is settled and told.
 use Prim.Native.Nat.{ℕ}
 use mathlib.Core.List.{List}
-use mathlib.Core.Path.{_≡_, refl, ap, ap₂, _∙_}
+use mathlib.Core.Path.{_≡_, refl, ap, ap₂, sym, _∙_}
 use borrow.Author.Needs.{needs}
 use lib.ListN.{length}
 use Rattle.basis.specs.Board.{pages}
 use Rattle.basis.specs.Lists.{overlay}
-use Rattle.basis.specs.Refusals.{refused}
-use Rattle.loader.specs.Laws.Commands.{leaves-all}
+use Rattle.basis.specs.Refusals.{refused, bare}
+use Rattle.loader.specs.Deeds.{judgedOf}
 use Rattle.loader.specs.Laws.Take.{take-size, take-small, take-heard}
 use Rattle.loader.specs.Paper.{paperVerdict}
-use Rattle.loader.specs.Take.{tellOf, answerBytes, hearOf, takeOf, Takes}
+use Rattle.loader.specs.Take.{tellOf, takeOf, Takes}
+use Rattle.loader.proofs.Judging.{verdict-bare}
 use Rattle.loader.proofs.take.take.Statement.{statement}
 use Rattle.loader.proofs.take.take.Tie as tie
 
@@ -20,12 +21,14 @@ refuses-size : (c : tie.Start)
     → Takes (takeOf pages (a .loader) (a .input .now) (a .flash .now) (length (a .answer .now))) (a .loader)
     (a .flash .now) (a .answer .now) (refused 20) (a .loader) 0 (a .flash .now) (a .answer .now)
 refuses-size c e =
-    let a = c .args in
     rw e (record {
-      does-is = leaves-all (a .loader) (a .flash .now) refl;
+      does-is = record { verdict-is = refl; loader-is = refl; flash-is = refl };
       answered-is = refl;
       answer-is = refl;
     })
+
+abbrev entry : tie.Else2 → tie.Start
+entry c = c .before .before .before .before .before
 
 returns : tie.Need-returns
 returns c = refuses-size (c .before .before .before .before) (take-size pages _ _ _ _ (c .if1 .taken))
@@ -36,19 +39,30 @@ returns-2 c =
 
 returns-3 : tie.Need-returns-3
 returns-3 c =
-    let a = c .before .before .before .before .before .before .before .before .before .before .before .before .before .before .before .args in
-    let h = c .before .before .before .before .before .before .before .before .hear .ensures in
-    let e : tellOf (c .before .before .before .before .is-waiting .result)
-    (paperVerdict (c .before .before .before .before .before .before .before .before .hear .result .verdict))
-    ≡ answerBytes (a .loader) (hearOf pages (a .loader) (a .input .now) (a .flash .now)) = ap₂ tellOf
-    (c .before .before .before .before .is-waiting .ensures) (h .verdict-is) in
+    let told = c .before .before in
+    let asked = told .before .before in
+    let settled = asked .before .before .before in
+    let judged = settled .before .before in
+    let heard = judged .before in
+    let sized = heard .before .before in
+    let a = entry sized .args in
+    let j = heard .hear .result in
+    let v : paperVerdict (judged .verdict .result)
+    ≡ bare (judgedOf pages j (a .loader) (a .input .now) (a .flash .now))
+    = ap paperVerdict (judged .verdict .ensures)
+    ∙ verdict-bare pages j (a .loader) (a .input .now) (a .flash .now) in
+    let t = ap₂ tellOf (asked .is-waiting .ensures) v in
     rw (take-heard pages (a .loader) (a .input .now) (a .flash .now) (length (a .answer .now))
-    (c .before .before .before .before .before .before .before .before .before .before .before .if1 .left)
-    (c .before .before .before .before .before .before .before .before .before .before .if2 .left))
+    (sized .before .if1 .left) (sized .if2 .left) ∙ sym (heard .hear .ensures .comes-to))
     (record {
-      does-is = h;
-      answered-is = c .before .before .tell .ensures .0 ∙ ap length e;
-      answer-is = c .before .before .tell .ensures .1 ∙ ap (λ (w : List ℕ). overlay w (a .answer .now)) e;
+      does-is =
+          record {
+            verdict-is = v;
+            loader-is = settled .settle .ensures .0;
+            flash-is = settled .settle .ensures .1;
+          };
+      answered-is = told .tell .ensures .0 ∙ ap length t;
+      answer-is = told .tell .ensures .1 ∙ ap (λ (w : List ℕ). overlay w (a .answer .now)) t;
     })
 
 pub take-spec : {M : Type 1} → statement M
@@ -57,6 +71,8 @@ take-spec =
     (tie.spec
     returns
     returns-2
+    (λ c κs. search needs)
+    (λ c κs. search needs)
     (λ c κs. search needs)
     (λ c κs. search needs)
     (λ c κs. search needs)

@@ -3,8 +3,8 @@ use mathlib.Core.Path.{ap, _∙_}
 use borrow.Author.Needs.{needs}
 use borrow.Author.Tests.{lt-ltb, le-ltb}
 use Rattle.loader.specs.Protection.{withGroup}
-use Rattle.loader.proofs.protect.added.Statement.{statement}
-use Rattle.loader.proofs.protect.added.Tie as tie
+use Rattle.loader.proofs.deed.added.Statement.{statement}
+use Rattle.loader.proofs.deed.added.Tie as tie
 
 returns : tie.Need-returns
 returns c =
