@@ -1,16 +1,15 @@
 -- How a judgement is shown, by its two ways out, and what it then does.
 use Prim.Native.Nat.{ℕ, _+_, _-_, _≤_}
 use mathlib.Core.List.{List}
-use mathlib.Core.Path.{_≡_, refl, sym, ap, subst}
+use mathlib.Core.Path.{_≡_, sym, ap, subst}
 use native.Mathlib.Omega.{arith}
 use lib.ListN.{length, take, drop, length-take, length-drop}
 use Rattle.basis.specs.Board.{pages, flashSize}
-use Rattle.basis.specs.Refusals.{Answer, refused, given, bare}
+use Rattle.basis.specs.Refusals.{Answer, refused, given}
 use Rattle.loader.specs.Commands.{Effect}
-use Rattle.loader.specs.Deeds.{dataIn, deedOf, judgedOf, verdictOf, Fits, Judges}
-use Rattle.loader.specs.Paper.{paperRefusal, paperVerdict}
+use Rattle.loader.specs.Deeds.{dataIn, deedOf, Fits, Judges}
+use Rattle.loader.specs.Paper.{paperRefusal}
 use Rattle.loader.specs.declared.deed.Deed.{Deed}
-use Rattle.loader.specs.declared.deed.Judged.{Judged}
 use Rattle.loader.specs.declared.deed.Judged.the-variants.{Accepted, Refused}
 use Rattle.loader.specs.declared.state.Loader.{Loader}
 use Rattle.loader.specs.declared.verdict.Refusal.{Refusal}
@@ -34,12 +33,6 @@ module _ {d k : Deed} (e : d ≡ k) (s : List ℕ) where
       → g ≡ deedOf pages k l s f .flash
       → (next ≡ deedOf pages d l s f .loader) × (g ≡ deedOf pages d l s f .flash)
   applies l f p q = rw e (p, q)
-
--- a judgement's verdict is that of what it comes to
-pub verdict-bare : (board : ℕ) (j : Judged) (l : Loader) (s f : List ℕ)
-    → paperVerdict (verdictOf j) ≡ bare (judgedOf board j l s f)
-verdict-bare board (Accepted d) l s f = refl
-verdict-bare board (Refused why) l s f = refl
 
 -- a packet has as many bytes as it says
 pub data-length : (s : List ℕ) (p : Packet) → p .at + p .len ≤ length s → length (dataIn s p) ≡ p .len

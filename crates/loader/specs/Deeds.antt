@@ -13,11 +13,9 @@ use Rattle.loader.specs.State.{withCondition, withAdded, joinedOf, clear
 use Rattle.loader.specs.declared.deed.Deed.{Deed}
 use Rattle.loader.specs.declared.deed.Deed.the-variants as deed
 use Rattle.loader.specs.declared.deed.Judged.{Judged}
-use Rattle.loader.specs.declared.deed.Judged.the-variants as judged
+use Rattle.loader.specs.declared.deed.Judged.the-variants.{Accepted, Refused}
 use Rattle.loader.specs.declared.state.Condition.the-variants.{Serving, Left}
 use Rattle.loader.specs.declared.state.Loader.{Loader}
-use Rattle.loader.specs.declared.verdict.Verdict.{Verdict}
-use Rattle.loader.specs.declared.verdict.Verdict.the-variants.{Accepted, Refused}
 use Rattle.packet.specs.declared.read.Packet.{Packet}
 
 -- the bytes after a packet's address, as they stand in the input
@@ -38,12 +36,8 @@ deedOf board (deed.Close key) l s f = record { loader = joinedOf l key; flash = 
 deedOf board deed.Leave l s f = record { loader = withCondition l Left; flash = f }
 
 abbrev pub judgedOf : ℕ → Judged → Loader → List ℕ → List ℕ → Answer Effect
-judgedOf board (judged.Accepted d) l s f = given (deedOf board d l s f)
-judgedOf board (judged.Refused x) l s f = refused (paperRefusal x)
-
-abbrev pub verdictOf : Judged → Verdict
-verdictOf (judged.Accepted d) = Accepted
-verdictOf (judged.Refused x) = Refused x
+judgedOf board (Accepted d) l s f = given (deedOf board d l s f)
+judgedOf board (Refused x) l s f = refused (paperRefusal x)
 
 -- a deed's bytes lie in flash, and those it stores in the input
 abbrev pub Fits : ℕ → Deed → List ℕ → Type 0
@@ -58,8 +52,8 @@ Fits board (deed.Close key) s = Unit {0}
 Fits board deed.Leave s = Unit {0}
 
 abbrev pub Settles : ℕ → Judged → List ℕ → Type 0
-Settles board (judged.Accepted d) s = Fits board d s
-Settles board (judged.Refused x) s = Unit {0}
+Settles board (Accepted d) s = Fits board d s
+Settles board (Refused x) s = Unit {0}
 
 -- what a function that judges shows: it comes to x, and can be settled
 pub record Judges (board : ℕ) (j : Judged) (l : Loader) (s f : List ℕ) (x : Answer Effect) : Type 0 where

@@ -2,13 +2,12 @@
 ghost use mathlib.Core.Path.{_≡_};
 ghost use lib.ListN.{length};
 ghost use Rattle.basis.specs.Board.{pages, flashSize};
-ghost use Rattle.loader.specs.Commands.{addedOf, effectAfter};
-ghost use Rattle.loader.specs.Deeds.{deedOf, judgedOf, verdictOf, Fits, Settles};
+ghost use Rattle.loader.specs.Commands.{addedOf};
+ghost use Rattle.loader.specs.Deeds.{Fits, deedOf};
 use crate::protection::Protection;
 use crate::state::Condition;
 use crate::state::Loader;
 use crate::verdict::Refusal;
-use crate::verdict::Verdict;
 use basis::board::END;
 use basis::units::Address;
 use packet::read::Packet;
@@ -35,34 +34,8 @@ pub enum Judged {
     Refused(Refusal),
 }
 
-impl Judged {
-    pub fn verdict(self) -> Verdict
-        ensures { λ r. ⌜ r ≡ verdictOf self ⌝ }
-    {
-        match self {
-            Judged::Accepted(_) => Verdict::Accepted,
-            Judged::Refused(why) => Verdict::Refused(why),
-        }
-    }
-}
-
-// A refusal leaves loader and flash as they were.
-pub fn settle(judged: Judged, loader: Loader, input: &[u8], flash: &mut [u8]) -> Loader
-    requires { ⌜ (length (now flash) ≡ flashSize) × Settles pages judged (now input) ⌝ }
-    ensures { λ r. ⌜
-        (let f = now (flash .entry) in
-        let x = effectAfter loader f (judgedOf pages judged loader (now (input .entry)) f) in
-        (r ≡ x .loader) × (now (flash .exit) ≡ x .flash))
-        ⌝ }
-{
-    match judged {
-        Judged::Accepted(deed) => apply(deed, loader, input, flash),
-        Judged::Refused(_) => loader,
-    }
-}
-
 // Nothing else changes loader or flash.
-fn apply(deed: Deed, loader: Loader, input: &[u8], flash: &mut [u8]) -> Loader
+pub fn apply(deed: Deed, loader: Loader, input: &[u8], flash: &mut [u8]) -> Loader
     requires { ⌜ (length (now flash) ≡ flashSize) × Fits pages deed (now input) ⌝ }
     ensures { λ r. ⌜
         (let x = deedOf pages deed loader (now (input .entry)) (now (flash .entry)) in

@@ -10,7 +10,7 @@ ghost use Rattle.loader.specs.Take.{waiting, opensBoard, serveOf, hearOf
 ghost use Rattle.packet.specs.Paper.{paperRefusal as paperUnread};
 use crate::deed::Deed;
 use crate::deed::Judged;
-use crate::deed::settle;
+use crate::deed::apply;
 use crate::judge::judge;
 use crate::state::Condition;
 use crate::state::Loader;
@@ -55,12 +55,17 @@ pub fn take(loader: Loader, input: &[u8], flash: &mut [u8], answer: &mut [u8]) -
             answered: 0,
         };
     }
-    let judged = hear(loader, input, flash);
-    let verdict = judged.verdict();
-    Taken {
-        loader: settle(judged, loader, input, flash),
-        verdict,
-        answered: tell(is_waiting(loader), verdict, answer),
+    match hear(loader, input, flash) {
+        Judged::Accepted(deed) => Taken {
+            loader: apply(deed, loader, input, flash),
+            verdict: Verdict::Accepted,
+            answered: tell(is_waiting(loader), Verdict::Accepted, answer),
+        },
+        Judged::Refused(why) => Taken {
+            loader,
+            verdict: Verdict::Refused(why),
+            answered: tell(is_waiting(loader), Verdict::Refused(why), answer),
+        },
     }
 }
 

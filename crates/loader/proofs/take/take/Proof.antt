@@ -1,17 +1,17 @@
--- `take` meets its contract: the two sizes, then what was heard is settled and told.
+-- `take` meets its contract: the two sizes, then what was heard, done or left, and told.
 use Prim.Native.Nat.{ℕ}
+use mathlib.Core.Bool.{Bool}
 use mathlib.Core.List.{List}
-use mathlib.Core.Path.{_≡_, refl, ap, ap₂, sym, _∙_}
+use mathlib.Core.Path.{_≡_, refl, ap, sym, subst, _∙_}
 use borrow.Author.Needs.{needs}
 use lib.ListN.{length}
 use Rattle.basis.specs.Board.{pages}
 use Rattle.basis.specs.Lists.{overlay}
-use Rattle.basis.specs.Refusals.{refused, bare}
-use Rattle.loader.specs.Deeds.{judgedOf}
+use Rattle.basis.specs.Refusals.{refused, given}
+use Rattle.loader.specs.Deeds.{judgedOf, Settles}
 use Rattle.loader.specs.Laws.Take.{take-size, take-small, take-heard}
-use Rattle.loader.specs.Paper.{paperVerdict}
 use Rattle.loader.specs.Take.{tellOf, takeOf, Takes}
-use Rattle.loader.proofs.Judging.{verdict-bare}
+use Rattle.loader.specs.declared.deed.Judged.{Judged}
 use Rattle.loader.proofs.take.take.Statement.{statement}
 use Rattle.loader.proofs.take.take.Tie as tie
 
@@ -30,6 +30,19 @@ refuses-size c e =
 abbrev entry : tie.Else2 → tie.Start
 entry c = c .before .before .before .before .before
 
+abbrev sized : tie.After-hear → tie.Else2
+sized c = c .before .before
+
+-- what was heard is what the input comes to
+heard : (c : tie.After-hear) {j : Judged} → c .hear .result ≡ j → let a = entry (sized c) .args in
+    takeOf pages (a .loader) (a .input .now) (a .flash .now) (length (a .answer .now))
+    ≡ judgedOf pages j (a .loader) (a .input .now) (a .flash .now)
+heard c e = let a = entry (sized c) .args in
+    take-heard pages (a .loader) (a .input .now) (a .flash .now) (length (a .answer .now))
+    (sized c .before .if1 .left) (sized c .if2 .left)
+    ∙ sym (c .hear .ensures .comes-to)
+    ∙ ap (λ (x : Judged). judgedOf pages x (a .loader) (a .input .now) (a .flash .now)) e
+
 returns : tie.Need-returns
 returns c = refuses-size (c .before .before .before .before) (take-size pages _ _ _ _ (c .if1 .taken))
 
@@ -37,32 +50,44 @@ returns-2 : tie.Need-returns-2
 returns-2 c =
     refuses-size (c .before .before .before .before .before) (take-small pages _ _ _ _ (c .if2 .taken))
 
+apply-requires : tie.Need-apply-requires
+apply-requires c κs =
+    let found = c .before .before in
+    let h = found .before .before in
+    let a = entry (sized h) .args in (
+      sized h .before .if1 .left,
+      subst (λ (x : Judged). Settles pages x (a .input .now)) (found .deed .given .1) (h .hear .ensures .settles),
+    )
+
 returns-3 : tie.Need-returns-3
 returns-3 c =
     let told = c .before .before in
     let asked = told .before .before in
-    let settled = asked .before .before .before in
-    let judged = settled .before .before in
-    let heard = judged .before in
-    let sized = heard .before .before in
-    let a = entry sized .args in
-    let j = heard .hear .result in
-    let v : paperVerdict (judged .verdict .result)
-    ≡ bare (judgedOf pages j (a .loader) (a .input .now) (a .flash .now))
-    = ap paperVerdict (judged .verdict .ensures)
-    ∙ verdict-bare pages j (a .loader) (a .input .now) (a .flash .now) in
-    let t = ap₂ tellOf (asked .is-waiting .ensures) v in
-    rw (take-heard pages (a .loader) (a .input .now) (a .flash .now) (length (a .answer .now))
-    (sized .before .if1 .left) (sized .if2 .left) ∙ sym (heard .hear .ensures .comes-to))
+    let done = asked .before .before .before in
+    let found = done .before .before .before in
+    let a = entry (sized (found .before .before)) .args in
+    let t = ap (λ (w : Bool). tellOf w (given tt)) (asked .is-waiting .ensures) in
+    rw (heard (found .before .before) (found .deed .given .1))
     (record {
       does-is =
           record {
-            verdict-is = v;
-            loader-is = settled .settle .ensures .0;
-            flash-is = settled .settle .ensures .1;
+            verdict-is = refl;
+            loader-is = done .apply .ensures .0;
+            flash-is = done .apply .ensures .1;
           };
       answered-is = told .tell .ensures .0 ∙ ap length t;
       answer-is = told .tell .ensures .1 ∙ ap (λ (w : List ℕ). overlay w (a .answer .now)) t;
+    })
+
+returns-4 : tie.Need-returns-4
+returns-4 c =
+    let told = c .before .before in
+    let found = told .before .before .before .before in
+    rw (heard (found .before .before) (found .why .given .1))
+    (record {
+      does-is = record { verdict-is = refl; loader-is = refl; flash-is = refl };
+      answered-is = told .tell2 .ensures .0;
+      answer-is = told .tell2 .ensures .1;
     })
 
 pub take-spec : {M : Type 1} → statement M
@@ -72,10 +97,16 @@ take-spec =
     returns
     returns-2
     (λ c κs. search needs)
+    (λ c. search needs)
+    apply-requires
     (λ c κs. search needs)
     (λ c κs. search needs)
+    (λ c. search needs)
     (λ c κs. search needs)
     (λ c κs. search needs)
     (λ c. search needs)
     (λ c. search needs)
-    returns-3)
+    returns-3
+    (λ c. search needs)
+    (λ c. search needs)
+    returns-4)
