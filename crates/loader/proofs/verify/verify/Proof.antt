@@ -7,9 +7,8 @@ use borrow.Author.Needs.{needs}
 use borrow.Author.Tests.{ltb-false}
 use lib.Dec.{ltb}
 use lib.ListN.{length}
-use Rattle.basis.specs.Board.{pages, flashSize}
+use Rattle.basis.specs.Board.{flashSize}
 use Rattle.basis.specs.Laws.Refusals.{skip, stop, done}
-use Rattle.basis.specs.Refusals.{given, first}
 use Rattle.loader.specs.Commands.{keeping, verifyRows}
 use Rattle.loader.proofs.Judging.{refuses, accepts}
 use Rattle.loader.proofs.verify.verify.Statement.{statement}
