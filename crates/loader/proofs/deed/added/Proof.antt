@@ -17,4 +17,10 @@ returns-2 c = simp (le-ltb _ _ (c .before .if1 .left)) (c .with-read .ensures)
 
 pub added-spec : {M : Type 1} → statement M
 added-spec =
-    tie.close (tie.spec (λ c κs. search needs) (λ c κs. search needs) (λ c κs. search needs) returns returns-2)
+    tie.close
+    (tie.spec
+    (λ c κs. search needs)
+    (λ c κs. search needs)
+    (λ c κs. search needs)
+    returns
+    returns-2)

@@ -89,7 +89,8 @@ returns-5 c =
     λ s f. accepts
     (erase-passes pages (a .loader) (a .address .0) (a .count) _ (i .0) (i .1) (i .2)
     (sym (spanned (c .before .before)) ∙ c .before .if4 .left)
-    ∙ ap (λ (n : ℕ). given (record { loader = a .loader; flash = eraseOf f n (a .count * pageSize) })) (sym from))
+    ∙ ap (λ (n : ℕ). given (record { loader = a .loader; flash = eraseOf f n (a .count * pageSize) }))
+    (sym from))
     (omega (arith, from, i .2))
 
 pub erase-pages-spec : {M : Type 1} → statement M

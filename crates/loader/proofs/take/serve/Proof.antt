@@ -23,7 +23,12 @@ entry c = c .before .before .before .before .before
 told : (c : tie.After-packet)
     → let p = c .packet .given .0 .0 in
     readOf (entry c .args .input .now)
-    ≡ given (record { command = paperCommand (p .command); address = p .address .0; place = p .at; size = p .len })
+    ≡ given (record {
+      command = paperCommand (p .command);
+      address = p .address .0;
+      place = p .at;
+      size = p .len;
+    })
 told c = sym (c .before .before .read .ensures) ∙ ap paperReading (c .packet .given .1)
 
 within : (c : tie.After-packet)

@@ -56,7 +56,8 @@ apply-requires c κs =
     let h = found .before .before in
     let a = entry (sized h) .args in (
       sized h .before .if1 .left,
-      subst (λ (x : Judged). Settles pages x (a .input .now)) (found .deed .given .1) (h .hear .ensures .settles),
+      subst (λ (x : Judged). Settles pages x (a .input .now)) (found .deed .given .1)
+          (h .hear .ensures .settles),
     )
 
 returns-3 : tie.Need-returns-3
