@@ -42,13 +42,16 @@ eraseRows board l a n =
     ∷ 8 when protectedPages (l .protection) (pageOf a) (pageOf a + n)
     ∷ []
 
+-- the pages become 0xFF
+abbrev pub pagesErased : Loader → ℕ → ℕ → List ℕ → Answer Effect
+pagesErased l a n f = given (record { loader = l; flash = eraseOf f (startOf (pageOf a)) (n * pageSize) })
+
 unfoldable pub erasing : ℕ → Loader → ℕ → ℕ → List ℕ → Answer Effect
 erasing board l a n f =
     first (9 when l .sequence .opened ∷ [])
     (pick (massErase a n)
     (given (record { loader = clearedOf l; flash = eraseOf f 0 (length f) }))
-    (first (eraseRows board l a n)
-    (given (record { loader = l; flash = eraseOf f (startOf (pageOf a)) (n * pageSize) }))))
+    (first (eraseRows board l a n) (pagesErased l a n f)))
 
 -- W: each byte becomes old AND new
 unfoldable pub writeRows : ℕ → Loader → ℕ → ℕ → List Rule
@@ -110,21 +113,17 @@ obeyOf board l c a d f =
     (pick (eqb c protectByte) (keeping f (protecting board l a (getD d 0 0)))
     (keeping f (running l a)))))
 
--- what a function that obeys shows: verdict, next loader and flash are those of x;
--- where x is a refusal, loader and flash are as they were
+-- the loader after an answer: a refusal leaves it as it was
 abbrev pub loaderAfter : Loader → Answer Loader → Loader
 loaderAfter l (refused n) = l
 loaderAfter l (given m) = m
 
-pub record Changes (x : Answer Loader) (l : Loader) (verdict : Answer (Unit {0}))
-    (next : Loader) : Type 0 where
-  pub verdict-is : verdict ≡ bare x
-  pub loader-is : next ≡ loaderAfter l x
-
+-- and so of flash
 abbrev pub effectAfter : Loader → List ℕ → Answer Effect → Effect
 effectAfter l f (refused n) = record { loader = l; flash = f }
 effectAfter l f (given e) = e
 
+-- what a function that obeys shows: verdict, next loader and flash are those of x
 pub record Does (x : Answer Effect) (l : Loader) (f : List ℕ)
     (verdict : Answer (Unit {0})) (next : Loader) (flash : List ℕ) : Type 0 where
   pub verdict-is : verdict ≡ bare x

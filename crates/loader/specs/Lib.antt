@@ -8,4 +8,5 @@ pub mod Guard
 pub mod Alike
 pub mod Cases
 pub mod Paper
+pub mod Deeds
 pub mod Laws

@@ -1,6 +1,8 @@
-// The loader: packets to answers, flash and protection. Its commands are reached by its entry alone.
+// The loader: packets to answers, flash and protection. An input is judged first, which only reads;
+// what it then does is done in one place.
+mod deed;
 mod erase;
-mod obey;
+mod judge;
 mod protect;
 pub mod protection;
 mod run;

@@ -19,33 +19,28 @@ impl Protection {
         }
     }
 
-    pub fn with_group(self, group: Group) -> Protection
+    pub fn with_group(mut self, group: Group) -> Protection
         requires { ⌜ group .0 < 64 ⌝ }
         ensures { λ r. ⌜ r ≡ withGroup self (group .0) ⌝ }
     {
-        Protection {
-            groups: self.groups | (1 << group.0),
-            read: self.read,
-        }
+        self.groups = self.groups | (1 << group.0);
+        self
     }
 
-    pub fn with_read(self) -> Protection
+    pub fn with_read(mut self) -> Protection
         ensures { λ r. ⌜ r ≡ withRead self ⌝ }
     {
-        Protection {
-            groups: self.groups,
-            read: true,
-        }
+        self.read = true;
+        self
     }
 
     // What either protects.
-    pub fn join(self, added: Protection) -> Protection
+    pub fn join(mut self, added: Protection) -> Protection
         ensures { λ r. ⌜ r ≡ joinOf self added ⌝ }
     {
-        Protection {
-            groups: self.groups | added.groups,
-            read: self.read | added.read,
-        }
+        self.groups = self.groups | added.groups;
+        self.read = self.read | added.read;
+        self
     }
 
     // One of the groups from `from` up to, and without, `to` is protected.

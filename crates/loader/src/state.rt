@@ -74,48 +74,35 @@ impl Loader {
     }
 
     // A protect sequence is open, with so much added.
-    pub fn with_added(self, added: Protection) -> Loader
+    pub fn with_added(mut self, added: Protection) -> Loader
         ensures { λ r. ⌜ r ≡ withAdded self added ⌝ }
     {
-        let condition = self.condition;
-        let in_force = self.protection;
-        Loader {
-            condition,
-            sequence: Sequence {
-                opened: true,
-                added,
-            },
-            protection: in_force,
-            key: self.key,
-        }
+        let sequence = Sequence {
+            opened: true,
+            added,
+        };
+        self.sequence = sequence;
+        self
     }
 
     // The sequence closes: what was added is in force from now on.
-    pub fn joined(self, key: u32) -> Loader
+    pub fn joined(mut self, key: u32) -> Loader
         ensures { λ r. ⌜ r ≡ joinedOf self key ⌝ }
     {
-        let condition = self.condition;
         let sequence = self.sequence;
         let added = sequence.added;
-        let protection = self.protection;
-        Loader {
-            condition,
-            sequence: Sequence::closed(),
-            protection: protection.join(added),
-            key,
-        }
+        let in_force = self.protection;
+        self.protection = in_force.join(added);
+        self.sequence = Sequence::closed();
+        self.key = key;
+        self
     }
 
-    pub fn cleared(self) -> Loader
+    pub fn cleared(mut self) -> Loader
         ensures { λ r. ⌜ r ≡ clearedOf self ⌝ }
     {
-        let condition = self.condition;
-        let sequence = self.sequence;
-        Loader {
-            condition,
-            sequence,
-            protection: Protection::none(),
-            key: CLEARED_KEY,
-        }
+        self.protection = Protection::none();
+        self.key = CLEARED_KEY;
+        self
     }
 }

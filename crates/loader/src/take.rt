@@ -4,14 +4,16 @@ ghost use Prim.Native.Nat.{_≤_};
 ghost use lib.ListN.{length};
 ghost use Rattle.basis.specs.Board.{pages, flashSize, answerMost};
 ghost use Rattle.basis.specs.Lists.{overlay};
-ghost use Rattle.loader.specs.Commands.{Does};
+ghost use Rattle.loader.specs.Deeds.{Judges};
 ghost use Rattle.loader.specs.Paper.{paperRefusal, paperVerdict};
 ghost use Rattle.loader.specs.Take.{waiting, opensBoard, serveOf, hearOf, takeOf, quiet, tellOf, Takes};
 ghost use Rattle.packet.specs.Paper.{paperRefusal as paperUnread};
-use crate::obey::obey;
+use crate::deed::Deed;
+use crate::deed::Judged;
+use crate::deed::apply;
+use crate::judge::judge;
 use crate::state::Condition;
 use crate::state::Loader;
-use crate::verdict::Acted;
 use crate::verdict::Refusal;
 use crate::verdict::Verdict;
 use basis::board::ACK;
@@ -53,13 +55,17 @@ pub fn take(loader: Loader, input: &[u8], flash: &mut [u8], answer: &mut [u8]) -
             answered: 0,
         };
     }
-    let acted = hear(loader, input, flash);
-    let next = acted.loader;
-    let verdict = acted.verdict;
-    Taken {
-        loader: next,
-        verdict,
-        answered: tell(is_waiting(loader), verdict, answer),
+    match hear(loader, input, flash) {
+        Judged::Accepted(deed) => Taken {
+            loader: apply(deed, loader, input, flash),
+            verdict: Verdict::Accepted,
+            answered: tell(is_waiting(loader), Verdict::Accepted, answer),
+        },
+        Judged::Refused(why) => Taken {
+            loader,
+            verdict: Verdict::Refused(why),
+            answered: tell(is_waiting(loader), Verdict::Refused(why), answer),
+        },
     }
 }
 
@@ -75,32 +81,23 @@ fn is_waiting(loader: Loader) -> bool
 }
 
 // What the condition lets in.
-fn hear(loader: Loader, input: &[u8], flash: &mut [u8]) -> Acted
+fn hear(loader: Loader, input: &[u8], flash: &[u8]) -> Judged
     requires { ⌜ length (now flash) ≡ flashSize ⌝ }
     ensures { λ r. ⌜
-        (let x = hearOf pages loader (now (input .entry)) (now (flash .entry)) in
-        Does x loader (now (flash .entry)) (paperVerdict (r .verdict)) (r .loader) (now (flash .exit)))
+        (let s = now (input .entry) in let f = now (flash .entry) in
+        Judges pages r loader s f (hearOf pages loader s f))
         ⌝ }
 {
     let condition = loader.condition;
     match condition {
         Condition::Waiting => {
             if !opens_board(input) {
-                return Acted {
-                    loader,
-                    verdict: Verdict::Refused(Refusal::Unheard),
-                };
+                return Judged::Refused(Refusal::Unheard);
             }
-            Acted {
-                loader: loader.with_condition(Condition::Serving),
-                verdict: Verdict::Accepted,
-            }
+            Judged::Accepted(Deed::Serve)
         }
         Condition::Serving => serve(loader, input, flash),
-        Condition::Left => Acted {
-            loader,
-            verdict: Verdict::Refused(Refusal::Unheard),
-        },
+        Condition::Left => Judged::Refused(Refusal::Unheard),
     }
 }
 
@@ -113,24 +110,19 @@ fn opens_board(input: &[u8]) -> bool
     input[0] == OPENING
 }
 
-fn serve(loader: Loader, input: &[u8], flash: &mut [u8]) -> Acted
+fn serve(loader: Loader, input: &[u8], flash: &[u8]) -> Judged
     requires { ⌜ length (now flash) ≡ flashSize ⌝ }
     ensures { λ r. ⌜
-        (let x = serveOf pages loader (now (input .entry)) (now (flash .entry)) in
-        Does x loader (now (flash .entry)) (paperVerdict (r .verdict)) (r .loader) (now (flash .exit)))
+        (let s = now (input .entry) in let f = now (flash .entry) in
+        Judges pages r loader s f (serveOf pages loader s f))
         ⌝ }
 {
     match read(input) {
-        Reading::Refused(why) => Acted {
-            loader,
-            verdict: Verdict::Refused(Refusal::Unread(why)),
-        },
+        Reading::Refused(why) => Judged::Refused(Refusal::Unread(why)),
         Reading::Packet(packet) => {
             let at = packet.at;
             let end = at + packet.len;
-            let command = packet.command;
-            let address = packet.address;
-            obey(loader, command, address, &input[at..end], flash)
+            judge(loader, packet, &input[at..end], flash)
         }
     }
 }

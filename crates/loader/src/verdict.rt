@@ -1,7 +1,6 @@
 // How the loader answers a command: accepted, or refused and why.
 ghost use mathlib.Core.Path.{_≡_};
 ghost use Rattle.loader.specs.Paper.{paperRefusal};
-use crate::state::Loader;
 
 pub enum Refusal {
     Size,
@@ -32,10 +31,4 @@ impl Refusal {
 pub enum Verdict {
     Accepted,
     Refused(Refusal),
-}
-
-// The next loader, and the verdict.
-pub struct Acted {
-    pub loader: Loader,
-    pub verdict: Verdict,
 }

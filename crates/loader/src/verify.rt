@@ -1,39 +1,42 @@
 // V: the bytes sent, turned back, are compared with flash.
 ghost use mathlib.Core.Path.{_≡_};
-ghost use Prim.Native.Nat.{_+_, _≤_};
+ghost use mathlib.Core.List.{List};
+ghost use Prim.Native.Nat.{ℕ, _+_, _≤_};
 ghost use lib.ListN.{length};
 ghost use Rattle.basis.specs.Board.{pages, flashSize};
 ghost use Rattle.basis.specs.Refusals.{given, first};
-ghost use Rattle.loader.specs.Commands.{verifyRows};
-ghost use Rattle.loader.specs.Paper.{paperVerdict};
+ghost use Rattle.loader.specs.Commands.{verifyRows, keeping};
+ghost use Rattle.loader.specs.Deeds.{Judges};
 ghost use Rattle.loader.specs.Verify.{equalsOf};
+use crate::deed::Deed;
+use crate::deed::Judged;
 use crate::state::Loader;
 use crate::verdict::Refusal;
-use crate::verdict::Verdict;
 use crate::write::past_end;
 use basis::units::Address;
 use packet::turn::restored;
 
-pub fn verify(loader: Loader, address: Address, turned: &[u8], flash: &[u8]) -> Verdict
+pub fn verify(loader: Loader, address: Address, turned: &[u8], flash: &[u8]) -> Judged
     requires { ⌜ length (now flash) ≡ flashSize ⌝ }
     ensures { λ r. ⌜
-        (let rows = verifyRows pages loader (address .0) (now (turned .entry)) (now (flash .entry)) in
-        paperVerdict r ≡ first rows (given tt))
+        (let f = now (flash .entry) in
+        let rows = verifyRows pages loader (address .0) (now (turned .entry)) f in
+        (s : List ℕ) → Judges pages r loader s f (keeping f (first rows (given loader))))
         ⌝ }
 {
     if loader.sequence.opened {
-        return Verdict::Refused(Refusal::Sequence);
+        return Judged::Refused(Refusal::Sequence);
     }
     if past_end(address, turned.len()) {
-        return Verdict::Refused(Refusal::Address);
+        return Judged::Refused(Refusal::Address);
     }
     if loader.protection.read {
-        return Verdict::Refused(Refusal::Protected);
+        return Judged::Refused(Refusal::Protected);
     }
     if !equals(flash, address.0 as usize, turned) {
-        return Verdict::Refused(Refusal::Differs);
+        return Judged::Refused(Refusal::Differs);
     }
-    Verdict::Accepted
+    Judged::Accepted(Deed::Nothing)
 }
 
 // Every byte, turned back, equals flash from `at` on.

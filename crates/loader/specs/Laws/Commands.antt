@@ -12,29 +12,12 @@ use Rattle.basis.specs.Laws.Refusals.{skip, stop, done, passed, first-then, by-
 use Rattle.basis.specs.Refusals.{Answer, refused, given, Rule, _when_, first, andThen}
 use Rattle.basis.specs.Units.{pageOf, startOf}
 use Rattle.image.specs.Flash.{eraseOf}
-use Rattle.loader.specs.Commands.{Effect, effectAfter, Changes, Does, protectedPages, protectedBytes, massErase, eraseRows, erasing, writeRows, writing, verifyRows, protecting, running, keeping, obeyOf, loaderAfter}
+use Rattle.loader.specs.Commands.{Effect, effectAfter, Does, protectedPages, protectedBytes, massErase, eraseRows, erasing, writeRows, writing, verifyRows, protecting, running, keeping, obeyOf, loaderAfter}
 use Rattle.loader.specs.State.{withCondition, clearedOf}
 use Rattle.loader.specs.Verify.{equalsOf}
 use Rattle.loader.specs.declared.state.Condition.the-variants.{Left}
 use Rattle.loader.specs.declared.state.Loader.{Loader}
 use Rattle.packet.specs.Table.{eraseByte, writeByte, verifyByte, protectByte, runByte}
-
--- what a function that obeys shows, by its two ways out
-pub stays : {x : Answer Loader} {n : ℕ} (l : Loader) → x ≡ refused n → Changes x l (refused n) l
-stays l e = rw e (record { verdict-is = refl; loader-is = refl })
-
-pub changes : {x : Answer Loader} {m next : Loader} (l : Loader) → x ≡ given m → next ≡ m
-    → Changes x l (given tt) next
-changes l e f = rw e (record { verdict-is = refl; loader-is = f })
-
-pub leaves-all : {x : Answer Effect} {n : ℕ} (l : Loader) (f : List ℕ) → x ≡ refused n
-    → Does x l f (refused n) l f
-leaves-all l f e = rw e (record { verdict-is = refl; loader-is = refl; flash-is = refl })
-
-pub does : {x : Answer Effect} {e : Effect} {v : Answer (Unit {0})} {next : Loader} {flash : List ℕ}
-    (l : Loader) (f : List ℕ)
-    → x ≡ given e → v ≡ given tt → next ≡ e .loader → flash ≡ e .flash → Does x l f v next flash
-does l f e v p q = rw e (record { verdict-is = v; loader-is = p; flash-is = q })
 
 -- what holds of loader and flash as they were, and as the command leaves them, holds whatever its table says
 pub either-way : (P : Effect → Type 0) (l : Loader) (f : List ℕ) (e : Effect) (t : List Rule)
@@ -146,13 +129,6 @@ module _ (l : Loader) (f : List ℕ) where
       → effectAfter l f (keeping f x) ≡ record { loader = loaderAfter l x; flash = f }
   keeping-is (refused n) = refl
   keeping-is (given m) = refl
-
-  -- what changes the loader alone
-  pub changed-does : (x : Answer Loader) {v : Answer (Unit {0})} {next : Loader} → Changes x l v next
-      → Does (keeping f x) l f v next f
-  changed-does (refused n) t =
-      record { verdict-is = t .verdict-is; loader-is = t .loader-is; flash-is = refl }
-  changed-does (given m) t = record { verdict-is = t .verdict-is; loader-is = t .loader-is; flash-is = refl }
 
   -- what changes nothing: the table decides
   pub judged-does : (t : List Rule) {v : Answer (Unit {0})} → v ≡ first t (given tt)

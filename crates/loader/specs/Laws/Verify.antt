@@ -45,7 +45,8 @@ stands-equals f a (t ∷ s) h e =
     ∙ stands-equals f (a + 1) s (omega arith) r
 
 -- what W stored over blank flash, V accepts when turned
-pub stored-equals : (f : List ℕ) (a : ℕ) (d : List ℕ) → a + length d ≤ length f → Blank f a (length d) → Bytes d
+pub stored-equals : (f : List ℕ) (a : ℕ) (d : List ℕ) → a + length d ≤ length f → Blank f a (length d)
+    → Bytes d
     → equalsOf (storeOf f a d) a (map turnedOf d) ≡ true
 stored-equals f a d h blank bytes =
     stands-equals (storeOf f a d) a (map turnedOf d) (simp (length-map, length-store) h)

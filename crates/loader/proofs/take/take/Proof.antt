@@ -1,16 +1,17 @@
--- `take` meets its contract: the two sizes, then what was heard and what is told of it.
+-- `take` meets its contract: the two sizes, then what was heard, done or left, and told.
 use Prim.Native.Nat.{ℕ}
+use mathlib.Core.Bool.{Bool}
 use mathlib.Core.List.{List}
-use mathlib.Core.Path.{_≡_, refl, ap, ap₂, _∙_}
+use mathlib.Core.Path.{_≡_, refl, ap, sym, subst, _∙_}
 use borrow.Author.Needs.{needs}
 use lib.ListN.{length}
 use Rattle.basis.specs.Board.{pages}
 use Rattle.basis.specs.Lists.{overlay}
-use Rattle.basis.specs.Refusals.{refused}
-use Rattle.loader.specs.Laws.Commands.{leaves-all}
+use Rattle.basis.specs.Refusals.{refused, given}
+use Rattle.loader.specs.Deeds.{judgedOf, Settles}
 use Rattle.loader.specs.Laws.Take.{take-size, take-small, take-heard}
-use Rattle.loader.specs.Paper.{paperVerdict}
-use Rattle.loader.specs.Take.{tellOf, answerBytes, hearOf, takeOf, Takes}
+use Rattle.loader.specs.Take.{tellOf, takeOf, Takes}
+use Rattle.loader.specs.declared.deed.Judged.{Judged}
 use Rattle.loader.proofs.take.take.Statement.{statement}
 use Rattle.loader.proofs.take.take.Tie as tie
 
@@ -20,12 +21,27 @@ refuses-size : (c : tie.Start)
     → Takes (takeOf pages (a .loader) (a .input .now) (a .flash .now) (length (a .answer .now))) (a .loader)
     (a .flash .now) (a .answer .now) (refused 20) (a .loader) 0 (a .flash .now) (a .answer .now)
 refuses-size c e =
-    let a = c .args in
     rw e (record {
-      does-is = leaves-all (a .loader) (a .flash .now) refl;
+      does-is = record { verdict-is = refl; loader-is = refl; flash-is = refl };
       answered-is = refl;
       answer-is = refl;
     })
+
+abbrev entry : tie.Else2 → tie.Start
+entry c = c .before .before .before .before .before
+
+abbrev sized : tie.After-hear → tie.Else2
+sized c = c .before .before
+
+-- what was heard is what the input comes to
+heard : (c : tie.After-hear) {j : Judged} → c .hear .result ≡ j → let a = entry (sized c) .args in
+    takeOf pages (a .loader) (a .input .now) (a .flash .now) (length (a .answer .now))
+    ≡ judgedOf pages j (a .loader) (a .input .now) (a .flash .now)
+heard c e = let a = entry (sized c) .args in
+    take-heard pages (a .loader) (a .input .now) (a .flash .now) (length (a .answer .now))
+    (sized c .before .if1 .left) (sized c .if2 .left)
+    ∙ sym (c .hear .ensures .comes-to)
+    ∙ ap (λ (x : Judged). judgedOf pages x (a .loader) (a .input .now) (a .flash .now)) e
 
 returns : tie.Need-returns
 returns c = refuses-size (c .before .before .before .before) (take-size pages _ _ _ _ (c .if1 .taken))
@@ -34,21 +50,45 @@ returns-2 : tie.Need-returns-2
 returns-2 c =
     refuses-size (c .before .before .before .before .before) (take-small pages _ _ _ _ (c .if2 .taken))
 
+apply-requires : tie.Need-apply-requires
+apply-requires c κs =
+    let found = c .before .before in
+    let h = found .before .before in
+    let a = entry (sized h) .args in (
+      sized h .before .if1 .left,
+      subst (λ (x : Judged). Settles pages x (a .input .now)) (found .deed .given .1)
+          (h .hear .ensures .settles),
+    )
+
 returns-3 : tie.Need-returns-3
 returns-3 c =
-    let a = c .before .before .before .before .before .before .before .before .before .before .before .before .before .before .before .args in
-    let h = c .before .before .before .before .before .before .before .before .hear .ensures in
-    let e : tellOf (c .before .before .before .before .is-waiting .result)
-    (paperVerdict (c .before .before .before .before .before .before .before .before .hear .result .verdict))
-    ≡ answerBytes (a .loader) (hearOf pages (a .loader) (a .input .now) (a .flash .now)) = ap₂ tellOf
-    (c .before .before .before .before .is-waiting .ensures) (h .verdict-is) in
-    rw (take-heard pages (a .loader) (a .input .now) (a .flash .now) (length (a .answer .now))
-    (c .before .before .before .before .before .before .before .before .before .before .before .if1 .left)
-    (c .before .before .before .before .before .before .before .before .before .before .if2 .left))
+    let told = c .before .before in
+    let asked = told .before .before in
+    let done = asked .before .before .before in
+    let found = done .before .before .before in
+    let a = entry (sized (found .before .before)) .args in
+    let t = ap (λ (w : Bool). tellOf w (given tt)) (asked .is-waiting .ensures) in
+    rw (heard (found .before .before) (found .deed .given .1))
     (record {
-      does-is = h;
-      answered-is = c .before .before .tell .ensures .0 ∙ ap length e;
-      answer-is = c .before .before .tell .ensures .1 ∙ ap (λ (w : List ℕ). overlay w (a .answer .now)) e;
+      does-is =
+          record {
+            verdict-is = refl;
+            loader-is = done .apply .ensures .0;
+            flash-is = done .apply .ensures .1;
+          };
+      answered-is = told .tell .ensures .0 ∙ ap length t;
+      answer-is = told .tell .ensures .1 ∙ ap (λ (w : List ℕ). overlay w (a .answer .now)) t;
+    })
+
+returns-4 : tie.Need-returns-4
+returns-4 c =
+    let told = c .before .before in
+    let found = told .before .before .before .before in
+    rw (heard (found .before .before) (found .why .given .1))
+    (record {
+      does-is = record { verdict-is = refl; loader-is = refl; flash-is = refl };
+      answered-is = told .tell2 .ensures .0;
+      answer-is = told .tell2 .ensures .1;
     })
 
 pub take-spec : {M : Type 1} → statement M
@@ -58,8 +98,16 @@ take-spec =
     returns
     returns-2
     (λ c κs. search needs)
+    (λ c. search needs)
+    apply-requires
+    (λ c κs. search needs)
+    (λ c κs. search needs)
+    (λ c. search needs)
     (λ c κs. search needs)
     (λ c κs. search needs)
     (λ c. search needs)
     (λ c. search needs)
-    returns-3)
+    returns-3
+    (λ c. search needs)
+    (λ c. search needs)
+    returns-4)

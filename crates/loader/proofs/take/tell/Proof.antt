@@ -28,15 +28,16 @@ told-bel w v n e g = rw (g, e)
 
 returns : tie.Need-returns
 returns c =
-    rw (told-greeting _ _ (c .before .before .before .before .before .if1 .taken)
-    (ap paperVerdict (c .before .before .before .before .before .before .enum-told .given .1)))
+    let greeted = c .before .before .before .before .before in
+    rw (told-greeting _ _ (greeted .if1 .taken) (ap paperVerdict (greeted .before .enum-told .given .1)))
     (refl, c .before .before .write .ensures)
 
 returns-2 : tie.Need-returns-2
 returns-2 c =
-    rw (told-nothing (c .before .before .before .before .before .before .args .waiting) _ _
-    (sym (c .before .is-quiet .ensures) ∙ c .if2 .taken)
-    (ap paperVerdict (c .before .before .before .verdict .given .1))) (refl, refl)
+    let found = c .before .before .before in
+    rw (told-nothing (found .before .before .before .args .waiting) _ _
+    (sym (c .before .is-quiet .ensures) ∙ c .if2 .taken) (ap paperVerdict (found .verdict .given .1)))
+    (refl, refl)
 
 returns-3 : tie.Need-returns-3
 returns-3 c =
@@ -45,13 +46,11 @@ returns-3 c =
 
 returns-4 : tie.Need-returns-4
 returns-4 c =
-    rw (told-bel (c .before .before .before .before .before .before .args .waiting) _ _
-    (sym (c .before .is-quiet .ensures) ∙ c .if2 .left)
-    (ap paperVerdict (c .before .before .before .verdict .given .1))) (
-      refl,
-      overlay-next [] (c .before .before .before .before .before .before .args .answer .now) 0 7 refl
-          (omega arith),
-    )
+    let found = c .before .before .before in
+    let a = found .before .before .before .args in
+    rw (told-bel (a .waiting) _ _ (sym (c .before .is-quiet .ensures) ∙ c .if2 .left)
+    (ap paperVerdict (found .verdict .given .1)))
+    (refl, overlay-next [] (a .answer .now) 0 7 refl (omega arith))
 
 pub tell-spec : {M : Type 1} → statement M
 tell-spec =

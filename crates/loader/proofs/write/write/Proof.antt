@@ -1,47 +1,109 @@
--- `write` meets its contract: the table decides, and what it lets through is stored.
-use mathlib.Core.Path.{refl, ap, sym, _∙_}
+-- `write` meets its contract: each test is a row of the table,
+-- and the groups asked for are those of the bytes.
+use Prim.Native.Nat.{ℕ, _+_, _-_, _≤_}
+use mathlib.Core.Path.{_≡_, ap, ap₂, sym, _∙_}
+use mathlib.Core.List.{List}
 use native.Mathlib.Omega.{arith}
 use borrow.Author.Needs.{needs}
+use borrow.Author.Tests.{ltb-true, ltb-false}
 use lib.ListN.{length}
-use Rattle.basis.specs.Board.{pages}
-use Rattle.basis.specs.Laws.Refusals.{alike, through}
-use Rattle.basis.specs.Refusals.{given}
-use Rattle.loader.specs.Commands.{writing}
-use Rattle.loader.specs.Laws.Commands.{leaves-all, does, write-let}
-use Rattle.loader.specs.Paper.{paperVerdict}
+use Rattle.basis.specs.Board.{pages, flashSize}
+use Rattle.basis.specs.Refusals.{given, first}
+use Rattle.image.specs.Flash.{storeOf}
+use Rattle.loader.specs.Commands.{protectedBytes, writeRows, writing}
+use Rattle.loader.specs.Deeds.{dataIn}
+use Rattle.loader.specs.Laws.Commands.{write-open, write-past, write-protected, write-passes}
+use Rattle.loader.specs.Protection.{anyOf}
+use Rattle.loader.proofs.Judging.{refuses, accepts, data-length}
 use Rattle.loader.proofs.write.write.Statement.{statement}
 use Rattle.loader.proofs.write.write.Tie as tie
 
-store-requires : tie.Need-store-requires
-store-requires c κs =
-    let a = c .before .before .before .before .before .before .args in
-    let e = write-let pages (a .loader) (a .address .0) (length (a .bytes .now)) (given tt)
-    (sym (c .before .before .before .judge .ensures) ∙ ap paperVerdict (c .before .enum-told .given .1)) in
-    omega (arith, e .1, c .before .before .before .before .before .before .pre)
+-- the entry, from past the test of 7 and from past that of 8
+abbrev entry : tie.Else2 → tie.Start
+entry c = c .before .before .before .before
+
+abbrev inner : tie.After-any → tie.Else2
+inner c = c .before .before .before .before .before
+
+-- past the test of 7 the bytes end in flash
+inside : (c : tie.Else2) → let p = entry c .args .packet in p .address .0 + p .len ≤ flashSize
+inside c = ltb-false _ _ (sym (c .before .past-end .ensures) ∙ c .if2 .left)
+
+-- the groups asked for are those of the bytes
+spanned : (c : tie.After-any)
+    → let a = entry (inner c) .args in let p = a .packet in
+    c .any .result ≡ protectedBytes (a .loader .protection) (p .address .0) (p .address .0 + p .len)
+spanned c =
+    c .any .ensures
+    ∙ ap₂ (λ (g h : ℕ). anyOf (entry (inner c) .args .loader .protection .groups) g (h - g))
+    (c .before .before .group .ensures) (c .before .group2 .ensures)
+
+-- the table over the packet's length is the table over its bytes
+tabled : (c : tie.Start) (s f : List ℕ) → let a = c .args in let p = a .packet in
+    p .at + p .len ≤ length s
+    → writing pages (a .loader) (p .address .0) (dataIn s p) f
+    ≡ first (writeRows pages (a .loader) (p .address .0) (p .len))
+    (given (record { loader = a .loader; flash = storeOf f (p .address .0) (dataIn s p) }))
+unfolding writing
+tabled c s f h =
+    let a = c .args in let p = a .packet in
+    ap (λ (n : ℕ). first (writeRows pages (a .loader) (p .address .0) n)
+    (given (record { loader = a .loader; flash = storeOf f (p .address .0) (dataIn s p) })))
+    (data-length s p h)
 
 returns : tie.Need-returns
-unfolding writing
 returns c =
-    leaves-all _ _
-    (alike _ _ _
-    (sym (c .before .before .before .judge .ensures) ∙ ap paperVerdict (c .before .why .given .1)))
+    let e = c .before .before in let a = e .args in
+    λ s f h. refuses (tabled e s f h
+    ∙ write-open pages (a .loader) (a .packet .address .0) (a .packet .len) _ (c .if1 .taken))
 
 returns-2 : tie.Need-returns-2
-unfolding writing
 returns-2 c =
-    does _ _ (through _ _ _
-    (sym (c .before .before .before .before .before .before .judge .ensures)
-    ∙ ap paperVerdict (c .before .before .before .before .enum-told .given .1))) refl refl
-    (c .before .before .store .ensures)
+    let e = c .before .before .before .before in let a = e .args in
+    λ s f h. refuses (tabled e s f h
+    ∙ write-past pages (a .loader) (a .packet .address .0) (a .packet .len) _ (c .before .before .if1 .left)
+    (ltb-true _ _ (sym (c .before .past-end .ensures) ∙ c .if2 .taken)))
+
+cast-end : tie.Need-cast-end
+cast-end c = let h = inside (c .before) in omega arith
+
+add-end : tie.Need-add-end
+add-end c = let h = inside (c .before .before) in omega arith
+
+add-t15 : tie.Need-add-t15
+add-t15 c = let h = inside (c .before .before .before) in omega arith
+
+any-requires : tie.Need-any-requires
+any-requires c κs = let h = inside (c .before .before .before .before) in omega (arith, c .group2 .ensures)
+
+returns-3 : tie.Need-returns-3
+returns-3 c =
+    let k = inner (c .before) in let e = entry k in let a = e .args in
+    λ s f h. refuses (tabled e s f h
+    ∙ write-protected pages (a .loader) (a .packet .address .0) (a .packet .len) _
+    (k .before .before .if1 .left) (inside k) (sym (spanned (c .before)) ∙ c .if3 .taken))
+
+returns-4 : tie.Need-returns-4
+returns-4 c =
+    let k = inner (c .before) in let e = entry k in let a = e .args in
+    λ s f h. accepts (tabled e s f h
+    ∙ write-passes pages (a .loader) (a .packet .address .0) (a .packet .len) _
+    (k .before .before .if1 .left) (inside k) (sym (spanned (c .before)) ∙ c .if3 .left))
+    (h, inside k)
 
 pub write-spec : {M : Type 1} → statement M
 write-spec =
     tie.close
     (tie.spec
+    returns
+    (λ c κs. search needs)
+    returns-2
+    cast-end
+    add-end
     (λ c κs. search needs)
     (λ c. search needs)
-    (λ c. search needs)
-    store-requires
-    returns
-    (λ c. search needs)
-    returns-2)
+    add-t15
+    (λ c κs. search needs)
+    any-requires
+    returns-3
+    returns-4)

@@ -7,8 +7,8 @@ use Rattle.loader.proofs.state.Loader.cleared.Tie as tie
 returns : tie.Need-returns
 returns c =
     λ i. record {
-      condition = c .before .before .args .self .condition;
-      sequence = c .before .before .args .self .sequence;
+      condition = c .before .args .self .condition;
+      sequence = c .before .args .self .sequence;
       protection = c .none .ensures i;
       key = clearedKey;
     }

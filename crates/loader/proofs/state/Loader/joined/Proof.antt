@@ -7,8 +7,8 @@ returns : tie.Need-returns
 returns c =
     λ i. record {
       condition = c .before .before .before .before .before .args .self .condition;
-      sequence = c .before .closed .ensures i;
-      protection = c .join .ensures i;
+      sequence = c .closed .ensures i;
+      protection = c .before .join .ensures i;
       key = c .before .before .before .before .before .args .key;
     }
 

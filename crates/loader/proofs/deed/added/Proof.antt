@@ -3,8 +3,8 @@ use mathlib.Core.Path.{ap, _∙_}
 use borrow.Author.Needs.{needs}
 use borrow.Author.Tests.{lt-ltb, le-ltb}
 use Rattle.loader.specs.Protection.{withGroup}
-use Rattle.loader.proofs.protect.added.Statement.{statement}
-use Rattle.loader.proofs.protect.added.Tie as tie
+use Rattle.loader.proofs.deed.added.Statement.{statement}
+use Rattle.loader.proofs.deed.added.Tie as tie
 
 returns : tie.Need-returns
 returns c =
@@ -17,4 +17,10 @@ returns-2 c = simp (le-ltb _ _ (c .before .if1 .left)) (c .with-read .ensures)
 
 pub added-spec : {M : Type 1} → statement M
 added-spec =
-    tie.close (tie.spec (λ c κs. search needs) (λ c κs. search needs) (λ c κs. search needs) returns returns-2)
+    tie.close
+    (tie.spec
+    (λ c κs. search needs)
+    (λ c κs. search needs)
+    (λ c κs. search needs)
+    returns
+    returns-2)
