@@ -1,10 +1,10 @@
 /* Asks the library what case lines on standard input say, and prints each line again with what came out.
  * docs/CASES.md has the lines, word by word.
  *
- * Nothing of the paper stands here: words are parsed, the library is called, fields and bytes are printed. A parser
- * gives 0 for a word that is not what it parses, and a request 0 for a line that is no case; nothing is done then.
- * What is printed is flushed before the program waits for input. Its status is 0 at the end of the input, and 1 where
- * input or output fails. */
+ * Nothing of the paper stands here: words are parsed, the library is called, fields and bytes are printed.
+ * A parser gives 0 for a word that is not what it parses, and a request 0 for a line that is no case; nothing
+ * is done then. What is printed is flushed before the program waits for input. Its status is 0 at the end of
+ * the input, and 1 where input or output fails. */
 #define _POSIX_C_SOURCE 200809L
 #include "gremolunde.h"
 #include <stdlib.h>
@@ -137,7 +137,9 @@ static int next_line(word *line) {
 
 /* Words. */
 
-static int is(word w, const char *name) { return w.length == strlen(name) && memcmp(w.at, name, w.length) == 0; }
+static int is(word w, const char *name) {
+    return w.length == strlen(name) && memcmp(w.at, name, w.length) == 0;
+}
 
 /* Which of these names the word is, or -1. */
 static int name_of(word w, const char *const *names, int count) {
@@ -766,7 +768,8 @@ static int ask_start(const word *words) {
 
 static int step(uint8_t silent, word answer) {
     return started && bring_bytes(answer) && lend(BIT(INPUT) | BIT(IMAGE) | BIT(MAP), BIT(PACKET)) &&
-           give_stepped(gremolunde_session_step(session, silent, LENT(INPUT), LENT(IMAGE), LENT(MAP), LENT(PACKET)),
+           give_stepped(gremolunde_session_step(session, silent, LENT(INPUT), LENT(IMAGE), LENT(MAP),
+                                                LENT(PACKET)),
                         session);
 }
 
@@ -952,8 +955,9 @@ static void answer(word line) {
 
 static void begin(void) {
     static const uint8_t bytes[] = {0xFF, 0xAA, 0xFF, 0x00, 0xAA, 0xAA, 0xAA, 0xAA, 0xAA, 0xAA};
-    static const size_t lengths[] = {GREMOLUNDE_FLASH,  GREMOLUNDE_ANSWER,     GREMOLUNDE_IMAGE, GREMOLUNDE_MAP,
-                                     GREMOLUNDE_PACKET, GREMOLUNDE_HEX_RECORD, GREMOLUNDE_LOG};
+    static const size_t lengths[] = {GREMOLUNDE_FLASH,      GREMOLUNDE_ANSWER, GREMOLUNDE_IMAGE,
+                                     GREMOLUNDE_MAP,        GREMOLUNDE_PACKET, GREMOLUNDE_HEX_RECORD,
+                                     GREMOLUNDE_LOG};
     int b;
     for (b = 0; b < BUFFERS; b++) {
         fill(part_at(b, 0, CAPACITY), bytes[b]);

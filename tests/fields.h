@@ -1,5 +1,6 @@
-/* The structs of include/gremolunde.h, each with its size, and its fields in the order of the header, each with its
- * place and its size. Define STRUCT(type, size) and FIELD(type, name, place, size), then include this. */
+/* The structs of include/gremolunde.h, each with its size, and its fields in the order of the header, each
+ * with its place and its size. Define STRUCT(type, size) and FIELD(type, name, place, size), then include
+ * this. */
 
 STRUCT(gremolunde_loader, 24)
 FIELD(gremolunde_loader, groups, 0, 8)

@@ -1,5 +1,6 @@
-/* Checks of the library as C links it what a case line cannot say: the place and size of every field, and that bytes
- * lent as const may stand in memory that nobody can write, and overlap. Prints nothing and returns 0 if all holds. */
+/* Checks of the library as C links it what a case line cannot say: the place and size of every field, and
+ * that bytes lent as const may stand in memory that nobody can write, and overlap. Prints nothing and returns
+ * 0 if all holds. */
 #include "gremolunde.h"
 #include <stdio.h>
 
@@ -17,7 +18,9 @@ static void hold(int holds, const char *what) {
 static void structs(void) {
     HOLD(sizeof(size_t) == 8);
 #define STRUCT(type, size) HOLD(sizeof(type) == (size));
-#define FIELD(type, name, place, size) HOLD(offsetof(type, name) == (place) && sizeof(((type *)0)->name) == (size));
+#define FIELD(type, name, place, size)     \
+    HOLD(offsetof(type, name) == (place)); \
+    HOLD(sizeof(((type *)0)->name) == (size));
 #include "fields.h"
 }
 
@@ -28,7 +31,8 @@ static uint8_t image[GREMOLUNDE_IMAGE], map[GREMOLUNDE_MAP], flash[GREMOLUNDE_FL
 static uint8_t packet[GREMOLUNDE_PACKET], answer[GREMOLUNDE_ANSWER], text[GREMOLUNDE_HEX_RECORD];
 
 static void packets(void) {
-    static const uint8_t plain[] = {0x12}, input[] = {0x07, 0x0E, 0x05, 0x52, 0, 0, 0, 1, 0xA8}, hello[] = {0x08};
+    static const uint8_t plain[] = {0x12}, hello[] = {0x08};
+    static const uint8_t input[] = {0x07, 0x0E, 0x05, 0x52, 0, 0, 0, 1, 0xA8};
     gremolunde_loader loader = gremolunde_loader_new();
     HOLD(gremolunde_packet_build(packet, sizeof packet, 'W', 0, plain, sizeof plain).number == 0);
     HOLD(gremolunde_packet_read(input, sizeof input).number == 0);
@@ -45,16 +49,17 @@ static void files(void) {
 /* A step whose answer lies in the image and in the map as well. */
 static void sessions(void) {
     static const uint8_t record[] = {0x00, 0x08, 0x01, 0x00, 0x00, 0x04, 0x00, 0x04, 0x00, 0x02};
-    gremolunde_session_stepped now =
-        gremolunde_session_start(GREMOLUNDE_RESET, both, sizeof both, both, sizeof map, packet, sizeof packet);
+    gremolunde_session_stepped now = gremolunde_session_start(GREMOLUNDE_RESET, both, sizeof both, both,
+                                                              sizeof map, packet, sizeof packet);
     gremolunde_rehearsal load;
     HOLD(now.number == 0 && now.session.named == 1);
-    now = gremolunde_session_step(now.session, 0, both, 1, both, sizeof both, both, sizeof map, packet, sizeof packet);
+    now = gremolunde_session_step(now.session, 0, both, 1, both, sizeof both, both, sizeof map, packet,
+                                  sizeof packet);
     HOLD(now.number == 0 && gremolunde_session_outcome(now.session) == 42);
     HOLD(gremolunde_session_proved(now.session, both, sizeof map, 0).number == 0);
     HOLD(gremolunde_log_read(record, sizeof record).number == 0);
-    load = gremolunde_rehearse(GREMOLUNDE_RESET, gremolunde_loader_new(), both, 2, both, sizeof both, both, sizeof map,
-                               flash, sizeof flash);
+    load = gremolunde_rehearse(GREMOLUNDE_RESET, gremolunde_loader_new(), both, 2, both, sizeof both, both,
+                               sizeof map, flash, sizeof flash);
     HOLD(load.number == 0);
 }
 
