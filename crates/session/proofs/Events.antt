@@ -11,7 +11,7 @@ use Rattle.events.proofs.event.Event.{the-type}
 use Rattle.events.specs.declared.event.Event.{Event}
 
 -- an event whose variant is one of some is none that is not among them
-pub another : (ks : List ℕ) (x e : Event) → T (not (hasKey ks (tagOf the-type x))) → OneOf ks (tagOf the-type e)
-    → e ≡ x → ⊥
+pub another : (ks : List ℕ) (x e : Event) → T (not (hasKey ks (tagOf the-type x)))
+    → OneOf ks (tagOf the-type e) → e ≡ x → ⊥
 another ks x e t h q =
     miss ks (tagOf the-type x) t (subst (λ (y : Event). OneOf ks (tagOf the-type y)) q h)

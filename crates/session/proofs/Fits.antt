@@ -58,7 +58,8 @@ module _ (m : List ℕ) {f : Surveyed} (kind : RunKind) {n : ℕ} (same : n ≡ 
   told-came (Phase.Ended o) e l = ap (λ (x : ℕ). endsAt (asked kind) x o k) same
 
 -- the tests of the counts, in their order
-module _ (m : List ℕ) (s : Session) {f : Surveyed} (e : f ≡ surveyOf pages m (cursorOf pages (s .phase))) where
+module _ (m : List ℕ) (s : Session) {f : Surveyed}
+    (e : f ≡ surveyOf pages m (cursorOf pages (s .phase))) where
   t : Told m (cursorOf pages (s .phase)) f
   t = told m (cursorOf pages (s .phase)) e
 

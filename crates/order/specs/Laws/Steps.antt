@@ -237,7 +237,8 @@ module _ (board : ℕ) (m : List ℕ) (long : length m ≡ mapBytes board) (some
             (omega arith) a k h (ltb-false _ _ d),
       ))))
 
-  run-stands : (k : ℕ) → standsAt board m Step.Run k ≡ true → leftAt board m (followOf board m Step.Run) (k + 1) ≡ true
+  run-stands : (k : ℕ) → standsAt board m Step.Run k ≡ true
+      → leftAt board m (followOf board m Step.Run) (k + 1) ≡ true
   unfolding followOf
   run-stands k h = eq-eqb (total board m) (k + 1) (omega (arith, stands-r board m k h))
 
@@ -252,7 +253,8 @@ module _ (board : ℕ) (m : List ℕ) (long : length m ≡ mapBytes board) (some
   pub first-at : firstOf board m ≡ stepAt board m 0
   first-at = stands-at board m long (firstOf board m) 0 first-stands
 
-  pub follow-at : (k : ℕ) → k < total board m → followOf board m (stepAt board m k) ≡ followingAt board m (k + 1)
+  pub follow-at : (k : ℕ) → k < total board m
+      → followOf board m (stepAt board m k) ≡ followingAt board m (k + 1)
   follow-at k l =
       left-at board m long (followOf board m (stepAt board m k)) (k + 1)
       (follow-stands (stepAt board m k) k (at-stands board m k l))
@@ -270,8 +272,8 @@ module _ (board : ℕ) (m : List ℕ) (long : length m ≡ mapBytes board) (some
   pub first-start : atStart board m (firstOf board m) ≡ true
   first-start = stands-start board m long (firstOf board m) 0 first-stands
 
-  pub follow-start : (s t : Step) (k : ℕ) → standsAt board m s k ≡ true → followOf board m s ≡ Following.Step t
-      → atStart board m t ≡ true
+  pub follow-start : (s t : Step) (k : ℕ) → standsAt board m s k ≡ true
+      → followOf board m s ≡ Following.Step t → atStart board m t ≡ true
   follow-start s t k h e =
       stands-start board m long t (k + 1)
       (sym (ap (λ (f : Following). leftAt board m f (k + 1)) e) ∙ follow-stands s k h)

@@ -26,46 +26,46 @@ use Rattle.session.specs.declared.session.Session.{Session}
 
 -- ---- from state to state
 
-module _ (board : ℕ) (m : List ℕ) (long : length m ≡ mapBytes board) (some : 0 < namedCount board m) where
-  module _ (kind : RunKind) where
-    -- the greeting: the first packet is out
-    pub greeting-state : tookOf board m (atGreeting board m kind) Event.Greeting ≡ stateAt board m kind 0
-    unfolding tookOf
-    greeting-state = ap (λ (s : Step). sessionWith board m kind (Phase.Out s) 0) (first-at board m long some)
+module _ (board : ℕ) (m : List ℕ) (long : length m ≡ mapBytes board) (some : 0 < namedCount board m)
+    (kind : RunKind) where
+  -- the greeting: the first packet is out
+  pub greeting-state : tookOf board m (atGreeting board m kind) Event.Greeting ≡ stateAt board m kind 0
+  unfolding tookOf
+  greeting-state = ap (λ (s : Step). sessionWith board m kind (Phase.Out s) 0) (first-at board m long some)
 
-    -- ACK: the state after k leads to the state after k + 1
-    pub ack-next : (k : ℕ) → k + 1 < total board m
-        → tookOf board m (stateAt board m kind k) Event.Ack ≡ stateAt board m kind (k + 1)
-    unfolding tookOf
-    ack-next k l =
-        ap (λ (f : Following). sessionWith board m kind (reachedOf kind f) (k + 1))
-        (follow-next board m long some k l)
+  -- ACK: the state after k leads to the state after k + 1
+  pub ack-next : (k : ℕ) → k + 1 < total board m
+      → tookOf board m (stateAt board m kind k) Event.Ack ≡ stateAt board m kind (k + 1)
+  unfolding tookOf
+  ack-next k l =
+      ap (λ (f : Following). sessionWith board m kind (reachedOf kind f) (k + 1))
+      (follow-next board m long some k l)
 
-    -- ACK to the last packet ends as was asked
-    pub ack-last : (k : ℕ) → k + 1 ≡ total board m
-        → tookOf board m (stateAt board m kind k) Event.Ack ≡ valid board m kind
-    unfolding tookOf
-    ack-last k l =
-        ap (λ (f : Following). sessionWith board m kind (reachedOf kind f) (k + 1))
-        (follow-end board m long some k l)
-        ∙ ap (sessionWith board m kind (Phase.Ended (asked kind))) l
+  -- ACK to the last packet ends as was asked
+  pub ack-last : (k : ℕ) → k + 1 ≡ total board m
+      → tookOf board m (stateAt board m kind k) Event.Ack ≡ valid board m kind
+  unfolding tookOf
+  ack-last k l =
+      ap (λ (f : Following). sessionWith board m kind (reachedOf kind f) (k + 1))
+      (follow-end board m long some k l)
+      ∙ ap (sessionWith board m kind (Phase.Ended (asked kind))) l
 
-    -- ---- these states fit the file
+  -- ---- these states fit the file
 
-    pub waiting-fits : fitsOf board m (atGreeting board m kind) ≡ true
-    waiting-fits =
-        fits-by board m (atGreeting board m kind)
-        (record { some = some; named-is = refl; total-is = refl; came-to = refl })
+  pub waiting-fits : fitsOf board m (atGreeting board m kind) ≡ true
+  waiting-fits =
+      fits-by board m (atGreeting board m kind)
+      (record { some = some; named-is = refl; total-is = refl; came-to = refl })
 
-    pub state-fits : (k : ℕ) → k < total board m → fitsOf board m (stateAt board m kind k) ≡ true
-    state-fits k l =
-        fits-by board m (stateAt board m kind k)
-        (record {
-          some = some;
-          named-is = refl;
-          total-is = refl;
-          came-to = at-stands board m k l;
-        })
+  pub state-fits : (k : ℕ) → k < total board m → fitsOf board m (stateAt board m kind k) ≡ true
+  state-fits k l =
+      fits-by board m (stateAt board m kind k)
+      (record {
+        some = some;
+        named-is = refl;
+        total-is = refl;
+        came-to = at-stands board m k l;
+      })
 
 -- ---- a step from a state
 

@@ -11,7 +11,8 @@ returns-2 c = rw (c .before .before .before .enum-told2 .given .1) (c .ranked2 .
 
 returns-3 : tie.Need-returns-3
 returns-3 c =
-    rw (c .before .before .before .enum-told3 .given .1, ← c .before .before .before-verify .ensures) (c .ranked3 .ensures)
+    rw (c .before .before .before .enum-told3 .given .1, ← c .before .before .before-verify .ensures)
+    (c .ranked3 .ensures)
 
 returns-4 : tie.Need-returns-4
 returns-4 c = rw (c .before .enum-told4 .given .1, ← c .before-run .ensures)

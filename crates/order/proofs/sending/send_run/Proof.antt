@@ -8,4 +8,5 @@ returns c = rw (← c .before .before .before .before .run-address .ensures) (c 
 
 pub send-run-spec : {M : Type 1} → statement M
 send-run-spec =
-    tie.close (tie.spec (λ c κs. search needs) (λ c. search needs) (λ c κs. search needs) (λ c. search needs) returns)
+    tie.close
+    (tie.spec (λ c κs. search needs) (λ c. search needs) (λ c κs. search needs) (λ c. search needs) returns)

@@ -29,7 +29,8 @@ overlay-taken : (p old x : List ℕ) (n : ℕ) → x ≡ overlay p old → n ≡
 overlay-taken p old x n e l = rw e (take-at p (drop (length p) old) n (sym l))
 
 module _ (image m : List ℕ) (l : Listing) (h : Listed pages image m l) (s : Step)
-    (next-is : l .next ≡ Following.Step s) (old x : List ℕ) (k : ℕ) (lent : length old ≡ packetMost) (same : length x ≡ length old)
+    (next-is : l .next ≡ Following.Step s) (old x : List ℕ) (k : ℕ) (lent : length old ≡ packetMost)
+    (same : length x ≡ length old)
     (sends : (k ≡ length (packetOf pages image m RunKind.Reset s)) ×
     (x ≡ overlay (packetOf pages image m RunKind.Reset s) old)) where
   abbrev p : List ℕ
@@ -75,8 +76,8 @@ sent-at c = c .before .before .before
 fits-at : (s : tie.After-send) → s .send .result ≤ packetMost
 fits-at s =
     let e = entry s in
-    packet-fits (e .args .image .now) (e .args .map .now) (e .args .self) (e .pre .0) (e .args .step) (e .pre .1) _ _
-    _ (e .pre .2) (s .send .kept .1 .1 .1 .1 .0) (s .send .ensures)
+    packet-fits (e .args .image .now) (e .args .map .now) (e .args .self) (e .pre .0) (e .args .step)
+    (e .pre .1) _ _ _ (e .pre .2) (s .send .kept .1 .1 .1 .1 .0) (s .send .ensures)
 
 add-listed : tie.Need-add-listed
 add-listed c = let s = c .before .before .before .before .before in

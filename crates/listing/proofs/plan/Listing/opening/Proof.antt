@@ -9,8 +9,8 @@ use Rattle.listing.proofs.plan.Listing.opening.Tie as tie
 
 returns : tie.Need-returns
 returns c =
-    listing-first pages _ (c .before .before .pre .0) (c .before .before .pre .1) _ _ (ap Following.Step (c .first .ensures))
-    (c .before .before .pre .2)
+    let s = c .before .before in
+    listing-first pages _ (s .pre .0) (s .pre .1) _ _ (ap Following.Step (c .first .ensures)) (s .pre .2)
 
 pub opening-spec : {M : Type 1} → statement M
 opening-spec = tie.close (tie.spec (λ c κs. search needs) returns)
