@@ -84,8 +84,8 @@ decimal-slice-write-buffer-2 : (t : ℕ) → decimal-lts.Need-slice-write-buffer
 decimal-slice-write-buffer-2 t c =
     let called = c .before .before in
     let tested = called .before .before in
-    decimal-behind _ _ _ _ _ (tested .if1 .left) (tested .before .before .pre .1) (called .decimal .ensures .0)
-    (called .decimal .kept .0)
+    decimal-behind _ _ _ _ _ (tested .if1 .left) (tested .before .before .pre .1)
+    (called .decimal .ensures .0) (called .decimal .kept .0)
 
 decimal-add-result-2 :
     (t : ℕ) →
