@@ -28,7 +28,7 @@
 extern "C" {
 #endif
 
-/* Rises when a struct changes. */
+/* Rises when a struct changes, or what a number in one means. */
 #define GREMOLUNDE_VERSION 1
 
 /* The sizes that the paper asks for, in bytes: flash, image and map exactly so, the others at least so. */

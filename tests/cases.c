@@ -1,10 +1,10 @@
 /* Asks the library what case lines on standard input say, and prints each line again with what came out.
  * docs/CASES.md has the lines, word by word.
  *
- * Nothing of the paper stands here: words are parsed, the library is called, fields and bytes are printed.
- * A parser gives 0 for a word that is not what it parses, and a request 0 for a line that is no case; nothing
- * is done then. What is printed is flushed before the program waits for input. Its status is 0 at the end of
- * the input, and 1 where input or output fails. */
+ * Nothing of the paper stands here but the 45 of a session that has not ended: words are parsed, the library is
+ * called, fields and bytes are printed. A parser gives 0 for a word that is not what it parses, and a request 0
+ * for a line that is no case; nothing is done then. What is printed is flushed before the program waits for
+ * input. Its status is 0 at the end of the input, and 1 where input or output fails. */
 #define _POSIX_C_SOURCE 200809L
 #include "gremolunde.h"
 #include <stdlib.h>
@@ -415,17 +415,10 @@ static const struct field {
 #include "fields.h"
 };
 
-/* The library is for x86-64, so the lowest byte of a field is its first. */
-static uint64_t value_of(const struct field *f, const void *from) {
-    uint64_t value = 0;
-    memcpy(&value, (const char *)from + f->place, f->size);
-    return value;
-}
-
 static int same(int of, const void *a, const void *b) {
     const struct field *f;
     for (f = fields; f < fields + COUNT(fields); f++) {
-        if (f->of == of && value_of(f, a) != value_of(f, b)) {
+        if (f->of == of && memcmp((const char *)a + f->place, (const char *)b + f->place, f->size) != 0) {
             return 0;
         }
     }
@@ -442,16 +435,19 @@ static gremolunde_hex reader;
 static gremolunde_session session;
 static int started;
 
+/* Of records whose fields are numbers; the library is for x86-64, so the lowest byte of a field is its first. */
 static void give_fields(int of, const void *from) {
     const struct field *f;
     for (f = fields; f < fields + COUNT(fields); f++) {
         if (f->of == of) {
-            give_number(value_of(f, from));
+            uint64_t value = 0;
+            memcpy(&value, (const char *)from + f->place, f->size);
+            give_number(value);
         }
     }
 }
 
-/* A struct from a word for each field. */
+/* Such a record from a word for each field, and no word more. */
 static int fields_of(const word *words, int of, void *to) {
     const struct field *f;
     uint64_t value;
@@ -464,7 +460,7 @@ static int fields_of(const word *words, int of, void *to) {
         }
         memcpy((char *)to + f->place, &value, f->size);
     }
-    return 1;
+    return words->at == NULL;
 }
 
 /* Gives the fields that are kept where there are no words, else keeps what the words say. */
@@ -829,6 +825,7 @@ static int ask_rehearse(const word *words) {
     loader = load.loader;
     session = load.session;
     started = 1;
+    hold(session.phase == GREMOLUNDE_ENDED);
     give_ending(session);
     give_number(session.acknowledged);
     return 1;
@@ -868,6 +865,7 @@ static int ask_logread(const word *words) {
 
 /* Lines. */
 
+/* A record has no more fields. */
 #define WORDS 8
 
 /* Each request with how many words it takes, at least and at most. */
@@ -881,9 +879,9 @@ static const struct request {
     {"put", 3, 3, ask_put},
     {"look", 3, 3, ask_look},
     {"changed", 0, 0, ask_changed},
-    {"loader", 0, 7, ask_loader},
-    {"reader", 0, 4, ask_reader},
-    {"session", 0, 8, ask_session},
+    {"loader", 0, WORDS, ask_loader},
+    {"reader", 0, WORDS, ask_reader},
+    {"session", 0, WORDS, ask_session},
     {"turned", 1, 1, ask_turned},
     {"restored", 1, 1, ask_restored},
     {"build", 3, 3, ask_build},
@@ -920,7 +918,7 @@ static word split(word *left) {
 /* The last word takes all that is left, so a word too many makes it none that a request takes. */
 static int ask(word line) {
     const struct request *r = requests;
-    word words[WORDS] = {{NULL, 0}}, name = split(&line);
+    word words[WORDS + 1] = {{NULL, 0}}, name = split(&line);
     size_t count = 0;
     while (r < requests + COUNT(requests) && !is(name, r->name)) {
         r++;

@@ -1,6 +1,6 @@
-/* Checks of the library as C links it what a case line cannot say: the place and size of every field, and
- * that bytes lent as const may stand in memory that nobody can write, and overlap. Prints nothing and returns
- * 0 if all holds. */
+/* Checks of the library as C links it what a case line cannot say: the place and size of every field that
+ * fields.h lists, as the header has them, and that bytes lent as const may stand in memory that nobody can
+ * write, and overlap. Prints nothing and returns 0 if all holds. */
 #include "gremolunde.h"
 #include <stdio.h>
 
@@ -16,6 +16,8 @@ static void hold(int holds, const char *what) {
 #define HOLD(fact) hold((fact) ? 1 : 0, #fact)
 
 static void structs(void) {
+    /* whoever changes fields.h, or the meaning of a number in a struct, raises it */
+    HOLD(GREMOLUNDE_VERSION == 1);
     HOLD(sizeof(size_t) == 8);
 #define STRUCT(type, size) HOLD(sizeof(type) == (size));
 #define FIELD(type, name, place, size)     \

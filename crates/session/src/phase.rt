@@ -1,4 +1,4 @@
-// Where a session stands: what it waits for, with the cursor in the file, or how it ended.
+// Where a session stands: what it waits for, with the step whose packet is out, or how it ended.
 ghost use mathlib.Core.Path.{_≡_};
 ghost use mathlib.Core.Bool.{true};
 ghost use Prim.Native.Nat.{_≤_};

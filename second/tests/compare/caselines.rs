@@ -3,10 +3,12 @@
 use std::fs;
 
 use second::cases::{self, Desk};
+use second::hex;
 use second::listing::hex_digits;
 use second::loader::GREETING;
-use second::packet::{ADD, CLOSE, OPEN};
-use second::units::FLASH_END;
+use second::log;
+use second::packet::{self, ADD, CLOSE, OPEN};
+use second::units::{FLASH_END, MAP_BYTES};
 
 use crate::files;
 use crate::loaders::built;
@@ -20,12 +22,12 @@ const EPISODES: u32 = 12;
 
 const PARTS: [(&str, u32); 7] = [
     ("flash", FLASH_END),
-    ("answer", 24),
+    ("answer", GREETING.len() as u32),
     ("image", FLASH_END),
-    ("map", 7936),
-    ("packet", 259),
-    ("record", 44),
-    ("log", 10),
+    ("map", MAP_BYTES as u32),
+    ("packet", packet::LONGEST as u32),
+    ("record", hex::RECORD_BUFFER as u32),
+    ("log", log::RECORD as u32),
 ];
 
 /// Compares the stored list and gives its number of lines.
@@ -204,6 +206,11 @@ fn session(random: &mut Random, lines: &mut Vec<String>, named: u32) {
             lines.push(more.to_string());
         }
     }
+    after_steps(random, lines, named);
+}
+
+/// Marks, outcome and log record of the session as it stands.
+fn after_steps(random: &mut Random, lines: &mut Vec<String>, named: u32) {
     let part = random.pick(&[PARTS[2], PARTS[3], PARTS[4]]);
     wrongly_lent(random, lines, part, "answer 06");
     let proved = format!("proved {named:08X}");
