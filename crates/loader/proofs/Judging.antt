@@ -17,11 +17,11 @@ use Rattle.packet.specs.declared.read.Packet.{Packet}
 
 module _ {board : ℕ} {l : Loader} {s f : List ℕ} {x : Answer Effect} where
   pub refuses : {why : Refusal} → x ≡ refused (paperRefusal why) → Judges board (Refused why) l s f x
-  refuses e = record { comes-to = sym e; settles = tt }
+  refuses e = record { comes-to = sym e; can-apply = tt }
 
   pub accepts : {d : Deed} → x ≡ given (deedOf board d l s f) → Fits board d s
       → Judges board (Accepted d) l s f x
-  accepts e h = record { comes-to = sym e; settles = h }
+  accepts e h = record { comes-to = sym e; can-apply = h }
 
 -- a deed is the one that it was found to be
 module _ {d k : Deed} (e : d ≡ k) (s : List ℕ) where

@@ -123,7 +123,7 @@ abbrev pub effectAfter : Loader → List ℕ → Answer Effect → Effect
 effectAfter l f (refused n) = record { loader = l; flash = f }
 effectAfter l f (given e) = e
 
--- what a function that obeys shows: verdict, next loader and flash are those of x
+-- what the entry shows: verdict, next loader and flash are those of x
 pub record Does (x : Answer Effect) (l : Loader) (f : List ℕ)
     (verdict : Answer (Unit {0})) (next : Loader) (flash : List ℕ) : Type 0 where
   pub verdict-is : verdict ≡ bare x

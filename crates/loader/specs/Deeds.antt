@@ -51,14 +51,14 @@ Fits board (deed.Add a) s = Unit {0}
 Fits board (deed.Close key) s = Unit {0}
 Fits board deed.Leave s = Unit {0}
 
-abbrev pub Settles : ℕ → Judged → List ℕ → Type 0
-Settles board (Accepted d) s = Fits board d s
-Settles board (Refused x) s = Unit {0}
+abbrev pub Applicable : ℕ → Judged → List ℕ → Type 0
+Applicable board (Accepted d) s = Fits board d s
+Applicable board (Refused x) s = Unit {0}
 
--- what a function that judges shows: it comes to x, and can be settled
+-- what a function that judges shows: it comes to x, and its deed can be done
 pub record Judges (board : ℕ) (j : Judged) (l : Loader) (s f : List ℕ) (x : Answer Effect) : Type 0 where
   pub comes-to : judgedOf board j l s f ≡ x
-  pub settles : Settles board j s
+  pub can-apply : Applicable board j s
 
 -- it judges so whatever the input and the flash
 abbrev pub JudgesAny : ℕ → Judged → Loader → (List ℕ → Answer Effect) → Type 0

@@ -34,7 +34,7 @@ pub enum Judged {
     Refused(Refusal),
 }
 
-// Nothing else changes loader or flash.
+// An input changes loader and flash here and nowhere else.
 pub fn apply(deed: Deed, loader: Loader, input: &[u8], flash: &mut [u8]) -> Loader
     requires { ⌜ (length (now flash) ≡ flashSize) × Fits pages deed (now input) ⌝ }
     ensures { λ r. ⌜

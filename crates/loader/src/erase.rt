@@ -30,10 +30,7 @@ pub fn erase(loader: Loader, address: Address, count: u8) -> Judged
 fn is_mass(address: Address, count: u8) -> bool
     ensures { λ r. ⌜ r ≡ massErase (address .0) count ⌝ }
 {
-    if count != 0 {
-        return false;
-    }
-    address.0 == 0
+    count == 0 && address.0 == 0
 }
 
 // 7 and 8 of an erase of pages.

@@ -20,7 +20,7 @@ use packet::table::Command;
 
 // `sent` is what follows the address; the bytes of V are still turned.
 pub fn judge(loader: Loader, packet: Packet, sent: &[u8], flash: &[u8]) -> Judged
-    requires { ⌜ length (now flash) ≡ flashSize ⌝ }
+    requires { ⌜ (length (now flash) ≡ flashSize) × (length (now sent) ≡ packet .len) ⌝ }
     ensures { λ r. ⌜
         (let f = now (flash .entry) in
         let d = now (sent .entry) in

@@ -4,6 +4,7 @@ ghost use Prim.Native.Nat.{_≤_};
 ghost use lib.ListN.{length};
 ghost use Rattle.basis.specs.Board.{pages, flashSize, answerMost};
 ghost use Rattle.basis.specs.Lists.{overlay};
+ghost use Rattle.basis.specs.Refusals.{refused};
 ghost use Rattle.loader.specs.Deeds.{Judges};
 ghost use Rattle.loader.specs.Paper.{paperRefusal, paperVerdict};
 ghost use Rattle.loader.specs.Take.{waiting, opensBoard, serveOf, hearOf, takeOf, quiet, tellOf, Takes};
@@ -42,18 +43,10 @@ pub fn take(loader: Loader, input: &[u8], flash: &mut [u8], answer: &mut [u8]) -
         ⌝ }
 {
     if flash.len() != SIZE {
-        return Taken {
-            loader,
-            verdict: Verdict::Refused(Refusal::Size),
-            answered: 0,
-        };
+        return wrong_sizes(loader);
     }
     if answer.len() < ANSWER {
-        return Taken {
-            loader,
-            verdict: Verdict::Refused(Refusal::Size),
-            answered: 0,
-        };
+        return wrong_sizes(loader);
     }
     match hear(loader, input, flash) {
         Judged::Accepted(deed) => Taken {
@@ -66,6 +59,19 @@ pub fn take(loader: Loader, input: &[u8], flash: &mut [u8], answer: &mut [u8]) -
             verdict: Verdict::Refused(why),
             answered: tell(is_waiting(loader), Verdict::Refused(why), answer),
         },
+    }
+}
+
+// Not answered, since there may be no room.
+fn wrong_sizes(loader: Loader) -> Taken
+    ensures { λ r. ⌜
+        (r .loader ≡ loader) × (paperVerdict (r .verdict) ≡ refused 20) × (r .answered ≡ 0)
+        ⌝ }
+{
+    Taken {
+        loader,
+        verdict: Verdict::Refused(Refusal::Size),
+        answered: 0,
     }
 }
 
@@ -104,10 +110,7 @@ fn hear(loader: Loader, input: &[u8], flash: &[u8]) -> Judged
 fn opens_board(input: &[u8]) -> bool
     ensures { λ r. ⌜ r ≡ opensBoard (now (input .entry)) ⌝ }
 {
-    if input.len() != 1 {
-        return false;
-    }
-    input[0] == OPENING
+    input.len() == 1 && input[0] == OPENING
 }
 
 fn serve(loader: Loader, input: &[u8], flash: &[u8]) -> Judged

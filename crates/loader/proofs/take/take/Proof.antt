@@ -8,22 +8,26 @@ use lib.ListN.{length}
 use Rattle.basis.specs.Board.{pages}
 use Rattle.basis.specs.Lists.{overlay}
 use Rattle.basis.specs.Refusals.{refused, given}
-use Rattle.loader.specs.Deeds.{judgedOf, Settles}
+use Rattle.loader.specs.Deeds.{judgedOf, Applicable}
 use Rattle.loader.specs.Laws.Take.{take-size, take-small, take-heard}
+use Rattle.loader.specs.Paper.{paperVerdict}
 use Rattle.loader.specs.Take.{tellOf, takeOf, Takes}
 use Rattle.loader.specs.declared.deed.Judged.{Judged}
+use Rattle.loader.specs.declared.take.Taken.{Taken}
 use Rattle.loader.proofs.take.take.Statement.{statement}
 use Rattle.loader.proofs.take.take.Tie as tie
 
-refuses-size : (c : tie.Start)
-    → let a = c .args in takeOf pages (a .loader) (a .input .now) (a .flash .now) (length (a .answer .now))
-    ≡ refused 20
+refuses-size : (c : tie.Start) (r : Taken)
+    → let a = c .args in
+    (r .loader ≡ a .loader) × (paperVerdict (r .verdict) ≡ refused 20) × (r .answered ≡ 0)
+    → takeOf pages (a .loader) (a .input .now) (a .flash .now) (length (a .answer .now)) ≡ refused 20
     → Takes (takeOf pages (a .loader) (a .input .now) (a .flash .now) (length (a .answer .now))) (a .loader)
-    (a .flash .now) (a .answer .now) (refused 20) (a .loader) 0 (a .flash .now) (a .answer .now)
-refuses-size c e =
+    (a .flash .now) (a .answer .now) (paperVerdict (r .verdict)) (r .loader) (r .answered) (a .flash .now)
+    (a .answer .now)
+refuses-size c r h e =
     rw e (record {
-      does-is = record { verdict-is = refl; loader-is = refl; flash-is = refl };
-      answered-is = refl;
+      does-is = record { verdict-is = h .1; loader-is = h .0; flash-is = refl };
+      answered-is = h .2;
       answer-is = refl;
     })
 
@@ -44,11 +48,15 @@ heard c e = let a = entry (sized c) .args in
     ∙ ap (λ (x : Judged). judgedOf pages x (a .loader) (a .input .now) (a .flash .now)) e
 
 returns : tie.Need-returns
-returns c = refuses-size (c .before .before .before .before) (take-size pages _ _ _ _ (c .if1 .taken))
+returns c =
+    refuses-size (c .before .before .before .before .before) (c .wrong-sizes .result)
+    (c .wrong-sizes .ensures) (take-size pages _ _ _ _ (c .before .if1 .taken))
 
 returns-2 : tie.Need-returns-2
 returns-2 c =
-    refuses-size (c .before .before .before .before .before) (take-small pages _ _ _ _ (c .if2 .taken))
+    let small = c .before in
+    refuses-size (small .before .before .before .before .before) (c .wrong-sizes2 .result)
+    (c .wrong-sizes2 .ensures) (take-small pages _ _ _ _ (small .if2 .taken))
 
 apply-requires : tie.Need-apply-requires
 apply-requires c κs =
@@ -56,8 +64,8 @@ apply-requires c κs =
     let h = found .before .before in
     let a = entry (sized h) .args in (
       sized h .before .if1 .left,
-      subst (λ (x : Judged). Settles pages x (a .input .now)) (found .deed .given .1)
-          (h .hear .ensures .settles),
+      subst (λ (x : Judged). Applicable pages x (a .input .now)) (found .deed .given .1)
+          (h .hear .ensures .can-apply),
     )
 
 returns-3 : tie.Need-returns-3
@@ -95,7 +103,9 @@ pub take-spec : {M : Type 1} → statement M
 take-spec =
     tie.close
     (tie.spec
+    (λ c κs. search needs)
     returns
+    (λ c κs. search needs)
     returns-2
     (λ c κs. search needs)
     (λ c. search needs)
