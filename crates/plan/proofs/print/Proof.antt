@@ -45,7 +45,8 @@ loop-less c =
     let s = sheet-at c in
     let l = loop-at s in
     sheet-falls pages _ _ _ (l .loop .inv .1) _ _ (s .sheet .ensures .0)
-    (omega (arith, l .loop .inv .0, head-at l .head-line .kept .0, entry l .pre)) (s .before .before .if2 .taken)
+    (omega (arith, l .loop .inv .0, head-at l .head-line .kept .0, entry l .pre))
+    (s .before .before .if2 .taken)
 
 loop-again : tie.Need-loop-again Inv-loop μ-loop
 loop-again c =
