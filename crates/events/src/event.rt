@@ -35,7 +35,7 @@ pub fn classify(silent: bool, answer: &[u8]) -> Event
 }
 
 // Between its first fifteen bytes and its last two a greeting is free: boards differ there.
-pub fn greets(answer: &[u8]) -> bool
+fn greets(answer: &[u8]) -> bool
     ensures { λ r. ⌜ r ≡ greetsOf (now (answer .entry)) ⌝ }
 {
     if answer.len() != ANSWER {

@@ -68,7 +68,7 @@ abbrev pub hexShown : Hex → HexState
 hexShown h =
     record { linear = h .linear; segment = h .segment; ended = flagOf (h .ended); taken = flagOf (h .taken) }
 
--- the run kind of a start that asks for none
+-- the run kind of a number that is not listed
 abbrev pub defaultRun : RunKind
 defaultRun = RunKind.Reset
 

@@ -44,7 +44,7 @@ pub extern "C" fn gremolunde_hex_start(image: &mut [u8], map: &mut [u8]) -> HexR
 }
 
 // What a start that is refused hands back.
-pub fn no_reader() -> HexState
+fn no_reader() -> HexState
     ensures { λ r. ⌜ r ≡ noReader ⌝ }
 {
     HexState {

@@ -175,7 +175,7 @@ fn phase_meant(state: SessionState) -> Phase
     }
 }
 
-// No start leads to a session that has a field which its phase does not use.
+// No start leads to a session with a value in a field that its phase does not use.
 fn without(field: u32, phase: Phase) -> Phase
     ensures { λ r. ⌜ r ≡ without field phase ⌝ }
 {

@@ -6,7 +6,7 @@ ghost use Rattle.basis.specs.Lists.{copyOf};
 ghost use Rattle.image.specs.Digits.{digitOf, allDigits, decoded};
 
 // The value of a digit in either case; 16 for a character that is none.
-pub fn digit(c: u8) -> u8
+fn digit(c: u8) -> u8
     ensures { λ r. ⌜ r ≡ digitOf c ⌝ }
 {
     match c {

@@ -17,7 +17,7 @@ pub fn before_verify(all: Counts) -> u32
 }
 
 // Each run once, each piece twice.
-pub fn before_run(all: Counts) -> u32
+fn before_r(all: Counts) -> u32
     requires { ⌜ (all .runs < 2 ^ 16) × (all .pieces < 2 ^ 16) ⌝ }
     ensures { λ r. ⌜ r ≡ all .runs + 2 * all .pieces ⌝ }
 {
@@ -29,7 +29,7 @@ pub fn total(all: Counts) -> u32
     requires { ⌜ (all .runs < 2 ^ 16) × (all .pieces < 2 ^ 16) ⌝ }
     ensures { λ r. ⌜ r ≡ all .runs + 2 * all .pieces + 1 ⌝ }
 {
-    before_run(all) + 1
+    before_r(all) + 1
 }
 
 // Whether the step's packet is out after `k` acknowledgements, by the survey at the step's place.
@@ -45,15 +45,12 @@ pub fn stands(found: Surveyed, step: Step, k: u32) -> bool
         Step::Erase(_) => ranked(found.run, below.runs, k),
         Step::Write(_) => ranked(found.piece, all.runs + below.pieces, k),
         Step::Verify(_) => ranked(found.piece, before_verify(all) + below.pieces, k),
-        Step::Run => before_run(all) == k,
+        Step::Run => before_r(all) == k,
     }
 }
 
 fn ranked(starts: bool, rank: u32, k: u32) -> bool
     ensures { λ r. ⌜ r ≡ both starts (eqb rank k) ⌝ }
 {
-    if !starts {
-        return false;
-    }
-    rank == k
+    starts && rank == k
 }

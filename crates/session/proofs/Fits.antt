@@ -14,7 +14,6 @@ use Rattle.events.specs.Endings.{endsAt, asked}
 use Rattle.order.specs.Laws.Surveys.{Told, told, told-stands, past-stands}
 use Rattle.order.specs.Plan.{total}
 use Rattle.order.specs.Steps.{standsBy}
-use Rattle.runs.specs.Map.{named}
 use Rattle.runs.specs.Pieces.{namedCount}
 use Rattle.runs.specs.Survey.{surveyOf}
 use Rattle.runs.specs.declared.survey.Surveyed.{Surveyed}

@@ -60,7 +60,7 @@ impl Phase {
     }
 
     // What a session waits for once the right answer has come.
-    pub fn after(self, kind: RunKind, map: &[u8]) -> Phase
+    pub fn after(self, map: &[u8], kind: RunKind) -> Phase
         requires { ⌜ (length (now map) ≡ mapSize) × (onStart pages (now map) self ≡ true) ⌝ }
         ensures { λ r. ⌜ r ≡ afterOf pages (now (map .entry)) kind self ⌝ }
     {
@@ -82,7 +82,7 @@ impl Phase {
     }
 
     // Gives the packet's length: none while the greeting is awaited, and an ending sends none.
-    pub fn send(self, kind: RunKind, image: &[u8], map: &[u8], buffer: &mut [u8]) -> usize
+    pub fn send(self, image: &[u8], map: &[u8], kind: RunKind, buffer: &mut [u8]) -> usize
         requires { ⌜
             (length (now image) ≡ flashSize) × (length (now map) ≡ mapSize)
             × (packetMost ≤ length (now buffer)) × (onStart pages (now map) self ≡ true)

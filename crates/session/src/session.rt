@@ -208,7 +208,7 @@ impl Session {
         let session = self.took(event, map);
         let kind = self.kind;
         let phase = session.phase;
-        let len = phase.send(kind, image, map, buffer);
+        let len = phase.send(image, map, kind, buffer);
         Next { session, len }
     }
 
@@ -240,7 +240,7 @@ impl Session {
         let Event::Greeting = event else {
             return self.over(Awaited::Greeting, event);
         };
-        self.moved(phase.after(kind, map), 0)
+        self.moved(phase.after(map, kind), 0)
     }
 
     fn answered(self, event: Event, map: &[u8]) -> Session
@@ -255,7 +255,7 @@ impl Session {
         let Event::Ack = event else {
             return self.over(Awaited::Ack, event);
         };
-        self.moved(phase.after(kind, map), 1)
+        self.moved(phase.after(map, kind), 1)
     }
 
     fn over(self, awaited: Awaited, event: Event) -> Session
@@ -301,10 +301,7 @@ fn marked(map: &[u8], k: u32, address: Address) -> bool
 fn right_sizes(image: usize, map: usize, packet: usize) -> bool
     ensures { λ r. ⌜ r ≡ rightSizes pages image map packet ⌝ }
 {
-    if !basis::board::right_sizes(image, map) {
-        return false;
-    }
-    PACKET <= packet
+    basis::board::right_sizes(image, map) && PACKET <= packet
 }
 
 fn one(counts: bool) -> u32

@@ -18,38 +18,43 @@ Inv-loop image map buffer₀ head listing₀ buffer listing =
 abbrev μ-loop : tie.MeasureT-loop
 μ-loop image map buffer₀ head listing₀ buffer listing = listing .total - listing .listed
 
+-- a turn's sheet and the loop, seen from the turn's end
+abbrev sheet-at : tie.Else3 Inv-loop μ-loop → tie.After-sheet Inv-loop μ-loop
+sheet-at c = c .before .before .before .before .before .before
+
+abbrev loop-at : tie.After-sheet Inv-loop μ-loop → tie.At-loop Inv-loop μ-loop
+loop-at c = c .before .before .before .before
+
+-- the head line and the entry, seen from the loop
+abbrev head-at : tie.At-loop Inv-loop μ-loop → tie.After-head-line Inv-loop μ-loop
+head-at c = c .before .before .before .before .before .before
+
+abbrev entry : tie.At-loop Inv-loop μ-loop → tie.Start Inv-loop μ-loop
+entry c = head-at c .before .before .before .before .before .before .before .before .before
+
 loop-holds : tie.Need-loop-holds Inv-loop μ-loop
-loop-holds c = (
-  refl,
-  begun-listed pages _ _ _ _
-      (sym (ap paperBegun
-      (c .before .before .before .before .before .before .before .before .begun .given .1))
-      ∙ c .before .before .before .before .before .before .before .before .before .before .start .ensures),
-)
+loop-holds c =
+    let told = c .before .before .before .before .before .before .before .before in (
+      refl,
+      begun-listed pages _ _ _ _
+          (sym (ap paperBegun (told .begun .given .1)) ∙ told .before .before .start .ensures),
+    )
 
 loop-less : tie.Need-loop-less Inv-loop μ-loop
 loop-less c =
-    sheet-falls pages _ _ _
-    (c .before .before .before .before .before .before .before .before .before .before .loop .inv .1) _ _
-    (c .before .before .before .before .before .before .sheet .ensures .0)
-    (omega (
-      arith,
-      c .before .before .before .before .before .before .before .before .before .before .loop .inv .0,
-      c .before .before .before .before .before .before .before .before .before .before .before .before .before .before .before .before .head-line .kept .0,
-      c .before .before .before .before .before .before .before .before .before .before .before .before .before .before .before .before .before .before .before .before .before .before .before .before .before .pre,
-    )) (c .before .before .before .before .before .before .before .before .if2 .taken)
+    let s = sheet-at c in
+    let l = loop-at s in
+    sheet-falls pages _ _ _ (l .loop .inv .1) _ _ (s .sheet .ensures .0)
+    (omega (arith, l .loop .inv .0, head-at l .head-line .kept .0, entry l .pre))
+    (s .before .before .if2 .taken)
 
 loop-again : tie.Need-loop-again Inv-loop μ-loop
-loop-again c = (
-  omega (
-    arith,
-    c .before .before .before .before .before .before .before .before .before .before .loop .inv .0,
-    c .before .before .before .before .before .before .sheet .kept .1 .1 .1 .0,
-  ),
-  sheet-listed pages _ _ _
-      (c .before .before .before .before .before .before .before .before .before .before .loop .inv .1) _ _
-      (c .before .before .before .before .before .before .sheet .ensures .0),
-)
+loop-again c =
+    let s = sheet-at c in
+    let l = loop-at s in (
+      omega (arith, l .loop .inv .0, s .sheet .kept .1 .1 .1 .0),
+      sheet-listed pages _ _ _ (l .loop .inv .1) _ _ (s .sheet .ensures .0),
+    )
 
 pub print-spec : {M : Type 1} → statement M
 print-spec =

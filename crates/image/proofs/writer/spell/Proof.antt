@@ -5,7 +5,6 @@ use mathlib.Core.List.{List}
 use native.Mathlib.Numerals.{add-one}
 use native.Mathlib.Omega.{arith}
 use lib.ListN.{length, drop, set, getD, drop-of-length-le, length-set}
-use Rattle.basis.specs.Refusals.{given}
 use lib.Seq.{drop-cons}
 use Rattle.basis.specs.Lists.{stored, copyOf}
 use Rattle.image.specs.Writer.{letterOf, spelt}

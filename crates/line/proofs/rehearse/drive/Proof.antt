@@ -57,21 +57,27 @@ exchange-requires c κs =
     let l = c .before .before .before .before .before .before .loop in
     (l .inv .0, l .inv .1)
 
+-- a turn's exchange and its beginning, seen from its end
+abbrev exchange-at : tie.After-slice-known6 Inv-loop μ-loop → tie.After-exchange Inv-loop μ-loop
+exchange-at c = c .before .before .before .before .before .before
+
+abbrev turn-at : tie.After-slice-known6 Inv-loop μ-loop → tie.Then1 Inv-loop μ-loop
+turn-at c = exchange-at c .before .before .before .before .before
+
 add-i : tie.Need-add-i Inv-loop μ-loop
 add-i c =
-    let t = c .before .before .before .before .before .before .before .before .before .before .before in
+    let t = turn-at c in
     omega (arith, early t, total-most pages (entry (t .before .before) .args .map .now))
 
 loop-less : tie.Need-loop-less Inv-loop μ-loop
 loop-less c =
-    let t = c .before .before .before .before .before .before .before .before .before .before .before in
-    let n = early t in
+    let n = early (turn-at c) in
     omega arith
 
 loop-again : tie.Need-loop-again Inv-loop μ-loop
 loop-again c =
-    let e = c .before .before .before .before .before .before in
-    let t = e .before .before .before .before .before in
+    let e = exchange-at c in
+    let t = turn-at c in
     let a = entry (t .before .before) .args in
     let l = t .before .before .loop in
     let k = e .exchange .kept .1 .1 .1 .1 in

@@ -15,7 +15,7 @@ returns-3 c =
     (c .ranked3 .ensures)
 
 returns-4 : tie.Need-returns-4
-returns-4 c = rw (c .before .enum-told4 .given .1, ← c .before-run .ensures)
+returns-4 c = rw (c .before .enum-told4 .given .1, ← c .before-r .ensures)
 
 pub stands-spec : {M : Type 1} → statement M
 stands-spec =

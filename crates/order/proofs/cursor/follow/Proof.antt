@@ -1,9 +1,13 @@
 -- `follow` meets its contract, step by step; a step at a start stands on the board.
-use mathlib.Core.Path.{sym, ap, _∙_}
+use Prim.Native.Nat.{ℕ, _<_}
+use mathlib.Core.Path.{_≡_, refl, sym, ap, _∙_}
 use borrow.Author.Needs.{needs}
-use Rattle.basis.specs.Board.{pages}
+use lib.ListN.{length}
+use Rattle.basis.specs.Board.{pages, flashSize, mapSize}
+use Rattle.runs.specs.Pieces.{pieceStarts}
 use Rattle.order.specs.Laws.Starts.{run-below, piece-below}
 use Rattle.order.specs.Steps.{atStart, followOf}
+use Rattle.order.specs.declared.step.Step.{Step}
 use Rattle.order.proofs.cursor.follow.Statement.{statement}
 use Rattle.order.proofs.cursor.follow.Tie as tie
 
@@ -15,21 +19,20 @@ after-erase-requires c κs =
           (sym (ap (atStart pages (s .args .map .now)) (c .before .step .given .1)) ∙ s .pre .1),
     )
 
+-- W or V: the step is one at an address where a piece starts
+piece : (s : tie.Start) (t : Step) (a : ℕ) → s .args .step ≡ t
+    → atStart pages (s .args .map .now) t ≡ pieceStarts (s .args .map .now) a
+    → (length (s .args .map .now) ≡ mapSize) × (a < flashSize)
+piece s t a q at = let m = s .args .map .now in (
+  s .pre .0,
+  piece-below pages m (s .pre .0) a (sym at ∙ sym (ap (atStart pages m) q) ∙ s .pre .1),
+)
+
 after-write-requires : tie.Need-after-write-requires
-after-write-requires c κs =
-    let s = c .before .before .before .before in (
-      s .pre .0,
-      piece-below pages (s .args .map .now) (s .pre .0) _
-          (sym (ap (atStart pages (s .args .map .now)) (c .before .step2 .given .1)) ∙ s .pre .1),
-    )
+after-write-requires c κs = piece (c .before .before .before .before) _ _ (c .before .step2 .given .1) refl
 
 after-verify-requires : tie.Need-after-verify-requires
-after-verify-requires c κs =
-    let s = c .before .before .before .before in (
-      s .pre .0,
-      piece-below pages (s .args .map .now) (s .pre .0) _
-          (sym (ap (atStart pages (s .args .map .now)) (c .before .step3 .given .1)) ∙ s .pre .1),
-    )
+after-verify-requires c κs = piece (c .before .before .before .before) _ _ (c .before .step3 .given .1) refl
 
 returns : tie.Need-returns
 returns c =

@@ -6,7 +6,7 @@ use borrow.Author.Needs.{needs}
 use lib.ListN.{length}
 use Rattle.basis.specs.Laws.Refusals.{apart, given-one}
 use Rattle.basis.specs.Lists.{overlay}
-use Rattle.basis.specs.Refusals.{Answer, counted, written, given}
+use Rattle.basis.specs.Refusals.{Answer, counted, written}
 use Rattle.packet.specs.Laws.Packet.{build-packet}
 use Rattle.packet.specs.Paper.{paperBuilt}
 use Rattle.order.proofs.sending.put.Statement.{statement}

@@ -1,8 +1,15 @@
 -- `send` meets its contract, step by step.
-use mathlib.Core.Path.{refl, sym, ap, _∙_}
+use Prim.Native.Nat.{ℕ, _≤_}
+use mathlib.Core.Bool.{true}
+use mathlib.Core.Path.{_≡_, refl, sym, ap, _∙_}
 use borrow.Author.Needs.{needs}
-use Rattle.basis.specs.Board.{pages}
+use lib.ListN.{length}
+use Rattle.basis.specs.Board.{pages, flashSize, mapSize}
+use Rattle.packet.specs.Packet.{packetMost}
+use Rattle.packet.specs.Table.{writeByte, verifyByte}
+use Rattle.order.specs.Plan.{carriesPiece}
 use Rattle.order.specs.Steps.{atStart}
+use Rattle.order.specs.declared.step.Step.{Step}
 use Rattle.order.proofs.sending.send.Statement.{statement}
 use Rattle.order.proofs.sending.send.Tie as tie
 
@@ -15,25 +22,26 @@ send-erase-requires c κs = let here = c .before .before in
           ∙ s .pre .3,
     )
 
+-- W or V: the step stands at a start, and its command carries a piece
+piece : (s : tie.Start) (command : ℕ) (t : Step) → carriesPiece command ≡ true → s .args .step ≡ t
+    → (length (s .args .image .now) ≡ flashSize) × (length (s .args .map .now) ≡ mapSize)
+    × (packetMost ≤ length (s .args .buffer .now)) × (carriesPiece command ≡ true)
+    × (atStart pages (s .args .map .now) t ≡ true)
+piece s command t carries q = (
+  s .pre .0,
+  s .pre .1,
+  s .pre .2,
+  carries,
+  sym (ap (atStart pages (s .args .map .now)) q) ∙ s .pre .3,
+)
+
 send-piece-requires : tie.Need-send-piece-requires
 send-piece-requires c κs = let here = c .before .before in
-    let s = here .before .before .before .before .before in (
-      s .pre .0,
-      s .pre .1,
-      s .pre .2,
-      refl,
-      sym (ap (atStart pages (s .args .map .now)) (here .step2 .given .1)) ∙ s .pre .3,
-    )
+    piece (here .before .before .before .before .before) writeByte _ refl (here .step2 .given .1)
 
 send-piece-requires-2 : tie.Need-send-piece-requires-2
 send-piece-requires-2 c κs = let here = c .before .before in
-    let s = here .before .before .before .before .before in (
-      s .pre .0,
-      s .pre .1,
-      s .pre .2,
-      refl,
-      sym (ap (atStart pages (s .args .map .now)) (here .step3 .given .1)) ∙ s .pre .3,
-    )
+    piece (here .before .before .before .before .before) verifyByte _ refl (here .step3 .given .1)
 
 returns : tie.Need-returns
 returns c =

@@ -29,37 +29,45 @@ module _ (room c a : ℕ) (d : List ℕ) (t k : ℕ) (h : packetMost ≤ room) (
         build-packet room c a d h (g .0) (g .1),
       )
 
+-- the entry and the room's test, seen from where the table was asked
+abbrev room-at : tie.After-look-up → tie.Else1
+room-at c = c .before .before
+
+abbrev entry : tie.After-look-up → tie.Start
+entry c = room-at c .before .before .before
+
 returns : tie.Need-returns
 returns c = leaves _ (build-small _ _ _ _ (c .if1 .taken))
 
 write-requires : tie.Need-write-requires
 write-requires c κs =
-    let if1 = c .before .before .before .before .before .if1 in
-    let a = c .before .before .before .before .before .before .before .before .args in (
-      if1 .left,
-      build-given _ (a .command) (a .address .0) (a .plain .now) _ _ (if1 .left)
-          (c .before .before .before .before .first-byte .ensures)
-          (sym (c .before .before .before .look-up .ensures)
-          ∙ ap paperRow (c .before .enum-told .given .1)) .0,
+    let asked = c .before .before .before in
+    let room = room-at asked .if1 .left in
+    let a = entry asked .args in (
+      room,
+      build-given _ (a .command) (a .address .0) (a .plain .now) _ _ room
+          (asked .before .first-byte .ensures)
+          (sym (asked .look-up .ensures) ∙ ap paperRow (c .before .enum-told .given .1)) .0,
     )
 
 returns-2 : tie.Need-returns-2
 returns-2 c =
-    leaves _ (build-refused _ _ _ _ _ _ (c .before .before .before .before .before .if1 .left)
-    (c .before .before .before .before .first-byte .ensures)
-    (sym (c .before .before .before .look-up .ensures) ∙ ap paperRow (c .before .why .given .1)))
+    let asked = c .before .before .before in
+    leaves _ (build-refused _ _ _ _ _ _ (room-at asked .if1 .left) (asked .before .first-byte .ensures)
+    (sym (asked .look-up .ensures) ∙ ap paperRow (c .before .why .given .1)))
 
 returns-3 : tie.Need-returns-3
 returns-3 c =
-    let write = c .before .before .write in
-    let look-up = c .before .before .before .before .before .before .look-up in
-    let first-byte = c .before .before .before .before .before .before .before .first-byte in
-    let if1 = c .before .before .before .before .before .before .before .before .if1 in
-    let a = c .before .before .before .before .before .before .before .before .before .before .before .args in
-    let b = build-given _ _ (a .address .0) _ _ _ (if1 .left) (first-byte .ensures)
-    (sym (look-up .ensures) ∙ ap paperRow (c .before .before .before .before .enum-told .given .1)) in
-    writes _ _ (b .1) (write .ensures .0 ∙ sym (packet-length (a .command) (a .address .0) (a .plain .now)))
-    (write .ensures .1)
+    let put = c .before .before in
+    let listed = put .before .before in
+    let asked = listed .before .before in
+    let a = entry asked .args in
+    let b = build-given _ _ (a .address .0) _ _ _ (room-at asked .if1 .left)
+    (asked .before .first-byte .ensures)
+    (sym (asked .look-up .ensures) ∙ ap paperRow (listed .enum-told .given .1)) in
+    writes _ _ (b .1)
+    (put .write .ensures .0 ∙ sym (packet-length (a .command) (a .address .0) (a .plain .now)))
+    (put .write .ensures .1)
 
 pub build-spec : {M : Type 1} → statement M
 build-spec =

@@ -15,13 +15,12 @@ up-to-requires c κs =
 
 returns : tie.Need-returns
 returns c =
-    let p = c .before .before .before .before .before .before .before .over-pages3 in
-    let q = c .before .before .before .before .before .before .before .before .over-pages2 in
-    let r = c .before .before .before .before .before .before .before .before .before .over-pages in
-    surveyed _ _ _
-    (c .before .before .before .before .before .before .before .before .before .before .before .page .ensures)
-    (r .ensures) (q .ensures) (p .ensures) (c .before .before .before .before .before .before .up-to .ensures)
-    (c .before .before .before .before .over-places .ensures)
+    let placed = c .before .before .before .before in
+    let reached = placed .before .before in
+    let walked = reached .before .before .before in
+    surveyed _ _ _ (walked .before .before .page .ensures) (walked .over-pages .ensures)
+    (reached .before .before .over-pages2 .ensures) (reached .before .over-pages3 .ensures)
+    (reached .up-to .ensures) (placed .over-places .ensures)
 
 pub survey-spec : {M : Type 1} → statement M
 survey-spec =

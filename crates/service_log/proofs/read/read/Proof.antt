@@ -25,27 +25,33 @@ returns-4 c =
     (sym (c .before .before .before .before .pair-at .ensures) ∙ c .before .before .before .if2 .left)
     (c .before .before .if3 .left) (c .if4 .taken))
 
+-- where the counts were joined, the version was right and the length was, seen from the last test
+abbrev joined : tie.After-is-false → tie.After-pair-at2
+joined c = c .before .before .before
+
+abbrev versioned : tie.After-is-false → tie.Else4
+versioned c = joined c .before .before
+
+abbrev sized : tie.After-is-false → tie.Else3
+sized c = versioned c .before .before
+
 returns-5 : tie.Need-returns-5
 returns-5 c =
-    sym (read-false pages _
-    (c .before .before .before .before .before .before .before .before .before .before .before .if1 .left)
-    (sym (c .before .before .before .before .before .before .before .before .before .before .pair-at .ensures)
-    ∙ c .before .before .before .before .before .before .before .before .before .if2 .left)
-    (c .before .before .before .before .before .before .before .before .if3 .left)
-    (c .before .before .before .before .before .before .if4 .left)
-    (c .before .before .before .before .pair-at2 .ensures) (c .before .before .before .pair-at3 .ensures)
-    (c .before .before .pair-at4 .ensures) (sym (c .before .is-false .ensures) ∙ c .if5 .taken))
+    let last = c .before in
+    sym (read-false pages _ (sized last .before .before .before .if1 .left)
+    (sym (sized last .before .before .pair-at .ensures) ∙ sized last .before .if2 .left)
+    (sized last .if3 .left) (versioned last .if4 .left) (joined last .pair-at2 .ensures)
+    (last .before .before .pair-at3 .ensures) (last .before .pair-at4 .ensures)
+    (sym (last .is-false .ensures) ∙ c .if5 .taken))
 
 returns-6 : tie.Need-returns-6
 returns-6 c =
-    sym (read-given pages _
-    (c .before .before .before .before .before .before .before .before .before .before .before .if1 .left)
-    (sym (c .before .before .before .before .before .before .before .before .before .before .pair-at .ensures)
-    ∙ c .before .before .before .before .before .before .before .before .before .if2 .left)
-    (c .before .before .before .before .before .before .before .before .if3 .left)
-    (c .before .before .before .before .before .before .if4 .left)
-    (c .before .before .before .before .pair-at2 .ensures) (c .before .before .before .pair-at3 .ensures)
-    (c .before .before .pair-at4 .ensures) (sym (c .before .is-false .ensures) ∙ c .if5 .left))
+    let last = c .before in
+    sym (read-given pages _ (sized last .before .before .before .if1 .left)
+    (sym (sized last .before .before .pair-at .ensures) ∙ sized last .before .if2 .left)
+    (sized last .if3 .left) (versioned last .if4 .left) (joined last .pair-at2 .ensures)
+    (last .before .before .pair-at3 .ensures) (last .before .pair-at4 .ensures)
+    (sym (last .is-false .ensures) ∙ c .if5 .left))
 
 pub read-spec : {M : Type 1} → statement M
 read-spec =

@@ -8,27 +8,36 @@ use Rattle.session.specs.Paper.{paperStepped}
 use Rattle.listing.proofs.plan.Listing.start_with.Statement.{statement}
 use Rattle.listing.proofs.plan.Listing.start_with.Tie as tie
 
+-- the start and the entry, seen from where its answer is told apart
+abbrev start-at : tie.After-slice-known2 → tie.After-start
+start-at c = c .before .before
+
+abbrev entry : tie.After-slice-known2 → tie.Start
+entry c = start-at c .before .before .before .before .before
+
 opening-requires : tie.Need-opening-requires
 opening-requires c κs =
-    let a = c .before .before .before .before .before .before .before .before .before .before .args in
+    let told = c .before .before .before in
+    let a = entry told .args in
     let s = begins pages (a .image .now) (a .map .now) _ (c .before .next .given .0 .0)
-    (sym (ap paperStepped (c .before .next .given .1))
-    ∙ c .before .before .before .before .before .start .ensures .0) in (s .0 .long, s .0 .some, s .1)
+    (sym (ap paperStepped (c .before .next .given .1)) ∙ start-at told .start .ensures .0) in
+    (s .0 .long, s .0 .some, s .1)
 
 returns : tie.Need-returns
 returns c =
-    let a = c .before .before .before .before .before .before .before .before .before .before .before .args in
-    let s = begins pages (a .image .now) (a .map .now) _ (c .before .before .next .given .0 .0)
-    (sym (ap paperStepped (c .before .before .next .given .1))
-    ∙ c .before .before .before .before .before .before .start .ensures .0) in
+    let next = c .before .before in
+    let told = next .before .before in
+    let a = entry told .args in
+    let s = begins pages (a .image .now) (a .map .now) _ (next .next .given .0 .0)
+    (sym (ap paperStepped (next .next .given .1)) ∙ start-at told .start .ensures .0) in
     ap given (c .opening .ensures) ∙ sym (s .2)
 
 returns-2 : tie.Need-returns-2
 returns-2 c =
-    let s = c .before .before .before .before .before .before .before .before .before .before in
-    start-refused pages (s .args .image .now) (s .args .map .now) _ _
-    (sym (ap paperStepped (c .before .x .given .1))
-    ∙ c .before .before .before .before .before .start .ensures .0)
+    let told = c .before .before .before in
+    let a = entry told .args in
+    start-refused pages (a .image .now) (a .map .now) _ _
+    (sym (ap paperStepped (c .before .x .given .1)) ∙ start-at told .start .ensures .0)
 
 pub start-with-spec : {M : Type 1} → statement M
 start-with-spec =
