@@ -47,6 +47,13 @@ module _ (b p : List ℕ) (at n : ℕ) where
         omega (arith, f .0, f .1 .1),
       )
 
+-- the entry, once the number is written, and that place, once the packet is
+abbrev entry : tie.After-decimal → tie.Start
+entry d = d .before .before .before .before
+
+abbrev numbered : tie.After-spell → tie.After-decimal
+numbered p = p .before .before .before .before .before
+
 decimal-requires : tie.Need-decimal-requires
 decimal-requires c κs =
     let s = c .before .before .before in
@@ -54,61 +61,42 @@ decimal-requires c κs =
 
 slice-write-buffer-2 : tie.Need-slice-write-buffer-2
 slice-write-buffer-2 c =
-    let d = c .before .before .before .decimal in
-    simp length-set
-    (omega (
-      arith,
-      d .ensures .1 .1,
-      d .kept .0,
-      c .before .before .before .before .before .before .before .pre,
-    ))
+    let d = c .before .before .before in
+    simp length-set (omega (arith, d .decimal .ensures .1 .1, d .decimal .kept .0, entry d .pre))
 
 slice-write-buffer-3 : tie.Need-slice-write-buffer-3
 slice-write-buffer-3 c =
-    let d = c .before .before .before .decimal in
-    simp length-set
-    (omega (
-      arith,
-      d .ensures .1 .1,
-      d .kept .0,
-      c .before .before .before .before .before .before .before .pre,
-    ))
+    let d = c .before .before .before in
+    simp length-set (omega (arith, d .decimal .ensures .1 .1, d .decimal .kept .0, entry d .pre))
 
 spell-requires : tie.Need-spell-requires
 spell-requires c κs =
-    let d = c .before .before .before .before .decimal in
-    simp length-set
-    (omega (
-      arith,
-      d .ensures .1 .1,
-      d .kept .0,
-      c .before .before .before .before .before .before .before .before .pre,
-    ))
+    let d = c .before .before .before .before in
+    simp length-set (omega (arith, d .decimal .ensures .1 .1, d .decimal .kept .0, entry d .pre))
 
 slice-write-buffer-4 : tie.Need-slice-write-buffer-4
 slice-write-buffer-4 c =
-    let d = c .before .before .before .before .before .before .before .decimal in
+    let p = c .before .before in
+    let d = numbered p in
     omega (
       arith,
-      d .ensures .1 .1,
-      d .kept .0,
-      simp length-set at (c .before .before .spell .kept .0),
-      c .before .before .before .before .before .before .before .before .before .before .before .pre,
+      d .decimal .ensures .1 .1,
+      d .decimal .kept .0,
+      simp length-set at (p .spell .kept .0),
+      entry d .pre,
     )
 
 same-length : tie.Need-same-length
 same-length c =
+    let p = c .before .before in
     simp length-set
-    (omega (
-      arith,
-      c .before .before .before .before .before .before .before .decimal .kept .0,
-      simp length-set at (c .before .before .spell .kept .0),
-    ))
+    (omega (arith, numbered p .decimal .kept .0, simp length-set at (p .spell .kept .0)))
 
 returns : tie.Need-returns
 returns c =
-    step-put _ _ _ _ _ _ _ _ (c .before .before .before .before .before .before .before .decimal .ensures)
-    (c .before .before .before .before .command-letter .ensures) (c .before .before .spell .ensures)
+    let p = c .before .before in
+    step-put _ _ _ _ _ _ _ _ (numbered p .decimal .ensures) (p .before .before .command-letter .ensures)
+    (p .spell .ensures)
 
 pub step-line-spec : {M : Type 1} → statement M
 step-line-spec =

@@ -9,9 +9,10 @@ use Rattle.listing.proofs.plan.total_line.Tie as tie
 returns : tie.Need-returns
 unfolding totalLine
 returns c =
-    let f = c .before .before .last-field .ensures in
-    put-over _ _ _ _ (put-first _ _ _ _ _ f)
-    (omega (arith, f .1 .1, c .before .before .before .before .before .before .pre))
+    let put = c .before .before in
+    let entry = put .before .before .before .before in
+    let f = put .last-field .ensures in
+    put-over _ _ _ _ (put-first _ _ _ _ _ f) (omega (arith, f .1 .1, entry .pre))
 
 pub total-line-spec : {M : Type 1} → statement M
 total-line-spec =

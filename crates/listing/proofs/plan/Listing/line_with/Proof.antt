@@ -80,21 +80,21 @@ fits-at s =
     (e .pre .1) _ _ _ (e .pre .2) (s .send .kept .1 .1 .1 .1 .0) (s .send .ensures)
 
 add-listed : tie.Need-add-listed
-add-listed c = let s = c .before .before .before .before .before in
+add-listed c = let e = c .before .before .before .before .before in
     omega (
       arith,
-      listed-more pages (s .args .image .now) (s .args .map .now) (s .args .self) (s .pre .0) (s .args .step)
-          (s .pre .1),
+      listed-more pages (e .args .image .now) (e .args .map .now) (e .args .self) (e .pre .0) (e .args .step)
+          (e .pre .1),
     )
 
 send-requires : tie.Need-send-requires
 send-requires c κs =
-    let s = c .before .before .before .before .before .before in (
-      s .pre .0 .file .right,
-      s .pre .0 .file .long,
-      omega (arith, s .pre .2),
-      listed-start pages (s .args .image .now) (s .args .map .now) (s .args .self) (s .pre .0) (s .args .step)
-          (s .pre .1),
+    let e = c .before .before .before .before .before .before in (
+      e .pre .0 .file .right,
+      e .pre .0 .file .long,
+      omega (arith, e .pre .2),
+      listed-start pages (e .args .image .now) (e .args .map .now) (e .args .self) (e .pre .0) (e .args .step)
+          (e .pre .1),
     )
 
 slice-reshare-prefix-step-line : tie.Need-slice-reshare-prefix-step-line
