@@ -1,5 +1,5 @@
 -- The byte turned for V, and turned back.
-use Prim.Native.Nat.{ℕ, _+_, _-_, _*_, _/_, _%_, _^_}
+use Prim.Native.Nat.{ℕ, _+_, _*_, _/_, _%_}
 
 -- b times 8 modulo 256, plus b divided by 32
 abbrev pub turnedOf : ℕ → ℕ
@@ -8,7 +8,3 @@ turnedOf b = b * 8 % 256 + b / 32
 -- turned back
 abbrev pub restoredOf : ℕ → ℕ
 restoredOf t = t * 32 % 256 + t / 8
-
--- eight bits moved k places up, around the end
-abbrev pub rotatedOf : ℕ → ℕ → ℕ
-rotatedOf k b = b * 2 ^ k % 256 + b / 2 ^ (8 - k)
