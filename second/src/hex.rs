@@ -138,7 +138,9 @@ impl Record {
         match self.kind() {
             0 => true,
             1 => self.count() == 0 && self.address() == 0,
-            _ => self.count() == 2 && self.address() == 0,
+            2 | 4 => self.count() == 2 && self.address() == 0,
+            // a start address has four bytes
+            _ => self.count() == 4 && self.address() == 0,
         }
     }
 

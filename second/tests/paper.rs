@@ -342,8 +342,8 @@ fn record_refusals() {
         (":00000101FE", 28),
         (":0100000200FD", 28),
         (":020001020000FB", 28),
-        (":0400000300000000F9", 28),
-        (":0400000500000000F7", 28),
+        (":020000030000FB", 28),
+        (":02000005FFFFFB", 28),
         (":02F7FF00000008", 29),
         (":01F800000007", 29),
         (":010001000AF4", 30),
@@ -351,8 +351,8 @@ fn record_refusals() {
         assert_eq!(reading.record(record), number, "{record}");
     }
     assert_eq!(reading.record(":01F7FF000009"), 0);
-    assert_eq!(reading.record(":020000030000FB"), 0);
-    assert_eq!(reading.record(":02000005FFFFFB"), 0);
+    assert_eq!(reading.record(":0400000300000000F9"), 0);
+    assert_eq!(reading.record(":04000005FFFFFFFFFB"), 0);
     assert_eq!(reading.reader.close(), Err(Refusal::NoEndRecord));
     assert_eq!(reading.record(":00000001FF"), 0);
     assert_eq!(reading.record(""), 21);
@@ -372,6 +372,148 @@ fn bases_add_without_wrap() {
     reading.reader.segment = 1;
     assert_eq!(reading.record(":0100000000FF"), 29);
     assert_eq!(reading.record(":0000000000"), 0);
+}
+
+/// What a new reader says to each record.
+fn check_records(cases: &[(&str, u8)]) {
+    for (record, number) in cases {
+        assert_eq!(Reading::new().record(record), *number, "{record}");
+    }
+}
+
+/// Sound start records, among them values that would move data as a base.
+const START_RECORDS: [&str; 6] = [
+    ":0400000300000000F9",
+    ":0400000300010001F7",
+    ":04000003FFFFFFFFFD",
+    ":0400000500000000F7",
+    ":0400000500010001F5",
+    ":04000005FFFFFFFFFB",
+];
+
+#[test]
+fn start_records_have_four_bytes() {
+    check_records(&[
+        (":00000003FD", 28),
+        (":0100000312EA", 28),
+        (":020000031234B5", 28),
+        (":030000031234565E", 28),
+        (":0400000312345678E5", 0),
+        (":05000003123456789A4A", 28),
+        (":00000005FB", 28),
+        (":0100000512E8", 28),
+        (":020000051234B3", 28),
+        (":030000051234565C", 28),
+        (":0400000512345678E3", 0),
+        (":05000005123456789A48", 28),
+    ]);
+}
+
+#[test]
+fn start_records_have_address_0() {
+    check_records(&[
+        (":0400010300000000F8", 28),
+        (":0401000300000000F8", 28),
+        (":0401010300000000F7", 28),
+        (":0400010500000000F6", 28),
+        (":0401000500000000F6", 28),
+        (":0401010500000000F5", 28),
+    ]);
+}
+
+#[test]
+fn start_records_wrong_in_count_and_address() {
+    check_records(&[
+        (":020001030000FA", 28),
+        (":020100030000FA", 28),
+        (":020001050000F8", 28),
+        (":020100050000F8", 28),
+    ]);
+}
+
+#[test]
+fn other_records_keep_their_count() {
+    check_records(&[
+        (":00000001FF", 0),
+        (":020000010000FD", 28),
+        (":0400000100000000FB", 28),
+        (":00000002FE", 28),
+        (":0100000200FD", 28),
+        (":020000020000FC", 0),
+        (":03000002000000FB", 28),
+        (":0400000200000000FA", 28),
+        (":00000004FC", 28),
+        (":0100000400FB", 28),
+        (":020000040000FA", 0),
+        (":03000004000000F9", 28),
+        (":0400000400000000F8", 28),
+    ]);
+}
+
+#[test]
+fn length_and_checksum_of_a_start_record_go_before_its_shape() {
+    check_records(&[
+        (":040000030000FB", 25),
+        (":0200000500000000F9", 25),
+        (":020000030000FC", 26),
+        (":020000050000FA", 26),
+        (":0400010300000000F9", 26),
+        (":0400010500000000F7", 26),
+        (":0400000300000000FA", 26),
+        (":0400000500000000F8", 26),
+    ]);
+}
+
+#[test]
+fn start_record_after_the_end() {
+    let mut reading = Reading::of(&[":020000001234B8", ":00000001FF"]);
+    for record in START_RECORDS {
+        assert_eq!(reading.record(record), 21);
+    }
+    assert_eq!(reading.record(":020000030000FB"), 21);
+    assert_eq!(reading.record(":020000050000F9"), 21);
+}
+
+#[test]
+fn start_record_changes_nothing() {
+    let before: [&[&str]; 3] = [
+        &[],
+        &[":020000001234B8"],
+        &[":020000001234B8", ":02000002001FDD", ":020000040001F9"],
+    ];
+    for records in before {
+        let stood = Reading::of(records);
+        for record in START_RECORDS {
+            let mut reading = stood.clone();
+            assert_eq!(reading.record(record), 0);
+            assert_eq!(reading, stood, "{record}");
+        }
+    }
+}
+
+#[test]
+fn start_record_is_no_data() {
+    for record in START_RECORDS {
+        let mut reading = Reading::of(&[record]);
+        assert_eq!(reading.reader.close(), Err(Refusal::NoEndRecord));
+        assert_eq!(reading.record(":00000001FF"), 0);
+        assert_eq!(reading.reader.close(), Err(Refusal::NoData));
+    }
+}
+
+#[test]
+fn start_record_is_no_base() {
+    for record in START_RECORDS {
+        let reading = Reading::of(&[record, ":020000001234B8"]);
+        assert_eq!(reading.image[..3], [0x12, 0x34, 0xFF]);
+        assert_eq!(reading.map[..3], [3, 0, 0]);
+        // nor does it clear one
+        let reading = Reading::of(&[":02000002001FDD", record, ":020010001234A8"]);
+        assert_eq!(reading.image[0x200..0x203], [0x12, 0x34, 0xFF]);
+        assert_eq!(reading.map[0x40], 3);
+        let mut reading = Reading::of(&[":020000040001F9", record]);
+        assert_eq!(reading.record(":0100000000FF"), 29);
+    }
 }
 
 #[test]

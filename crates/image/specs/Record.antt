@@ -28,7 +28,7 @@ kind b = getD b 3 0
 abbrev pub payload : List ℕ → List ℕ
 payload b = take (count b) (drop 4 b)
 
--- the value of the two bytes of types 02 to 05
+-- the value of the two bytes of types 02 and 04
 abbrev pub value : List ℕ → ℕ
 value b = pairAt b 4
 
@@ -70,10 +70,14 @@ isData b = eqb (kind b) 0
 abbrev pub kindWrong : List ℕ → Bool
 kindWrong b = ltb 5 (kind b)
 
--- BB or AAAA wrong for the type: 01 has BB 0, 02 to 05 have BB 2, and all of them AAAA 0
+-- BB by the type: 01 has 0, 02 and 04 have 2, 03 and 05 have 4
+abbrev pub countFor : ℕ → ℕ
+countFor k = pick (eqb k 1) 0 (pick (either (eqb k 2) (eqb k 4)) 2 4)
+
+-- BB or AAAA wrong for the type: types 01 to 05 have its BB and AAAA 0
 abbrev pub shapeWrong : List ℕ → Bool
 shapeWrong b =
-    pick (isData b) false (either (not (eqb (address b) 0)) (not (eqb (count b) (pick (eqb (kind b) 1) 0 2))))
+    pick (isData b) false (either (not (eqb (count b) (countFor (kind b)))) (not (eqb (address b) 0)))
 
 -- ---- the rows of the paper's table, and the cuts: what one part of them says
 

@@ -176,13 +176,12 @@ impl Hex {
             self.ended = true;
             return self;
         }
-        let value = pair_at(bytes, 4) as u32;
         if kind == 2 {
-            self.segment = 16 * value;
+            self.segment = 16 * pair_at(bytes, 4) as u32;
             return self;
         }
         if kind == 4 {
-            self.linear = 65536 * value;
+            self.linear = 65536 * pair_at(bytes, 4) as u32;
             return self;
         }
         self

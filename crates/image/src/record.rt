@@ -4,7 +4,7 @@ ghost use Prim.Native.Nat.{_≤_};
 ghost use lib.ListN.{length};
 ghost use Rattle.basis.specs.Lists.{copyOf};
 ghost use Rattle.image.specs.Paper.{paperRefusal, paperCheck};
-ghost use Rattle.image.specs.Record.{charactersOf, decodedBytes, framingOf, shapeOf};
+ghost use Rattle.image.specs.Record.{charactersOf, decodedBytes, framingOf, countFor, shapeOf};
 use crate::digits::decode;
 use basis::buffers::pair_at;
 use basis::sums::sum;
@@ -119,19 +119,25 @@ pub fn shape(bytes: &[u8]) -> Check
     if kind == 0 {
         return Check::Passed;
     }
+    if count != count_for(kind) {
+        return Check::Refused(Refusal::Shape);
+    }
     if address != 0 {
         return Check::Refused(Refusal::Shape);
     }
-    if kind == 1 {
-        if count != 0 {
-            return Check::Refused(Refusal::Shape);
-        }
-        return Check::Passed;
-    }
-    if count != 2 {
-        return Check::Refused(Refusal::Shape);
-    }
     Check::Passed
+}
+
+// BB of a record that is no data, by its type.
+fn count_for(kind: u8) -> u8
+    ensures { λ r. ⌜ r ≡ countFor kind ⌝ }
+{
+    match kind {
+        1 => 0,
+        2 => 2,
+        4 => 2,
+        _ => 4,
+    }
 }
 
 // A byte as a number, known to be at most 255.

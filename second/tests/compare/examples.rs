@@ -18,7 +18,7 @@ enum Read {
     Refused { line: usize, number: u8 },
 }
 
-const EXAMPLES: [(&str, Read); 10] = [
+const EXAMPLES: [(&str, Read); 11] = [
     ("aligned", Read::Named(96)),
     ("unaligned", Read::Named(301)),
     ("large", Read::Named(12_000)),
@@ -28,8 +28,12 @@ const EXAMPLES: [(&str, Read); 10] = [
     ("past-end", refused(3, 29)),
     ("past-segment", refused(2, 29)),
     ("past-linear", refused(2, 29)),
-    ("start", refused(7, 28)),
+    ("start", Read::Named(96)),
+    ("start-linear", Read::Named(96)),
 ];
+
+/// The example `aligned` with a start record before its end.
+const WITH_START: [&str; 2] = ["start", "start-linear"];
 
 const fn refused(line: usize, number: u8) -> Read {
     Read::Refused { line, number }
@@ -38,6 +42,11 @@ const fn refused(line: usize, number: u8) -> Read {
 /// Every example's text.
 pub fn texts() -> impl Iterator<Item = Vec<u8>> {
     EXAMPLES.iter().map(|(name, _)| text(name))
+}
+
+/// Files with a start record, each beside the same file without one.
+pub fn started() -> impl Iterator<Item = (Vec<u8>, Vec<u8>)> {
+    WITH_START.iter().map(|name| (text(name), text("aligned")))
 }
 
 pub fn compare(pair: &mut Pair) {

@@ -24,6 +24,7 @@ pub fn compare(pair: &mut Pair) {
     for buffer in [Buffer::Image, Buffer::Map] {
         pair.fill_buffer(buffer, 0x5A);
     }
+    shapes(pair, &mut random);
     for _ in 0..FILES {
         file(pair, &mut random);
     }
@@ -43,6 +44,19 @@ pub fn compare(pair: &mut Pair) {
     }
     for _ in 0..12 {
         write_and_read_back(pair, &mut random);
+    }
+}
+
+/// Each type that has a shape, with counts and addresses on each side of it.
+fn shapes(pair: &mut Pair, random: &mut Random) {
+    let state = pair.hex(IMAGE, MAP);
+    for kind in 1..=5 {
+        for length in 0..=6 {
+            for address in [0, 1, 0x100] {
+                let text = encoded(address, kind, &random.bytes(length));
+                pair.record(state, &text, IMAGE, MAP);
+            }
+        }
     }
 }
 
@@ -131,7 +145,7 @@ fn any_text(random: &mut Random) -> Vec<u8> {
             encoded(0, type_byte, &random.bytes(length))
         }
         10 => {
-            let length = random.below(5);
+            let length = random.below(6);
             let address = random.pick(&[0, 0, 1, 0x100]);
             let kind = random.within(1, 5) as u8;
             encoded(address, kind, &random.bytes(length))
@@ -182,7 +196,7 @@ fn sound(random: &mut Random) -> Vec<u8> {
             &random.pick(&[0, 0, 1, 0xF7F, 0xF80, any]).to_be_bytes(),
         ),
         1 => encoded(0, 4, &random.pick(&[0, 0, 0, 1, 0xFFFF, any]).to_be_bytes()),
-        2 => encoded(0, random.pick(&[3, 5]), &any.to_be_bytes()),
+        2 => encoded(0, random.pick(&[3, 5]), &random.word().to_be_bytes()),
         3 if random.once_in(20) => END.to_vec(),
         3 => encoded(0, 2, &[0, 0]),
         4 => encoded(0, 4, &[0, 0]),

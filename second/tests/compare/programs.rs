@@ -53,6 +53,10 @@ pub fn compare_plan() -> Tally {
     let mut texts: Vec<Vec<u8>> = fixed.map(<[u8]>::to_vec).into();
     texts.extend(examples::texts());
     texts.extend((0..PLANS).map(|_| plan_text(&mut random)));
+    for (with, without) in examples::started() {
+        // a start address changes nothing
+        alike("target/bin/plan", &with, listing::plan(&without).as_bytes());
+    }
     compare("plan", listing::plan, &texts)
 }
 

@@ -19,18 +19,18 @@ use Rattle.image.specs.Digits.{digitOf, allDigits, decoded}
 use Rattle.image.specs.Writer.{letterOf, spelt, line}
 use Rattle.image.specs.Laws.Writer.{length-spelt, spelt-digits, spelt-bytes}
 use Rattle.basis.specs.Laws.Choice.{pick-second, both-true, both-no, either-none}
-use Rattle.image.specs.Record.{count, kind, address, recordLeast, recordMost, noColon, lengthWrong, notDigits, countWrong, isData, kindWrong, shapeWrong, characterRows, byteRows, shapeRows, charactersOf, decodedBytes, framingOf, shapeOf}
+use Rattle.image.specs.Record.{count, kind, address, recordLeast, recordMost, noColon, lengthWrong, notDigits, countWrong, isData, kindWrong, countFor, shapeWrong, characterRows, byteRows, shapeRows, charactersOf, decodedBytes, framingOf, shapeOf}
 use Rattle.image.specs.Hex.{hex, file, place, placeRows, namedBefore, placed, otherOf, recordIn, applyIn, dataIn}
 use Rattle.image.specs.declared.hex.Hex.{Hex}
 
--- types 02 to 05 have BB 2
-pub shape-count : (b : List ℕ) → shapeOf b ≡ given tt → (kind b ≡ 0 → ⊥) → (kind b ≡ 1 → ⊥) → count b ≡ 2
+-- BB as the type has it
+pub shape-count : (b : List ℕ) → shapeOf b ≡ given tt → (kind b ≡ 0 → ⊥) → count b ≡ countFor (kind b)
 unfolding shapeOf
-shape-count b e n0 n1 =
+shape-count b e n0 =
+    let counted = eqb (count b) (countFor (kind b)) in
     let p = passed 28 (shapeWrong b) _ _ (passed 27 (kindWrong b) _ _ e .1) .0 in
-    let q = either-none (not (eqb (address b) 0)) (not (eqb (count b) 2))
-    (simp (ne-eqb _ _ n0, ne-eqb _ _ n1) at p) in
-    eqb-true _ _ (not-false (eqb (count b) 2) (q .1))
+    let q = either-none (not counted) (not (eqb (address b) 0)) (simp (ne-eqb _ _ n0) at p) in
+    eqb-true _ _ (not-false counted (q .0))
 
 -- BB as the length says
 pub framing-count : (n : ℕ) (b : List ℕ) → framingOf n b ≡ given tt → n ≡ recordLeast + 2 * count b

@@ -3,11 +3,12 @@ use Prim.Native.Nat.{ℕ}
 use mathlib.Core.Bool.{Bool, true, false, not}
 use mathlib.Core.List.{List}
 use mathlib.Core.Path.{_≡_, sym, _∙_}
+use native.Mathlib.Omega.{arith}
 use lib.Dec.{eqb}
 use borrow.Author.Tests.{lt-ltb, le-ltb, eq-eqb, ne-eqb}
 use Rattle.basis.specs.Choice.{pick}
 use Rattle.basis.specs.Refusals.{refused, given, first}
-use Rattle.image.specs.Record.{count, kind, address, shapeOf}
+use Rattle.image.specs.Record.{count, kind, address, countFor, shapeOf}
 use borrow.Author.Needs.{needs}
 use Rattle.image.proofs.record.shape.Statement.{statement}
 use Rattle.image.proofs.record.shape.Tie as tie
@@ -20,54 +21,44 @@ returns-2 : tie.Need-returns-2
 unfolding first shapeOf
 returns-2 c = simp (le-ltb _ _ (c .before .if1 .left), eq-eqb _ _ (c .if2 .taken))
 
+-- where the type is one of 01 to 05: the record's bytes, and its address as it was read
+abbrev bytes-at : tie.Else2 → List ℕ
+bytes-at c = c .before .before .before .before .before .before .args .bytes .now
+
+abbrev read-at : tie.Else2 → tie.After-pair-at
+read-at c = c .before .before .before
+
+-- the count is as the type has it or not; where it is, the address decides
+miscounted : (c : tie.Else2) → let b = bytes-at c in
+    (count b ≡ countFor (kind b) → ⊥) → refused 28 ≡ shapeOf b
+unfolding first shapeOf
+miscounted c w = simp (le-ltb _ _ (c .before .if1 .left), ne-eqb _ _ (c .if2 .left), ne-eqb _ _ w)
+
+decided : (c : tie.Else2) (t : Bool) → let b = bytes-at c in
+    count b ≡ countFor (kind b) → eqb (address b) 0 ≡ t → pick (not t) (refused 28) (given tt) ≡ shapeOf b
+unfolding first shapeOf
+decided c t e f = simp (le-ltb _ _ (c .before .if1 .left), ne-eqb _ _ (c .if2 .left), eq-eqb _ _ e, f)
+
 returns-3 : tie.Need-returns-3
-unfolding first shapeOf
 returns-3 c =
-    simp (
-      le-ltb _ _ (c .before .before .if1 .left),
-      ne-eqb _ _ (c .before .if2 .left),
-      ne-eqb _ _ (λ e. c .if3 .taken (c .before .before .before .before .pair-at .ensures ∙ e)),
-    )
+    miscounted (c .before .before) (λ e. omega (arith, c .if3 .taken, c .before .count-for .ensures, e))
 
--- where the address is 0: its bytes, and what is known there
-abbrev bytes-at : tie.Else1 → List ℕ
-bytes-at c = c .before .before .before .before .before .args .bytes .now
+-- behind the count: where it was asked for, and what is known there
+abbrev asked : tie.Else3 → tie.Else2
+asked c = c .before .before
 
-zero : (c : tie.Else3) → address (bytes-at (c .before .before)) ≡ 0
-zero c = sym (c .before .before .before .before .pair-at .ensures) ∙ c .if3 .left
-
--- the count then decides: n, as the type wants it, or another
-counted : (c : tie.Else3) (n : ℕ) (t : Bool) → let b = bytes-at (c .before .before) in
-    pick (eqb (kind b) 1) 0 2 ≡ n → eqb (count b) n ≡ t → pick (not t) (refused 28) (given tt) ≡ shapeOf b
-unfolding first shapeOf
-counted c n t e f =
-    simp (
-      le-ltb _ _ (c .before .before .if1 .left),
-      ne-eqb _ _ (c .before .if2 .left),
-      eq-eqb _ _ (zero c),
-      e,
-      f,
-    )
+counted : (c : tie.Else3) → let b = bytes-at (asked c) in count b ≡ countFor (kind b)
+counted c = omega (arith, c .if3 .left, c .before .count-for .ensures)
 
 returns-4 : tie.Need-returns-4
 returns-4 c =
-    counted (c .before .before) 0 false (simp (eq-eqb _ _ (c .before .if4 .taken)))
-    (ne-eqb _ _ (c .if5 .taken))
+    decided (asked (c .before)) false (counted (c .before))
+    (ne-eqb _ _ (λ e. c .if4 .taken (read-at (asked (c .before)) .pair-at .ensures ∙ e)))
 
 returns-5 : tie.Need-returns-5
 returns-5 c =
-    counted (c .before .before) 0 true (simp (eq-eqb _ _ (c .before .if4 .taken)))
-    (eq-eqb _ _ (c .if5 .left))
-
-returns-6 : tie.Need-returns-6
-returns-6 c =
-    counted (c .before .before) 2 false (simp (ne-eqb _ _ (c .before .if4 .left)))
-    (ne-eqb _ _ (c .if6 .taken))
-
-returns-7 : tie.Need-returns-7
-returns-7 c =
-    counted (c .before .before) 2 true (simp (ne-eqb _ _ (c .before .if4 .left)))
-    (eq-eqb _ _ (c .if6 .left))
+    decided (asked (c .before)) true (counted (c .before))
+    (eq-eqb _ _ (sym (read-at (asked (c .before)) .pair-at .ensures) ∙ c .if4 .left))
 
 pub shape-spec : {M : Type 1} → statement M
 shape-spec =
@@ -78,8 +69,7 @@ shape-spec =
     (λ c. search needs)
     returns
     returns-2
+    (λ c κs. search needs)
     returns-3
     returns-4
-    returns-5
-    returns-6
-    returns-7)
+    returns-5)
