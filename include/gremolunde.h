@@ -178,7 +178,8 @@ gremolunde_taken gremolunde_loader_take(gremolunde_loader loader, const uint8_t 
 /* Starts a file: fills image with 0xFF and map with 0. 20 wrong sizes. */
 gremolunde_hex_read gremolunde_hex_start(uint8_t *image, size_t image_length, uint8_t *map, size_t map_length);
 
-/* Takes one record, its line end removed. 20 to 30. */
+/* Takes one record, its line end removed. 20 to 30. Of the types 01 to 05, BB is 0 for 01, 2 for 02 and 04, 4 for 03
+ * and 05, whose start address is checked and ignored; AAAA is 0 for all five, else 28. */
 gremolunde_hex_read gremolunde_hex_record(gremolunde_hex reader, const uint8_t *line, size_t line_length,
                                           uint8_t *image, size_t image_length, uint8_t *map, size_t map_length);
 

@@ -70,9 +70,13 @@ isData b = eqb (kind b) 0
 abbrev pub kindWrong : List ℕ → Bool
 kindWrong b = ltb 5 (kind b)
 
--- BB by the type: 01 has 0, 02 and 04 have 2, 03 and 05 have 4
+-- the types that name a start address
+abbrev pub isStart : ℕ → Bool
+isStart k = either (eqb k 3) (eqb k 5)
+
+-- BB by the type: 01 has 0, 03 and 05 have 4, 02 and 04 have 2
 abbrev pub countFor : ℕ → ℕ
-countFor k = pick (eqb k 1) 0 (pick (either (eqb k 2) (eqb k 4)) 2 4)
+countFor k = pick (eqb k 1) 0 (pick (isStart k) 4 2)
 
 -- BB or AAAA wrong for the type: types 01 to 05 have its BB and AAAA 0
 abbrev pub shapeWrong : List ℕ → Bool

@@ -1,4 +1,4 @@
--- The records of the paper's cases, read by a fresh reader on a board of 272 bytes.
+-- The records of the paper's cases, and start records, read by a fresh reader on a board of 272 bytes.
 use Prim.Native.Nat.{ℕ, _*_}
 use mathlib.Core.Bool.{Bool, true, false}
 use mathlib.Core.List.{List, [], _∷_}

@@ -1,6 +1,6 @@
 -- Laws of the reader: what the checks of a record tell, and how the cuts make up the one table.
 use Prim.Native.Nat.{ℕ, _+_, _*_, _/_, _%_, _<_, _≤_}
-use mathlib.Core.Path.{_≡_, refl, ap, _∙_}
+use mathlib.Core.Path.{_≡_, refl, sym, ap, _∙_}
 use mathlib.Core.Bool.{Bool, true, false, not}
 use mathlib.Core.List.{List, [], _∷_}
 use native.Mathlib.Omega.{arith}
@@ -11,16 +11,16 @@ use borrow.Author.Tests.{eq-eqb, ne-eqb, le-ltb, eqb-true, eqb-false, ltb-false,
 use Rattle.basis.specs.Units.{rightSizesIn}
 use Rattle.basis.specs.Choice.{pick, both, either}
 use Rattle.basis.specs.Refusals.{given, first, andThen}
-use Rattle.basis.specs.Laws.Refusals.{passed, first-then}
+use Rattle.basis.specs.Laws.Refusals.{given-one, passed, through, first-then}
 use Rattle.basis.specs.Lists.{Bytes, copyOf}
 use Rattle.basis.specs.Laws.Lists.{copy-overlay}
 use Rattle.basis.specs.Sums.{plainSum, sumOf}
 use Rattle.image.specs.Digits.{digitOf, allDigits, decoded}
 use Rattle.image.specs.Writer.{letterOf, spelt, line}
 use Rattle.image.specs.Laws.Writer.{length-spelt, spelt-digits, spelt-bytes}
-use Rattle.basis.specs.Laws.Choice.{pick-second, both-true, both-no, either-none}
-use Rattle.image.specs.Record.{count, kind, address, recordLeast, recordMost, noColon, lengthWrong, notDigits, countWrong, isData, kindWrong, countFor, shapeWrong, characterRows, byteRows, shapeRows, charactersOf, decodedBytes, framingOf, shapeOf}
-use Rattle.image.specs.Hex.{hex, file, place, placeRows, namedBefore, placed, otherOf, recordIn, applyIn, dataIn}
+use Rattle.basis.specs.Laws.Choice.{decide, pick-second, both-true, both-no, either-none}
+use Rattle.image.specs.Record.{count, kind, address, recordLeast, recordMost, noColon, lengthWrong, notDigits, countWrong, isData, kindWrong, isStart, countFor, shapeWrong, characterRows, byteRows, shapeRows, charactersOf, decodedBytes, framingOf, shapeOf}
+use Rattle.image.specs.Hex.{File, hex, file, effect, place, placeRows, namedBefore, placed, otherOf, recordIn, applyIn, dataIn}
 use Rattle.image.specs.declared.hex.Hex.{Hex}
 
 -- BB as the type has it
@@ -31,6 +31,21 @@ shape-count b e n0 =
     let p = passed 28 (shapeWrong b) _ _ (passed 27 (kindWrong b) _ _ e .1) .0 in
     let q = either-none (not counted) (not (eqb (address b) 0)) (simp (ne-eqb _ _ n0) at p) in
     eqb-true _ _ (not-false counted (q .0))
+
+-- a start record, where it is taken, leaves reader, image and map as they stood
+pub start-ignored : (size : ℕ) (h : Hex) (text image map : List ℕ) (f : File)
+    → isStart (kind (decoded (drop 1 text))) ≡ true
+    → recordIn size h text image map ≡ given f
+    → f ≡ file h image map
+unfolding recordIn
+start-ignored size h text image map f s e =
+    let did = effect h (decoded (drop 1 text)) image map in
+    given-one (sym e ∙ through _ did (given did) e) ∙ ignored (decoded (drop 1 text)) s
+  where
+    ignored : (b : List ℕ) → isStart (kind b) ≡ true → effect h b image map ≡ file h image map
+    ignored b s =
+        decide (eqb (kind b) 3) (λ t. rw (eqb-true (kind b) 3 t) refl)
+        (λ t. rw (eqb-true (kind b) 5 (rw t at s)) refl)
 
 -- BB as the length says
 pub framing-count : (n : ℕ) (b : List ℕ) → framingOf n b ≡ given tt → n ≡ recordLeast + 2 * count b
