@@ -196,7 +196,7 @@ fn sound(random: &mut Random) -> Vec<u8> {
             &random.pick(&[0, 0, 1, 0xF7F, 0xF80, any]).to_be_bytes(),
         ),
         1 => encoded(0, 4, &random.pick(&[0, 0, 0, 1, 0xFFFF, any]).to_be_bytes()),
-        2 => encoded(0, random.pick(&[3, 5]), &random.word().to_be_bytes()),
+        2 => start_record(random),
         3 if random.once_in(20) => END.to_vec(),
         3 => encoded(0, 2, &[0, 0]),
         4 => encoded(0, 4, &[0, 0]),
@@ -221,6 +221,11 @@ fn sound(random: &mut Random) -> Vec<u8> {
         _ => {}
     }
     text
+}
+
+/// A start address, which names no byte.
+pub fn start_record(random: &mut Random) -> Vec<u8> {
+    encoded(0, random.pick(&[3, 5]), &random.word().to_be_bytes())
 }
 
 pub fn encoded(address: u16, kind: u8, data: &[u8]) -> Vec<u8> {

@@ -94,7 +94,10 @@ fn plan_text(random: &mut Random) -> Vec<u8> {
         let length = random.below(300);
         return random.bytes(length);
     }
-    let mut records = data_records(random);
+    let mut records = match random.once_in(24) {
+        true => vec![files::start_record(random)],
+        false => data_records(random),
+    };
     if random.once_in(2) {
         let place = random.below(records.len() as u32 + 1) as usize;
         records.insert(place, odd_record(random));
