@@ -78,7 +78,7 @@ isStart k = either (eqb k 3) (eqb k 5)
 abbrev pub countFor : ℕ → ℕ
 countFor k = pick (eqb k 1) 0 (pick (isStart k) 4 2)
 
--- BB or AAAA wrong for the type: types 01 to 05 have its BB and AAAA 0
+-- BB or AAAA wrong for the type: data has any, each other type its BB and AAAA 0
 abbrev pub shapeWrong : List ℕ → Bool
 shapeWrong b =
     pick (isData b) false (either (not (eqb (count b) (countFor (kind b)))) (not (eqb (address b) 0)))

@@ -21,12 +21,12 @@ returns-2 : tie.Need-returns-2
 unfolding first shapeOf
 returns-2 c = simp (le-ltb _ _ (c .before .if1 .left), eq-eqb _ _ (c .if2 .taken))
 
--- where the type is one of 01 to 05: the record's bytes, and its address as it was read
-abbrev bytes-at : tie.Else2 → List ℕ
-bytes-at c = c .before .before .before .before .before .before .args .bytes .now
-
+-- where the type is one of 01 to 05: where the address was read, and the record's bytes
 abbrev read-at : tie.Else2 → tie.After-pair-at
 read-at c = c .before .before .before
+
+abbrev bytes-at : tie.Else2 → List ℕ
+bytes-at c = read-at c .before .before .before .args .bytes .now
 
 -- the count is as the type has it or not; where it is, the address decides
 miscounted : (c : tie.Else2) → let b = bytes-at c in

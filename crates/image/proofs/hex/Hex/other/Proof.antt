@@ -14,11 +14,15 @@ use Rattle.image.proofs.hex.Hex.other.Tie as tie
 room : (c : tie.Start) → let b = c .args .bytes .now in countFor (kind b) ≡ 2 → 6 ≤ length b
 room c e = omega (arith, c .pre .0, shape-count _ (c .pre .1) (c .pre .2), e)
 
+-- where the type is no 01
+abbrev entry : tie.Else1 → tie.Start
+entry c = c .before .before .before
+
 returns : tie.Need-returns
 returns c = simp (eq-eqb _ _ (c .if1 .taken))
 
 pair-at-requires : tie.Need-pair-at-requires
-pair-at-requires c κs = room (c .before .before .before .before) (ap countFor (c .if2 .taken))
+pair-at-requires c κs = room (entry (c .before)) (ap countFor (c .if2 .taken))
 
 returns-2 : tie.Need-returns-2
 returns-2 c =
@@ -29,7 +33,7 @@ returns-2 c =
     )
 
 pair-at-requires-2 : tie.Need-pair-at-requires-2
-pair-at-requires-2 c κs = room (c .before .before .before .before .before) (ap countFor (c .if3 .taken))
+pair-at-requires-2 c κs = room (entry (c .before .before)) (ap countFor (c .if3 .taken))
 
 returns-3 : tie.Need-returns-3
 returns-3 c =
