@@ -70,11 +70,11 @@ isData b = eqb (kind b) 0
 abbrev pub kindWrong : List ℕ → Bool
 kindWrong b = ltb 5 (kind b)
 
--- the types that name a start address
+-- 03 and 05 name a start address
 abbrev pub isStart : ℕ → Bool
 isStart k = either (eqb k 3) (eqb k 5)
 
--- BB by the type: 01 has 0, 03 and 05 have 4, 02 and 04 have 2
+-- BB by the type: 01 has 0, 02 and 04 have 2, 03 and 05 have 4
 abbrev pub countFor : ℕ → ℕ
 countFor k = pick (eqb k 1) 0 (pick (isStart k) 4 2)
 

@@ -32,8 +32,11 @@ const EXAMPLES: [(&str, Read); 11] = [
     ("start-linear", Read::Named(96)),
 ];
 
-/// The example `aligned` with a start record before its end.
-const WITH_START: [&str; 2] = ["start", "start-linear"];
+/// The example `aligned` with this start record before its end.
+const WITH_START: [(&str, &[u8]); 2] = [
+    ("start", b":0400000300000800F1"),
+    ("start-linear", b":04000005800008006F"),
+];
 
 const fn refused(line: usize, number: u8) -> Read {
     Read::Refused { line, number }
@@ -46,7 +49,14 @@ pub fn texts() -> impl Iterator<Item = Vec<u8>> {
 
 /// Files with a start record, each beside the same file without one.
 pub fn started() -> impl Iterator<Item = (Vec<u8>, Vec<u8>)> {
-    WITH_START.iter().map(|name| (text(name), text("aligned")))
+    WITH_START.iter().map(|(name, record)| {
+        let (with, without) = (text(name), text("aligned"));
+        let (starts, rest): (Vec<&[u8]>, Vec<&[u8]>) =
+            listing::lines(&with).partition(|line| listing::without_end(line) == *record);
+        assert_eq!(starts.len(), 1, "{name}");
+        assert_eq!(rest.concat(), without, "{name}");
+        (with, without)
+    })
 }
 
 pub fn compare(pair: &mut Pair) {
