@@ -1,8 +1,8 @@
 -- The characters of a hex file.
 use Prim.Native.Nat.{ℕ, _+_, _-_, _*_}
 use mathlib.Core.List.{List, [], _∷_}
-use mathlib.Core.Bool.{Bool, true}
 use lib.Dec.{leb, ltb}
+use lib.ListN.{drop}
 use Rattle.basis.specs.Choice.{pick, both}
 
 -- the value of a digit, '0' to '9', 'A' to 'F' or 'a' to 'f'; 16 for a character that is none
@@ -12,10 +12,14 @@ digitOf c =
     (pick (both (leb 0x41 c) (leb c 0x46)) (c - 0x37)
     (pick (both (leb 0x61 c) (leb c 0x66)) (c - 0x57) 16))
 
--- each character is a digit
-unfoldable pub allDigits : List ℕ → Bool
-allDigits [] = true
-allDigits (c ∷ s) = both (ltb (digitOf c) 16) (allDigits s)
+-- how many digits stand before the first character that is none
+unfoldable pub digitsBefore : List ℕ → ℕ
+digitsBefore [] = 0
+digitsBefore (c ∷ s) = pick (ltb (digitOf c) 16) (1 + digitsBefore s) 0
+
+-- the place of the first character after the colon that is no digit; the line's end where all are
+abbrev pub firstBad : List ℕ → ℕ
+firstBad line = 1 + digitsBefore (drop 1 line)
 
 -- the bytes that the characters spell, two digits a byte, the higher first, as far as all are digits
 unfoldable pub decoded : List ℕ → List ℕ

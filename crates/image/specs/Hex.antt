@@ -10,7 +10,7 @@ use Rattle.basis.specs.Refusals.{Answer, refused, given, Rule, _when_, first}
 use Rattle.basis.specs.Units.{rightSizesIn}
 use Rattle.image.specs.Digits.{decoded}
 use Rattle.basis.specs.Lists.{copyOf}
-use Rattle.image.specs.Record.{count, address, kind, payload, value, isData, characterRows, byteRows, shapeRows}
+use Rattle.image.specs.Record.{count, address, kind, payload, value, isData, characterRows, byteRows, shapeRows, columnOf, Pointed, wrong, right}
 use Rattle.image.specs.declared.hex.Hex.{Hex}
 use Rattle.runs.specs.Map.{anyNamed, nameAllOf}
 
@@ -25,17 +25,17 @@ file h image map = record { reader = h; image = image; map = map }
 
 -- the answer, with image and map as they then stand
 pub record Settled : Type 0 where
-  pub answer : Answer Hex
+  pub answer : Pointed Hex
   pub image : List ℕ
   pub map : List ℕ
 
-abbrev pub settledAs : Answer Hex → List ℕ → List ℕ → Settled
+abbrev pub settledAs : Pointed Hex → List ℕ → List ℕ → Settled
 settledAs a image map = record { answer = a; image = image; map = map }
 
--- a refusal leaves image and map as they stood
-abbrev pub settled : Answer File → List ℕ → List ℕ → Settled
-settled (refused n) image map = settledAs (refused n) image map
-settled (given f) image map = settledAs (given (f .reader)) (f .image) (f .map)
+-- of a line: a refusal leaves image and map as they stood
+abbrev pub settled : List ℕ → Answer File → List ℕ → List ℕ → Settled
+settled line (refused n) image map = settledAs (wrong n (columnOf n line)) image map
+settled line (given f) image map = settledAs (right (f .reader)) (f .image) (f .map)
 
 -- both bases, whether the end record came, and whether a data byte was taken
 abbrev pub hex : ℕ → ℕ → Bool → Bool → Hex

@@ -4,6 +4,7 @@ use mathlib.Core.List.{List}
 use mathlib.Core.Path.{_≡_}
 use Rattle.basis.specs.Refusals.{Answer, refused, given}
 use Rattle.image.specs.Hex.{File, settledAs, settled}
+use Rattle.image.specs.Record.{Pointed, wrong, right}
 use Rattle.image.specs.Writer.{Measured}
 use Rattle.image.specs.declared.hex.Hex.{Hex}
 use Rattle.image.specs.declared.hex.Read as Read
@@ -33,18 +34,18 @@ paperRefusal NoData = 32
 paperRefusal Short = 33
 
 -- a check's word on a record
-abbrev pub paperCheck : Check.Check → Answer Unit
-paperCheck check.Passed = given tt
-paperCheck (check.Refused x) = refused (paperRefusal x)
+abbrev pub paperCheck : Check.Check → Pointed Unit
+paperCheck check.Passed = right tt
+paperCheck (check.Refused x column) = wrong (paperRefusal x) column
 
--- the next reader, or the refusal
-abbrev pub paperRead : Read.Read → Answer Hex
-paperRead (read.Taken h) = given h
-paperRead (read.Refused x) = refused (paperRefusal x)
+-- the next reader, or the refusal with its column
+abbrev pub paperRead : Read.Read → Pointed Hex
+paperRead (read.Taken h) = right h
+paperRead (read.Refused x column) = wrong (paperRefusal x) column
 
--- reading answers r and leaves image′ and map′, where the paper says a of image and map
-abbrev pub Reads : Read.Read → List ℕ → List ℕ → Answer File → List ℕ → List ℕ → Type 0
-Reads r image′ map′ a image map = settledAs (paperRead r) image′ map′ ≡ settled a image map
+-- reading a line answers r and leaves image′ and map′, where the paper says a of image and map
+abbrev pub Reads : Read.Read → List ℕ → List ℕ → List ℕ → Answer File → List ℕ → List ℕ → Type 0
+Reads r image′ map′ line a image map = settledAs (paperRead r) image′ map′ ≡ settled line a image map
 
 -- the length of what was written with the address to go on from, or the refusal
 abbrev pub paperWritten : Written.Written → Answer Measured

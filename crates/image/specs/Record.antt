@@ -1,14 +1,14 @@
--- A record by itself: its parts, and its refusals 22 to 28.
-use Prim.Native.Nat.{ℕ, _+_, _*_, _%_}
+-- A record by itself: its parts, and its refusals 22 to 28 with their columns.
+use Prim.Native.Nat.{ℕ, _+_, _-_, _*_, _%_}
 use mathlib.Core.List.{List, [], _∷_}
 use mathlib.Core.Bool.{Bool, false, not}
 use lib.Dec.{eqb, ltb}
 use lib.ListN.{length, getD, take, drop}
 use Rattle.basis.specs.Choice.{pick, either}
 use Rattle.basis.specs.Lists.{pairAt}
-use Rattle.basis.specs.Refusals.{Answer, given, Rule, _when_, first}
+use Rattle.basis.specs.Refusals.{Answer, refused, given, Rule, _when_, first}
 use Rattle.basis.specs.Sums.{sumOf}
-use Rattle.image.specs.Digits.{allDigits, decoded}
+use Rattle.image.specs.Digits.{firstBad, decoded}
 
 -- ---- the parts of a record, of its bytes
 
@@ -54,7 +54,7 @@ lengthWrong line =
 
 -- a character that is no digit
 abbrev pub notDigits : List ℕ → Bool
-notDigits line = not (allDigits (drop 1 line))
+notDigits line = ltb (firstBad line) (length line)
 
 -- length not 11 + 2 BB
 abbrev pub countWrong : ℕ → List ℕ → Bool
@@ -78,10 +78,13 @@ isStart k = either (eqb k 3) (eqb k 5)
 abbrev pub countFor : ℕ → ℕ
 countFor k = pick (eqb k 1) 0 (pick (isStart k) 4 2)
 
+-- BB wrong for the type
+abbrev pub countUnfit : List ℕ → Bool
+countUnfit b = not (eqb (count b) (countFor (kind b)))
+
 -- BB or AAAA wrong for the type: data has any, each other type its BB and AAAA 0
 abbrev pub shapeWrong : List ℕ → Bool
-shapeWrong b =
-    pick (isData b) false (either (not (eqb (count b) (countFor (kind b)))) (not (eqb (address b) 0)))
+shapeWrong b = pick (isData b) false (either (countUnfit b) (not (eqb (address b) 0)))
 
 -- ---- the rows of the paper's table, and the cuts: what one part of them says
 
@@ -109,3 +112,37 @@ shapeRows b = 27 when kindWrong b ∷ 28 when shapeWrong b ∷ []
 
 unfoldable pub shapeOf : List ℕ → Answer Unit
 shapeOf b = first (shapeRows b) (given tt)
+
+-- ---- the columns
+
+-- the column of a refusal of this line, counted from 0
+unfoldable pub columnOf : ℕ → List ℕ → ℕ
+columnOf k line =
+    -- the colon's place
+    pick (eqb k 22) 0
+    -- the line's length
+    (pick (either (eqb k 23) (eqb k 25)) (length line)
+    -- the first bad character
+    (pick (eqb k 24) (firstBad line)
+    -- the checksum's first digit
+    (pick (eqb k 26) (length line - 2)
+    -- the type's first digit
+    (pick (eqb k 27) 7
+    -- the count's first digit if the count is wrong, else the address's
+    (pick (eqb k 28) (pick (countUnfit (decoded (drop 1 line))) 1 3)
+    -- other refusals
+    0)))))
+
+-- an answer to a line: wrong, with the paper's number and the column, or right
+pub data Pointed (A : Type 0) : Type 0 where
+  wrong : ℕ → ℕ → Pointed A
+  right : A → Pointed A
+
+-- a refusal with its column
+abbrev pub pointed : {A : Type 0} → List ℕ → Answer A → Pointed A
+pointed line (refused k) = wrong k (columnOf k line)
+pointed line (given x) = right x
+
+-- where there is none, as at the start and at closing
+abbrev pub noLine : List ℕ
+noLine = []

@@ -3,7 +3,7 @@ ghost use mathlib.Core.Path.{_≡_};
 ghost use Prim.Native.Nat.{_/_, _%_, _≤_};
 ghost use lib.ListN.{length, drop};
 ghost use Rattle.basis.specs.Lists.{copyOf};
-ghost use Rattle.image.specs.Digits.{digitOf, allDigits, decoded};
+ghost use Rattle.image.specs.Digits.{digitOf, firstBad, decoded};
 
 // The value of a digit in either case; 16 for a character that is none.
 fn digit(c: u8) -> u8
@@ -17,10 +17,10 @@ fn digit(c: u8) -> u8
     }
 }
 
-// The characters after the first, as bytes; false where one is no digit.
-pub fn decode(line: &[u8], bytes: &mut [u8]) -> bool
+// The characters after the first, as bytes; gives the place of the first that is no digit, or the line's end.
+pub fn decode(line: &[u8], bytes: &mut [u8]) -> usize
     requires { ⌜ (length (now line) % 2 ≡ 1) × (length (now line) / 2 ≤ length (now bytes)) ⌝ }
-    ensures digits { λ r. ⌜ r ≡ allDigits (drop 1 (now (line .entry))) ⌝ }
+    ensures place { λ r. ⌜ r ≡ firstBad (now (line .entry)) ⌝ }
     ensures bytes { λ _. ⌜
         now (bytes .exit) ≡ copyOf (now (bytes .entry)) 0 (decoded (drop 1 (now (line .entry))))
         ⌝ }
@@ -30,14 +30,14 @@ pub fn decode(line: &[u8], bytes: &mut [u8]) -> bool
     while i < n {
         let high = digit(line[2 * i + 1]);
         if 16 <= high {
-            return false;
+            return 2 * i + 1;
         }
         let low = digit(line[2 * i + 2]);
         if 16 <= low {
-            return false;
+            return 2 * i + 2;
         }
         bytes[i] = 16 * high + low;
         i += 1;
     }
-    true
+    line.len()
 }

@@ -1,11 +1,13 @@
 // The hex reader: record by record into a lent image and a lent map of the places named.
+ghost use mathlib.Core.List.{List};
 ghost use mathlib.Core.Path.{_≡_};
 ghost use mathlib.Core.Bool.{false};
-ghost use Prim.Native.Nat.{_+_, _*_, _≤_};
-ghost use lib.ListN.{length};
+ghost use Prim.Native.Nat.{ℕ, _+_, _*_, _≤_};
+ghost use lib.ListN.{length, drop};
 ghost use Rattle.basis.specs.Refusals.{given};
 ghost use Rattle.basis.specs.Board.{flashSize, mapSize};
-ghost use Rattle.image.specs.Record.{count, kind, shapeOf};
+ghost use Rattle.image.specs.Digits.{decoded};
+ghost use Rattle.image.specs.Record.{count, kind, shapeOf, pointed, noLine};
 ghost use Rattle.image.specs.Paper.{paperRead, Reads};
 ghost use Rattle.image.specs.Hex.{startIn, recordIn, applyIn, dataIn, Puts, otherOf, closeOf};
 use crate::record::Check;
@@ -34,9 +36,10 @@ pub struct Hex {
     pub taken: bool,
 }
 
+// The next reader, or a refusal and its column, 0 where it has none.
 pub enum Read {
     Taken(Hex),
-    Refused(Refusal),
+    Refused(Refusal, usize),
 }
 
 impl Hex {
@@ -45,11 +48,11 @@ impl Hex {
         ensures { λ r. ⌜
             (let i = now (image .entry) in
             let m = now (map .entry) in
-            Reads r (now (image .exit)) (now (map .exit)) (startIn flashSize i m) i m)
+            Reads r (now (image .exit)) (now (map .exit)) noLine (startIn flashSize i m) i m)
             ⌝ }
     {
         if !right_sizes(image.len(), map.len()) {
-            return Read::Refused(Refusal::Size);
+            return Read::Refused(Refusal::Size, 0);
         }
         fill(image, 0, SIZE, 0xFF);
         fill(map, 0, MAP, 0);
@@ -64,17 +67,17 @@ impl Hex {
     // One record, its line end removed. A refusal leaves image, map and reader as they stood.
     pub fn record(self, line: &[u8], image: &mut [u8], map: &mut [u8]) -> Read
         ensures { λ r. ⌜
-            (let i = now (image .entry) in
+            (let l = now (line .entry) in
+            let i = now (image .entry) in
             let m = now (map .entry) in
-            Reads r (now (image .exit)) (now (map .exit))
-            (recordIn flashSize self (now (line .entry)) i m) i m)
+            Reads r (now (image .exit)) (now (map .exit)) l (recordIn flashSize self l i m) i m)
             ⌝ }
     {
         if !right_sizes(image.len(), map.len()) {
-            return Read::Refused(Refusal::Size);
+            return Read::Refused(Refusal::Size, 0);
         }
         if self.ended {
-            return Read::Refused(Refusal::Ended);
+            return Read::Refused(Refusal::Ended, 0);
         }
         // A line of 521 characters has 260 bytes.
         let mut bytes = [0u8; 260];
@@ -88,41 +91,41 @@ impl Hex {
             × (self .ended ≡ false)
             ⌝ }
         ensures { λ r. ⌜
-            (let i = now (image .entry) in
+            (let l = now (line .entry) in
+            let i = now (image .entry) in
             let m = now (map .entry) in
-            Reads r (now (image .exit)) (now (map .exit))
-            (recordIn flashSize self (now (line .entry)) i m) i m)
+            Reads r (now (image .exit)) (now (map .exit)) l (recordIn flashSize self l i m) i m)
             ⌝ }
     {
         let checked = characters(line, bytes);
-        if let Check::Refused(x) = checked {
-            return Read::Refused(x);
+        if let Check::Refused(x, column) = checked {
+            return Read::Refused(x, column);
         }
-        let n = line.len();
-        let half = n / 2;
-        self.apply(n, &bytes[..half], image, map)
+        let half = line.len() / 2;
+        self.apply(line, &bytes[..half], image, map)
     }
 
-    // 25 to 30 and what the record does, of the bytes of a record of `n` characters.
-    fn apply(self, n: usize, bytes: &[u8], image: &mut [u8], map: &mut [u8]) -> Read
+    // 25 to 30 and what the record does, of a line and its bytes.
+    fn apply(self, line: &[u8], bytes: &[u8], image: &mut [u8], map: &mut [u8]) -> Read
         requires { ⌜
-            (n ≡ 2 * length (now bytes) + 1) × (5 ≤ length (now bytes))
-            × (length (now image) ≡ flashSize) × (length (now map) ≡ mapSize)
+            (now bytes ≡ decoded (drop 1 (now line))) × (length (now line) ≡ 2 * length (now bytes) + 1)
+            × (5 ≤ length (now bytes)) × (length (now image) ≡ flashSize) × (length (now map) ≡ mapSize)
             ⌝ }
         ensures { λ r. ⌜
-            (let i = now (image .entry) in
+            (let l = now (line .entry) in
+            let i = now (image .entry) in
             let m = now (map .entry) in
-            Reads r (now (image .exit)) (now (map .exit))
-            (applyIn flashSize self n (now (bytes .entry)) i m) i m)
+            Reads r (now (image .exit)) (now (map .exit)) l
+            (applyIn flashSize self (length l) (now (bytes .entry)) i m) i m)
             ⌝ }
     {
-        let framed = framing(n, bytes);
-        if let Check::Refused(x) = framed {
-            return Read::Refused(x);
+        let framed = framing(line, bytes);
+        if let Check::Refused(x, column) = framed {
+            return Read::Refused(x, column);
         }
         let shaped = shape(bytes);
-        if let Check::Refused(x) = shaped {
-            return Read::Refused(x);
+        if let Check::Refused(x, column) = shaped {
+            return Read::Refused(x, column);
         }
         if bytes[3] == 0 {
             return self.data(bytes, image, map);
@@ -130,7 +133,7 @@ impl Hex {
         Read::Taken(self.other(bytes))
     }
 
-    // 29 and 30, and the data bytes into image and map.
+    // 29 and 30, and the data bytes into image and map, of whatever line.
     fn data(self, bytes: &[u8], image: &mut [u8], map: &mut [u8]) -> Read
         requires { ⌜
             (length (now bytes) ≡ 5 + count (now bytes))
@@ -139,7 +142,7 @@ impl Hex {
         ensures { λ r. ⌜
             (let i = now (image .entry) in
             let m = now (map .entry) in
-            Reads r (now (image .exit)) (now (map .exit))
+            (line : List ℕ) → Reads r (now (image .exit)) (now (map .exit)) line
             (dataIn flashSize self (now (bytes .entry)) i m) i m)
             ⌝ }
     {
@@ -149,11 +152,11 @@ impl Hex {
         }
         let place = self.linear as u64 + self.segment as u64 + pair_at(bytes, 1) as u64;
         if (END as u64) < place + count as u64 {
-            return Read::Refused(Refusal::Place);
+            return Read::Refused(Refusal::Place, 0);
         }
         let end = 4 + count;
         if !put(image, map, Address(place as u32), &bytes[4..end]) {
-            return Read::Refused(Refusal::Twice);
+            return Read::Refused(Refusal::Twice, 0);
         }
         Read::Taken(Hex {
             linear: self.linear,
@@ -189,13 +192,13 @@ impl Hex {
 
     // 31 and 32.
     pub fn close(self) -> Read
-        ensures { λ r. ⌜ paperRead r ≡ closeOf self ⌝ }
+        ensures { λ r. ⌜ paperRead r ≡ pointed noLine (closeOf self) ⌝ }
     {
         if !self.ended {
-            return Read::Refused(Refusal::NoEnd);
+            return Read::Refused(Refusal::NoEnd, 0);
         }
         if !self.taken {
-            return Read::Refused(Refusal::NoData);
+            return Read::Refused(Refusal::NoData, 0);
         }
         Read::Taken(self)
     }

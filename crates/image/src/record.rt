@@ -1,10 +1,13 @@
 // A record by itself, judged in the order of the paper: its characters, its bytes, its type and shape.
+// A refusal comes with its column, counted from 0.
+ghost use mathlib.Core.List.{List};
 ghost use mathlib.Core.Path.{_≡_};
-ghost use Prim.Native.Nat.{_≤_};
-ghost use lib.ListN.{length};
+ghost use Prim.Native.Nat.{ℕ, _≤_};
+ghost use lib.ListN.{length, drop};
 ghost use Rattle.basis.specs.Lists.{copyOf};
 ghost use Rattle.image.specs.Paper.{paperRefusal, paperCheck};
-ghost use Rattle.image.specs.Record.{charactersOf, decodedBytes, framingOf, countFor, shapeOf};
+ghost use Rattle.image.specs.Digits.{decoded};
+ghost use Rattle.image.specs.Record.{charactersOf, decodedBytes, framingOf, countFor, shapeOf, pointed};
 use crate::digits::decode;
 use basis::buffers::pair_at;
 use basis::sums::sum;
@@ -14,6 +17,15 @@ pub const SHORTEST: usize = 11;
 
 // The characters of a record of 255 bytes.
 pub const LONGEST: usize = 521;
+
+// Where the parts of a record begin.
+const COLON: usize = 0;
+
+const COUNT: usize = 1;
+
+const ADDRESS: usize = 3;
+
+const KIND: usize = 7;
 
 pub enum Refusal {
     Size,
@@ -57,73 +69,84 @@ impl Refusal {
 
 pub enum Check {
     Passed,
-    Refused(Refusal),
+    Refused(Refusal, usize),
 }
 
 // 22, 23 and 24. The bytes that are decoded by then come to the front of `bytes`.
 pub fn characters(line: &[u8], bytes: &mut [u8]) -> Check
     requires { ⌜ 260 ≤ length (now bytes) ⌝ }
-    ensures answer { λ r. ⌜ paperCheck r ≡ charactersOf (now (line .entry)) ⌝ }
+    ensures answer { λ r. ⌜
+        (let l = now (line .entry) in
+        paperCheck r ≡ pointed l (charactersOf l))
+        ⌝ }
     ensures bytes { λ _. ⌜
         now (bytes .exit) ≡ copyOf (now (bytes .entry)) 0 (decodedBytes (now (line .entry)))
         ⌝ }
 {
     let n = line.len();
     if n == 0 {
-        return Check::Refused(Refusal::Colon);
+        return Check::Refused(Refusal::Colon, COLON);
     }
     if line[0] != b':' {
-        return Check::Refused(Refusal::Colon);
+        return Check::Refused(Refusal::Colon, COLON);
     }
     if n < SHORTEST {
-        return Check::Refused(Refusal::Length);
+        return Check::Refused(Refusal::Length, n);
     }
     if LONGEST < n {
-        return Check::Refused(Refusal::Length);
+        return Check::Refused(Refusal::Length, n);
     }
     if n % 2 == 0 {
-        return Check::Refused(Refusal::Length);
+        return Check::Refused(Refusal::Length, n);
     }
-    if !decode(line, bytes) {
-        return Check::Refused(Refusal::Digit);
+    let bad = decode(line, bytes);
+    if bad < n {
+        return Check::Refused(Refusal::Digit, bad);
     }
     Check::Passed
 }
 
-// 25 and 26, of the bytes of a record of `n` characters.
-pub fn framing(n: usize, bytes: &[u8]) -> Check
+// 25 and 26, of a line and its bytes.
+pub fn framing(line: &[u8], bytes: &[u8]) -> Check
     requires { ⌜ 1 ≤ length (now bytes) ⌝ }
-    ensures { λ r. ⌜ paperCheck r ≡ framingOf n (now (bytes .entry)) ⌝ }
+    ensures { λ r. ⌜
+        (let l = now (line .entry) in
+        paperCheck r ≡ pointed l (framingOf (length l) (now (bytes .entry))))
+        ⌝ }
 {
+    let n = line.len();
     let count = wide(bytes[0]);
     if n != SHORTEST + 2 * count {
-        return Check::Refused(Refusal::Count);
+        return Check::Refused(Refusal::Count, n);
     }
     if sum(bytes) != 0 {
-        return Check::Refused(Refusal::Checksum);
+        return Check::Refused(Refusal::Checksum, n - 2);
     }
     Check::Passed
 }
 
-// 27 and 28.
+// 27 and 28, of the bytes of whatever line.
 pub fn shape(bytes: &[u8]) -> Check
     requires { ⌜ 4 ≤ length (now bytes) ⌝ }
-    ensures { λ r. ⌜ paperCheck r ≡ shapeOf (now (bytes .entry)) ⌝ }
+    ensures { λ r. ⌜
+        (let b = now (bytes .entry) in
+        (line : List ℕ) → b ≡ decoded (drop 1 line) → paperCheck r ≡ pointed line (shapeOf b))
+        ⌝ }
 {
     let count = bytes[0];
     let address = pair_at(bytes, 1);
     let kind = bytes[3];
     if 5 < kind {
-        return Check::Refused(Refusal::Kind);
+        return Check::Refused(Refusal::Kind, KIND);
     }
     if kind == 0 {
         return Check::Passed;
     }
     if count != count_for(kind) {
-        return Check::Refused(Refusal::Shape);
+        return Check::Refused(Refusal::Shape, COUNT);
     }
     if address != 0 {
-        return Check::Refused(Refusal::Shape);
+        return Check::Refused(Refusal::Shape, ADDRESS);
     }
     Check::Passed
 }

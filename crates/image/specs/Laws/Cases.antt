@@ -8,7 +8,7 @@ use lib.ListN.{getD, replicate}
 use Rattle.basis.specs.Choice.{both, all, any}
 use Rattle.basis.specs.Refusals.{Answer, refused, given, first}
 use Rattle.basis.specs.Sums.{plainSum, sumOf}
-use Rattle.image.specs.Digits.{digitOf, allDigits, decoded}
+use Rattle.image.specs.Digits.{digitOf, digitsBefore, decoded}
 use Rattle.basis.specs.Lists.{stored}
 use Rattle.image.specs.Hex.{File, fresh, recordIn}
 use Rattle.image.specs.Writer.{letterOf, spelt}
@@ -66,5 +66,5 @@ cases =
     ∷ []
 
 pub record-cases : all cases ≡ true
-unfolding first recordIn digitOf allDigits decoded stored any nameAllOf named nameOf plainSum sumOf letterOf spelt
+unfolding first recordIn digitOf digitsBefore decoded stored any nameAllOf named nameOf plainSum sumOf letterOf spelt
 record-cases = refl

@@ -8,7 +8,9 @@ use Rattle.basis.specs.Laws.Refusals.{apart, given-one, refused-one, back-one, 
 use Rattle.basis.specs.Lists.{overlay}
 use Rattle.basis.specs.Refusals.{Answer}
 use Rattle.image.specs.Hex.{Settled, settledAs}
+use Rattle.image.specs.Laws.Pointed.{pointed-apart, right-one, wrong-one}
 use Rattle.image.specs.Paper.{paperRefusal, paperCheck, paperRead, paperWritten}
+use Rattle.image.specs.Record.{Pointed}
 use Rattle.image.specs.Writer.{Step, measured, textBytes}
 use Rattle.image.specs.declared.hex.Hex.{Hex}
 use Rattle.image.specs.declared.hex.Read.{Read}
@@ -60,19 +62,21 @@ refusal-one = back-one paperRefusal refusalBy refusal-back
 -- a check of a record
 check-one : (r s : Check) → paperCheck r ≡ paperCheck s → r ≡ s
 check-one check.Passed check.Passed e = refl
-check-one check.Passed (check.Refused y) e = absurd (apart (sym e))
-check-one (check.Refused x) check.Passed e = absurd (apart e)
-check-one (check.Refused x) (check.Refused y) e = ap check.Refused (refusal-one x y (refused-one e))
+check-one check.Passed (check.Refused y d) e = absurd (pointed-apart (sym e))
+check-one (check.Refused x c) check.Passed e = absurd (pointed-apart e)
+check-one (check.Refused x c) (check.Refused y d) e =
+    let w = wrong-one e in λ i. check.Refused (refusal-one x y (w .0) i) (w .1 i)
 
-pub check-determined : {a : Answer Unit} (r s : Check) → paperCheck r ≡ a → paperCheck s ≡ a → r ≡ s
+pub check-determined : {a : Pointed Unit} (r s : Check) → paperCheck r ≡ a → paperCheck s ≡ a → r ≡ s
 check-determined = determined paperCheck check-one
 
 -- reading
 read-one : (r s : Read) → paperRead r ≡ paperRead s → r ≡ s
-read-one (Taken h) (Taken g) e = ap Taken (given-one e)
-read-one (Taken h) (Refused y) e = absurd (apart (sym e))
-read-one (Refused x) (Taken g) e = absurd (apart e)
-read-one (Refused x) (Refused y) e = ap Refused (refusal-one x y (refused-one e))
+read-one (Taken h) (Taken g) e = ap Taken (right-one e)
+read-one (Taken h) (Refused y d) e = absurd (pointed-apart (sym e))
+read-one (Refused x c) (Taken g) e = absurd (pointed-apart e)
+read-one (Refused x c) (Refused y d) e =
+    let w = wrong-one e in λ i. Refused (refusal-one x y (w .0) i) (w .1 i)
 
 -- of start and of a record, with image and map as they leave them
 pub record-determined : {o : Settled} (r s : Read) (i j m n : List ℕ)
@@ -86,7 +90,7 @@ record-determined r s i j m n p q =
       ap (λ (x : Settled). x .map) e,
     )
 
-pub close-determined : {a : Answer Hex} (r s : Read) → paperRead r ≡ a → paperRead s ≡ a → r ≡ s
+pub close-determined : {a : Pointed Hex} (r s : Read) → paperRead r ≡ a → paperRead s ≡ a → r ≡ s
 close-determined = determined paperRead read-one
 
 -- writing

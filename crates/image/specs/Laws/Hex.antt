@@ -15,7 +15,7 @@ use Rattle.basis.specs.Laws.Refusals.{given-one, passed, through, first-then}
 use Rattle.basis.specs.Lists.{Bytes, copyOf}
 use Rattle.basis.specs.Laws.Lists.{copy-overlay}
 use Rattle.basis.specs.Sums.{plainSum, sumOf}
-use Rattle.image.specs.Digits.{digitOf, allDigits, decoded}
+use Rattle.image.specs.Digits.{digitOf, digitsBefore, firstBad, decoded}
 use Rattle.image.specs.Writer.{letterOf, spelt, line}
 use Rattle.image.specs.Laws.Writer.{length-spelt, spelt-digits, spelt-bytes}
 use Rattle.basis.specs.Laws.Choice.{decide, pick-second, both-true, both-no, either-none}
@@ -72,14 +72,30 @@ characters-length line e =
     one : (x : ℕ) → (x ≡ 0 → ⊥) → x < 2 → x ≡ 1
     one x z l = omega arith
 
--- digits only: each two are a byte
-decoded-length : (s : List ℕ) → allDigits s ≡ true → length (decoded s) ≡ length s / 2
-unfolding allDigits decoded
+-- digits only: the first is one, and so are the others
+digits-most : (s : List ℕ) → digitsBefore s ≤ length s
+unfolding digitsBefore
+digits-most [] = omega arith
+digits-most (c ∷ s) =
+    decide (ltb (digitOf c) 16) (λ t. rw t (omega (arith, digits-most s))) (λ t. rw t (omega arith))
+
+digits-only : (c : ℕ) (s : List ℕ)
+    → digitsBefore (c ∷ s) ≡ length (c ∷ s)
+    → (ltb (digitOf c) 16 ≡ true) × (digitsBefore s ≡ length s)
+unfolding digitsBefore
+digits-only c s e =
+    decide (ltb (digitOf c) 16)
+    (λ t. let f : 1 + digitsBefore s ≡ length (c ∷ s) = rw t at e in (t, omega arith))
+    (λ t. let f : 0 ≡ length (c ∷ s) = rw t at e in absurd (omega arith))
+
+-- and each two are a byte
+decoded-length : (s : List ℕ) → digitsBefore s ≡ length s → length (decoded s) ≡ length s / 2
+unfolding decoded
 decoded-length [] e = refl
 decoded-length (c ∷ []) e = refl
 decoded-length (c ∷ d ∷ s) e =
-    let p = both-true (ltb (digitOf c) 16) (both (ltb (digitOf d) 16) (allDigits s)) e in
-    let q = both-true (ltb (digitOf d) 16) (allDigits s) (p .1) in
+    let p = digits-only c (d ∷ s) e in
+    let q = digits-only d s (p .1) in
     rw (p .0, q .0) (omega (arith, decoded-length s (q .1)))
 
 -- where the characters pass, the record's bytes stand at the front
@@ -89,7 +105,9 @@ unfolding charactersOf
 characters-bytes line old e room =
     let p = passed 22 (noColon line) _ _ e in
     let q = passed 23 (lengthWrong line) _ _ (p .1) in
-    let d = not-false (allDigits (drop 1 line)) (passed 24 (notDigits line) _ _ (q .1) .0) in
+    let most = ltb-false (firstBad line) (length line) (passed 24 (notDigits line) _ _ (q .1) .0) in
+    let d : digitsBefore (drop 1 line) ≡ length (drop 1 line) =
+    omega (arith, digits-most (drop 1 line), length-drop 1 line, most) in
     let b = decoded (drop 1 line) in
     let n : length b ≡ length line / 2 =
     omega (arith, decoded-length (drop 1 line) d, length-drop 1 line, characters-length line e .odd) in
@@ -132,12 +150,20 @@ module _ (size : ℕ) (h : Hex) (image map : List ℕ) where
 characters-right : (line : List ℕ)
     → getD line 0 0 ≡ 0x3A
     → Long (length line)
-    → allDigits (drop 1 line) ≡ true
+    → digitsBefore (drop 1 line) ≡ length (drop 1 line)
     → charactersOf line ≡ given tt
 unfolding first charactersOf
 characters-right line c l d =
     let some : length line ≡ 0 → ⊥ = λ e. omega (arith, l .least) in
-    simp (ne-eqb _ _ some, eq-eqb _ _ c, le-ltb _ _ (l .least), le-ltb _ _ (l .most), l .odd, d)
+    let all : length line ≤ firstBad line = omega (arith, d, length-drop 1 line) in
+    simp (
+      ne-eqb _ _ some,
+      eq-eqb _ _ c,
+      le-ltb _ _ (l .least),
+      le-ltb _ _ (l .most),
+      l .odd,
+      le-ltb _ _ all,
+    )
 
 module _ (b : List ℕ) (bytes : Bytes b) (long : length b ≡ 5 + count b) where
   abbrev spelling : List ℕ
@@ -172,7 +198,7 @@ end-read : (size : ℕ) (h : Hex) (image map : List ℕ)
     → andThen (charactersOf (line 0 1 []))
     (applyIn size h (length (line 0 1 [])) (decoded (drop 1 (line 0 1 []))) image map)
     ≡ given (file (hex (h .linear) (h .segment) true (h .taken)) image map)
-unfolding first charactersOf applyIn digitOf allDigits decoded sumOf plainSum letterOf spelt
+unfolding first charactersOf applyIn digitOf digitsBefore decoded sumOf plainSum letterOf spelt
 end-read size h image map = refl
 
 module _ (size : ℕ) (h : Hex) (image map : List ℕ)

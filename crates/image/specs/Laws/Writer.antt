@@ -1,14 +1,13 @@
 -- Laws of the writer's characters.
 use Prim.Native.Nat.{ℕ, suc, _+_, _*_, _/_, _%_, _<_}
 use mathlib.Core.Path.{_≡_, refl}
-use mathlib.Core.Bool.{true}
 use mathlib.Core.List.{List, [], _∷_, _++_}
 use native.Mathlib.Omega.{arith}
 use lib.ListN.{length}
 use borrow.Author.Tests.{lt-ltb}
 use Rattle.basis.specs.Lists.{Bytes}
 use Rattle.basis.specs.Laws.Computed.{agree}
-use Rattle.image.specs.Digits.{digitOf, allDigits, decoded}
+use Rattle.image.specs.Digits.{digitOf, digitsBefore, decoded}
 use Rattle.image.specs.Writer.{letterOf, spelt}
 
 pub length-spelt : (s : List ℕ) → length (spelt s) ≡ 2 * length s
@@ -37,8 +36,8 @@ module _ (x : ℕ) (h : x < 256) where
   digit-low = digit-letter (x % 16) (omega arith)
 
 -- what is spelt is all digits, and reads back
-pub spelt-digits : (s : List ℕ) → Bytes s → allDigits (spelt s) ≡ true
-unfolding spelt allDigits
+pub spelt-digits : (s : List ℕ) → Bytes s → digitsBefore (spelt s) ≡ length (spelt s)
+unfolding spelt digitsBefore
 spelt-digits [] h = refl
 spelt-digits (x ∷ s) h =
     rw (
@@ -47,7 +46,7 @@ spelt-digits (x ∷ s) h =
       digit-low x (h 0),
       lt-ltb (x % 16) 16 (omega arith),
     )
-    (spelt-digits s (λ k. h (suc k)))
+    (omega (arith, spelt-digits s (λ k. h (suc k))))
 
 pub spelt-bytes : (s : List ℕ) → Bytes s → decoded (spelt s) ≡ s
 unfolding spelt decoded

@@ -2,15 +2,16 @@
 use borrow.Author.Tests.{not-true, not-false}
 use Rattle.basis.specs.Refusals.{first}
 use Rattle.image.specs.Hex.{closeOf}
+use Rattle.image.specs.Record.{columnOf}
 use Rattle.image.proofs.hex.Hex.close.Statement.{statement}
 use Rattle.image.proofs.hex.Hex.close.Tie as tie
 
 returns : tie.Need-returns
-unfolding first closeOf
+unfolding first closeOf columnOf
 returns c = simp (not-true (c .before .before .args .self .ended) (c .if1 .taken))
 
 returns-2 : tie.Need-returns-2
-unfolding first closeOf
+unfolding first closeOf columnOf
 returns-2 c =
     simp (
       not-false (c .before .before .before .before .args .self .ended) (c .before .before .if1 .left),
@@ -18,7 +19,7 @@ returns-2 c =
     )
 
 returns-3 : tie.Need-returns-3
-unfolding first closeOf
+unfolding first closeOf columnOf
 returns-3 c =
     simp (
       not-false (c .before .before .before .before .args .self .ended) (c .before .before .if1 .left),

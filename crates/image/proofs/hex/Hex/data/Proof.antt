@@ -6,8 +6,8 @@ use mathlib.Core.List.{List}
 use lib.ListN.{length, take, drop, length-drop}
 use lib.Seq.{length-take-le}
 use borrow.Author.Tests.{lt-ltb, le-ltb, not-true, not-false}
-use Rattle.basis.specs.Refusals.{refused, given, first}
-use Rattle.image.specs.Record.{count, payload}
+use Rattle.basis.specs.Refusals.{first}
+use Rattle.image.specs.Record.{count, payload, columnOf, wrong, right}
 use Rattle.basis.specs.Lists.{stored}
 use Rattle.runs.specs.Map.{anyNamed, nameAllOf}
 use Rattle.basis.specs.Choice.{any}
@@ -20,30 +20,30 @@ use Rattle.image.proofs.hex.Hex.data.Statement.{statement}
 use Rattle.image.proofs.hex.Hex.data.Tie as tie
 
 -- the ways out, each by the table
-module _ (size : ℕ) (h : Hex) (b image map : List ℕ) where
+module _ (size : ℕ) (h : Hex) (b image map line : List ℕ) where
   abbrev told : Settled
-  told = settled (dataIn size h b image map) image map
+  told = settled line (dataIn size h b image map) image map
 
-  data-none : count b ≡ 0 → settledAs (given h) image map ≡ told
+  data-none : count b ≡ 0 → settledAs (right h) image map ≡ told
   unfolding first dataIn any nameAllOf stored
   data-none e = rw e
 
   module _ (some : 0 < count b) where
-    data-high : size < place h b + count b → settledAs (refused 29) image map ≡ told
-    unfolding first dataIn
+    data-high : size < place h b + count b → settledAs (wrong 29 0) image map ≡ told
+    unfolding first dataIn columnOf
     data-high e = simp (lt-ltb _ _ some, lt-ltb _ _ e)
 
     -- the payload is put at its place, or not
     module _ (fits : place h b + count b ≤ size) (i m : List ℕ) where
       data-twice : Puts image map (place h b) (payload b) false i m → length (payload b) ≡ count b
-          → settledAs (refused 30) i m ≡ told
-      unfolding first dataIn
+          → settledAs (wrong 30 0) i m ≡ told
+      unfolding first dataIn columnOf
       data-twice p l =
           let e : anyNamed map (place h b) (count b) ≡ true = rw (← l) (not-false _ (sym (p .0))) in
           rw (lt-ltb _ _ some, le-ltb _ _ fits, e, p .1, p .2, l, e)
 
       data-given : Puts image map (place h b) (payload b) true i m → length (payload b) ≡ count b
-          → settledAs (given (hex (h .linear) (h .segment) (h .ended) true)) i m ≡ told
+          → settledAs (right (hex (h .linear) (h .segment) (h .ended) true)) i m ≡ told
       unfolding first dataIn
       data-given p l =
           let e : anyNamed map (place h b) (count b) ≡ false = rw (← l) (not-true _ (sym (p .0))) in
@@ -93,26 +93,26 @@ putting c t e =
     (omega (arith, at .before .wide .ensures .0)) e (c .put .ensures)
 
 returns : tie.Need-returns
-returns c = data-none flashSize _ _ _ _ (sym (c .before .wide .ensures .0) ∙ c .if1 .taken)
+returns c line = data-none flashSize _ _ _ _ line (sym (c .before .wide .ensures .0) ∙ c .if1 .taken)
 
 returns-2 : tie.Need-returns-2
-returns-2 c =
+returns-2 c line =
     let at = count-at (c .before) in
-    data-high flashSize _ (bytes-at at) _ _ (some at)
+    data-high flashSize _ (bytes-at at) _ _ line (some at)
     (omega (arith, at .before .wide .ensures .0, c .before .pair-at .ensures, c .if2 .taken))
 
 returns-3 : tie.Need-returns-3
-returns-3 c =
+returns-3 c line =
     let put-at = c .before .before .before .before .before in
     let at = count-at (end-at put-at .before) in
-    data-twice flashSize _ (bytes-at at) _ _ (some at) (fits (end-at put-at)) _ _
+    data-twice flashSize _ (bytes-at at) _ _ line (some at) (fits (end-at put-at)) _ _
     (putting put-at false (not-true _ (c .if3 .taken))) (payload-long (bytes-at at) (entry at .pre .0))
 
 returns-4 : tie.Need-returns-4
-returns-4 c =
+returns-4 c line =
     let put-at = c .before .before .before .before .before in
     let at = count-at (end-at put-at .before) in
-    data-given flashSize _ (bytes-at at) _ _ (some at) (fits (end-at put-at)) _ _
+    data-given flashSize _ (bytes-at at) _ _ line (some at) (fits (end-at put-at)) _ _
     (putting put-at true (not-false _ (c .if3 .left))) (payload-long (bytes-at at) (entry at .pre .0))
 
 pub data-spec : {M : Type 1} → statement M

@@ -10,8 +10,9 @@ use Rattle.basis.specs.Lists.{copyOf}
 use Rattle.basis.specs.Laws.Lists.{copy-all}
 use Rattle.basis.specs.Laws.Units.{sizes-right}
 use Rattle.basis.specs.Units.{rightSizesIn}
-use Rattle.basis.specs.Refusals.{refused, given, first}
+use Rattle.basis.specs.Refusals.{first}
 use Rattle.image.specs.Hex.{settledAs, settled, fresh, startIn}
+use Rattle.image.specs.Record.{columnOf, wrong, right, noLine}
 use borrow.Author.Needs.{needs}
 use Rattle.basis.specs.Board.{flashSize, mapSize}
 use Rattle.image.proofs.hex.Hex.start.Statement.{statement}
@@ -19,14 +20,14 @@ use Rattle.image.proofs.hex.Hex.start.Tie as tie
 
 module _ (size : ℕ) (image map : List ℕ) where
   start-size : rightSizesIn size (length image) (length map) ≡ false
-      → settledAs (refused 20) image map ≡ settled (startIn size image map) image map
-  unfolding first startIn
+      → settledAs (wrong 20 0) image map ≡ settled noLine (startIn size image map) image map
+  unfolding first startIn columnOf
   start-size e = simp e
 
   start-given : (i m : List ℕ) → rightSizesIn size (length image) (length map) ≡ true
       → i ≡ copyOf image 0 (replicate size 0xFF) → m ≡ copyOf map 0 (replicate (size / 8) 0)
-      → settledAs (given fresh) i m ≡ settled (startIn size image map) image map
-  unfolding first startIn
+      → settledAs (right fresh) i m ≡ settled noLine (startIn size image map) image map
+  unfolding first startIn columnOf
   start-given i m e ei em =
       let s = sizes-right size (length image) (length map) e in
       simp (
@@ -43,9 +44,9 @@ sized : (c : tie.Else1) → let a = entry c .args in
     rightSizesIn flashSize (length (a .image .now)) (length (a .map .now)) ≡ true
 sized c = sym (c .before .right-sizes .ensures) ∙ not-false _ (c .if1 .left)
 
-right : (c : tie.Else1) → let a = entry c .args in
+fits : (c : tie.Else1) → let a = entry c .args in
     (length (a .image .now) ≡ flashSize) × (length (a .map .now) ≡ mapSize)
-right c = sizes-right flashSize _ _ (sized c)
+fits c = sizes-right flashSize _ _ (sized c)
 
 -- where the test was passed, seen from the first filling
 abbrev tested : tie.After-fill → tie.Else1
@@ -55,10 +56,10 @@ returns : tie.Need-returns
 returns c = start-size flashSize _ _ (sym (c .before .right-sizes .ensures) ∙ not-true _ (c .if1 .taken))
 
 fill-requires : tie.Need-fill-requires
-fill-requires c κs = omega (arith, right (c .before) .0)
+fill-requires c κs = omega (arith, fits (c .before) .0)
 
 fill-requires-2 : tie.Need-fill-requires-2
-fill-requires-2 c κs = omega (arith, right (tested (c .before .before .before)) .1)
+fill-requires-2 c κs = omega (arith, fits (tested (c .before .before .before)) .1)
 
 returns-2 : tie.Need-returns-2
 returns-2 c =

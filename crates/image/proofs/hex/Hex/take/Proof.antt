@@ -5,12 +5,13 @@ use mathlib.Core.Bool.{false}
 use mathlib.Core.List.{List}
 use lib.ListN.{length, take, drop}
 use Rattle.basis.specs.Laws.Units.{right-sizes}
-use Rattle.basis.specs.Refusals.{refused, given}
+use Rattle.basis.specs.Refusals.{given}
 use Rattle.image.specs.Digits.{decoded}
-use Rattle.image.specs.Record.{charactersOf}
+use Rattle.image.specs.Record.{charactersOf, wrong, pointed}
 use Rattle.image.specs.Hex.{settledAs, settled, recordIn, applyIn}
 use Rattle.image.specs.declared.hex.Hex.{Hex}
 use Rattle.image.specs.Laws.Hex.{record-cut, characters-length, characters-bytes}
+use Rattle.image.specs.Laws.Pointed.{pointed-given, pointed-stays}
 use lib.Seq.{length-take-le}
 use native.Mathlib.Omega.{arith}
 use denote.Ref.{now}
@@ -23,9 +24,11 @@ use Rattle.image.proofs.hex.Hex.take.Tie as tie
 -- the ways out, each by the table
 module _ (size : ℕ) (h : Hex) (line image map : List ℕ) (p : length image ≡ size) (q : length map ≡ size / 8)
     (going : h .ended ≡ false) where
-  take-refused : (k : ℕ) → charactersOf line ≡ refused k
-      → settledAs (refused k) image map ≡ settled (recordIn size h line image map) image map
-  take-refused k e = rw (record-cut size h image map line (right-sizes size _ _ p q) going, e)
+  take-refused : (k c : ℕ) → wrong k c ≡ pointed line (charactersOf line)
+      → settledAs (wrong k c) image map ≡ settled line (recordIn size h line image map) image map
+  take-refused k c e =
+      rw (record-cut size h image map line (right-sizes size _ _ p q) going)
+      (pointed-stays line (charactersOf line) _ k c image map e)
 
   take-applied : (b : List ℕ) → charactersOf line ≡ given tt → b ≡ decoded (drop 1 line)
       → applyIn size h (length line) b image map ≡ recordIn size h line image map
@@ -45,7 +48,9 @@ abbrev line-at : tie.After-enum-told → List ℕ
 line-at c = entry (checked-at c) .args .line .now
 
 passed : (c : tie.After-enum-told) → charactersOf (line-at c) ≡ given tt
-passed c = sym (checked-at c .characters .ensures .0) ∙ ap paperCheck (c .enum-told .given .1)
+passed c =
+    pointed-given (line-at c) _
+    (sym (ap paperCheck (c .enum-told .given .1)) ∙ checked-at c .characters .ensures .0)
 
 fits : (c : tie.After-enum-told) → length (line-at c) / 2 ≤ length (checked-at c .characters .last .1 .0)
 fits c =
@@ -57,19 +62,33 @@ bytes-long : (c : tie.After-enum-told)
     → length (take (length (line-at c) / 2) (checked-at c .characters .last .1 .0)) ≡ length (line-at c) / 2
 bytes-long c = length-take-le _ _ (fits c)
 
+-- what is handed on are the line's bytes
+spelt : (c : tie.After-enum-told)
+    → take (length (line-at c) / 2) (checked-at c .characters .last .1 .0) ≡ decoded (drop 1 (line-at c))
+spelt c =
+    let start = entry (checked-at c) in
+    ap (take (length (line-at c) / 2)) (checked-at c .characters .ensures .1)
+    ∙ characters-bytes (line-at c) (start .args .bytes .now) (passed c)
+    (omega (arith, characters-length (line-at c) (passed c) .most, start .pre .0))
+
 returns : tie.Need-returns
 returns c =
     let checked = c .before .before .before .before .before in
     let pre = entry checked .pre in
-    take-refused flashSize _ _ _ _ (pre .1) (pre .2) (pre .3) _
-    (sym (checked .characters .ensures .0) ∙ ap paperCheck (c .before .checked .given .1))
+    take-refused flashSize _ (entry checked .args .line .now) _ _ (pre .1) (pre .2) (pre .3) _ _
+    (sym (ap paperCheck (c .before .checked .given .1)) ∙ checked .characters .ensures .0)
 
 apply-requires : tie.Need-apply-requires
 apply-requires c κs =
     let told = c .before .before .before in
     let pre = entry (checked-at told) .pre in
-    let long = characters-length (line-at told) (passed told) in
-    (omega (arith, bytes-long told, long .odd), omega (arith, bytes-long told, long .least), pre .1, pre .2)
+    let long = characters-length (line-at told) (passed told) in (
+      spelt told,
+      omega (arith, bytes-long told, long .odd),
+      omega (arith, bytes-long told, long .least),
+      pre .1,
+      pre .2,
+    )
 
 returns-2 : tie.Need-returns-2
 returns-2 c =
@@ -77,13 +96,9 @@ returns-2 c =
     let told = applied .before .before .before .before in
     let start = entry (checked-at told) in
     let pre = start .pre in
-    let characters = checked-at told .characters in
     applied .apply .ensures
-    ∙ ap (λ x. settled x (now (start .args .image)) (now (start .args .map)))
-    (take-applied flashSize _ _ _ _ (pre .1) (pre .2) (pre .3) _ (passed told)
-    (ap (take (length (line-at told) / 2)) (characters .ensures .1)
-    ∙ characters-bytes (line-at told) (start .args .bytes .now) (passed told)
-    (omega (arith, characters-length (line-at told) (passed told) .most, pre .0))))
+    ∙ ap (λ x. settled (line-at told) x (now (start .args .image)) (now (start .args .map)))
+    (take-applied flashSize _ _ _ _ (pre .1) (pre .2) (pre .3) _ (passed told) (spelt told))
 
 pub take-spec : {M : Type 1} → statement M
 take-spec =
