@@ -3,6 +3,7 @@
 use Prim.Native.Nat.{ℕ}
 use mathlib.Core.Bool.{Bool}
 use Rattle.basis.specs.Refusals.{Answer, refused, given}
+use Rattle.image.specs.Record.{Pointed, wrong, right}
 use Rattle.image.specs.Writer.{Measured}
 use Rattle.image.specs.declared.hex.Hex.{Hex}
 use Rattle.line.specs.declared.rehearse.Load.{Load}
@@ -44,9 +45,10 @@ takenAnswer s (given u) next k = record { number = 0; answered = k; loader = loa
 abbrev pub noReader : HexState
 noReader = record { linear = 0; segment = 0; ended = 0; taken = 0 }
 
-abbrev pub hexAnswer : HexState → Answer Hex → HexRead
-hexAnswer s (refused n) = record { number = n; reader = s }
-hexAnswer s (given h) = record { number = 0; reader = hexShown h }
+-- a refusal has a column, 0 where there is none
+abbrev pub hexAnswer : HexState → Pointed Hex → HexRead
+hexAnswer s (wrong n c) = record { number = n; column = c; reader = s }
+hexAnswer s (right h) = record { number = 0; column = 0; reader = hexShown h }
 
 -- the address to go on from; a refusal hands it back
 abbrev pub writtenAnswer : ℕ → Answer Measured → HexWritten

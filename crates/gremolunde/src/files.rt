@@ -7,6 +7,7 @@ ghost use Rattle.gremolunde.specs.Answers.{noReader, hexAnswer, writtenA
 ghost use Rattle.gremolunde.specs.States.{hexMeant};
 ghost use Rattle.image.specs.Paper.{paperRead, paperWritten};
 ghost use Rattle.image.specs.Hex.{settled, startIn, recordIn, closeOf};
+ghost use Rattle.image.specs.Record.{pointed, noLine};
 ghost use Rattle.image.specs.Writer.{measured, textBytes, writeIn};
 use crate::states::HexState;
 use crate::states::hex_meant;
@@ -17,10 +18,11 @@ use image::hex::Read;
 use image::writer::Written;
 use image::writer::write;
 
-// The next state of the reader; a refusal hands it back as it came.
+// The next state of the reader; a refusal has its column, 0 where there is none, and hands the state back as it came.
 #[repr(C)]
 pub struct HexRead {
     pub number: u32,
+    pub column: usize,
     pub reader: HexState,
 }
 
@@ -35,8 +37,8 @@ pub struct HexWritten {
 #[no_mangle]
 pub extern "C" fn gremolunde_hex_start(image: &mut [u8], map: &mut [u8]) -> HexRead
     ensures { λ r. ⌜
-        (let o = settled (startIn flashSize (now (image .entry)) (now (map .entry))) (now (image .entry))
-        (now (map .entry)) in
+        (let o = settled noLine (startIn flashSize (now (image .entry)) (now (map .entry)))
+        (now (image .entry)) (now (map .entry)) in
         (r ≡ hexAnswer noReader (o .answer)) × (now (image .exit) ≡ o .image) × (now (map .exit) ≡ o .map))
         ⌝ }
 {
@@ -63,7 +65,7 @@ pub extern "C" fn gremolunde_hex_record(
     map: &mut [u8],
 ) -> HexRead
     ensures { λ r. ⌜
-        (let o = settled
+        (let o = settled (now (line .entry))
         (recordIn flashSize (hexMeant reader) (now (line .entry)) (now (image .entry)) (now (map .entry)))
         (now (image .entry)) (now (map .entry)) in
         (r ≡ hexAnswer reader (o .answer)) × (now (image .exit) ≡ o .image) × (now (map .exit) ≡ o .map))
@@ -75,7 +77,7 @@ pub extern "C" fn gremolunde_hex_record(
 
 #[no_mangle]
 pub extern "C" fn gremolunde_hex_close(reader: HexState) -> HexRead
-    ensures { λ r. ⌜ r ≡ hexAnswer reader (closeOf (hexMeant reader)) ⌝ }
+    ensures { λ r. ⌜ r ≡ hexAnswer reader (pointed noLine (closeOf (hexMeant reader))) ⌝ }
 {
     let meant = hex_meant(reader);
     hex_answer(reader, meant.close())
@@ -87,10 +89,12 @@ fn hex_answer(reader: HexState, answer: Read) -> HexRead
     match answer {
         Read::Taken(next) => HexRead {
             number: 0,
+            column: 0,
             reader: hex_shown(next),
         },
-        Read::Refused(why) => HexRead {
+        Read::Refused(why, column) => HexRead {
             number: why.number(),
+            column,
             reader,
         },
     }

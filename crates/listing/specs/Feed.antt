@@ -5,10 +5,10 @@ use mathlib.Core.Path.{_≡_}
 use lib.Dec.{eqb, ltb}
 use lib.ListN.{length, set, take}
 use Rattle.basis.specs.Choice.{pick}
-use Rattle.basis.specs.Refusals.{Answer}
-use Rattle.image.specs.Hex.{Settled, settled, recordIn, closeOf}
+use Rattle.image.specs.Hex.{Settled, settledAs, settled, recordIn, closeOf}
+use Rattle.image.specs.Record.{Pointed, wrong, right, pointed, noLine}
 use Rattle.image.specs.declared.hex.Hex.{Hex}
-use Rattle.listing.specs.Text.{Lined, stopped, going, atLine, Verdict, Result, result, trimmedOf}
+use Rattle.listing.specs.Text.{Lined, stopped, going, atLine, Verdict, Result, result}
 use Rattle.listing.specs.declared.text.Text.{Text}
 
 -- of a text so far: refused, or open
@@ -26,10 +26,10 @@ state p line image map = record { progress = p; line = line; image = image; map 
 
 -- n lines are taken, and none is open
 abbrev pub textAt : ℕ → Hex → Text
-textAt n h = record { hex = h; lines = n; len = 0 }
+textAt n h = record { hex = h; lines = n; len = 0; last = 0 }
 
 -- after line n, by what the hex reader answered to it; after line 0, by its start
-abbrev pub afterLine : ℕ → Answer Hex → Progress
+abbrev pub afterLine : ℕ → Pointed Hex → Progress
 afterLine n = atLine n (textAt n)
 
 abbrev pub fedAfter : ℕ → Settled → List ℕ → Fed
@@ -39,23 +39,44 @@ fedAfter n o line = state (afterLine n (o .answer)) line (o .image) (o .map)
 abbrev pub nextLine : Text → ℕ
 nextLine t = (t .lines + 1) % 2 ^ 64
 
--- the line l as the next record
-abbrev pub fedLine : ℕ → Text → List ℕ → List ℕ → List ℕ → List ℕ → Fed
-fedLine size t l line image map =
-    fedAfter (nextLine t) (settled (recordIn size (t .hex) l image map) image map) line
+-- of a line of n bytes: the reader sees no more of it than is kept, but 23 has the column n
+abbrev pub columnIn : ℕ → ℕ → ℕ → ℕ
+columnIn n k c = pick (eqb k 23) n c
 
--- one byte of the open line more is kept where the line buffer has room
-unfoldable pub keepOneOf : ℕ → List ℕ → ℕ
-keepOneOf n line = pick (ltb n (length line)) (n + 1) n
+abbrev pub wholly : ℕ → Pointed Hex → Pointed Hex
+wholly n (wrong k c) = wrong k (columnIn n k c)
+wholly n (right h) = right h
 
-abbrev pub withKept : Text → ℕ → Text
-withKept t n = record { hex = t .hex; lines = t .lines; len = n }
+abbrev pub settledWholly : ℕ → Settled → Settled
+settledWholly n o = settledAs (wholly n (o .answer)) (o .image) (o .map)
 
--- 0A ends the line; any other byte is kept
+-- a line of n bytes, as many of them as the buffer holds, as the next record
+abbrev pub recordKept : ℕ → Hex → ℕ → List ℕ → List ℕ → List ℕ → Settled
+recordKept size h n line image map =
+    let l = take n line in
+    settledWholly n (settled l (recordIn size h l image map) image map)
+
+abbrev pub fedLine : ℕ → Text → ℕ → List ℕ → List ℕ → List ℕ → Fed
+fedLine size t n line image map =
+    fedAfter (nextLine t) (recordKept size (t .hex) n line image map) line
+
+-- the open line is one byte longer, as far as 64 bits count
+unfoldable pub oneMore : ℕ → ℕ
+oneMore n = pick (ltb (n + 1) (2 ^ 64)) (n + 1) n
+
+-- with an open line of n bytes, b the last
+abbrev pub withOpen : Text → ℕ → ℕ → Text
+withOpen t n b = record { hex = t .hex; lines = t .lines; len = n; last = b }
+
+-- the open line's length without the one 0D before its 0A
+unfoldable pub endedLength : Text → ℕ
+endedLength t = pick (eqb (t .last) 0x0D) (t .len - 1) (t .len)
+
+-- 0A ends the line; any other byte is kept where the line buffer has room
 unfoldable pub fedByte : ℕ → Text → ℕ → List ℕ → List ℕ → List ℕ → Fed
 fedByte size t b line image map =
-    pick (eqb b 0x0A) (fedLine size t (trimmedOf (take (t .len) line)) line image map)
-    (state (going (withKept t (keepOneOf (t .len) line))) (set line (t .len) b) image map)
+    pick (eqb b 0x0A) (fedLine size t (endedLength t) line image map)
+    (state (going (withOpen t (oneMore (t .len)) b)) (set line (t .len) b) image map)
 
 abbrev pub progressByte : ℕ → Progress → ℕ → List ℕ → List ℕ → List ℕ → Fed
 progressByte size (stopped x) b line image map = state (stopped x) line image map
@@ -79,15 +100,15 @@ Keeps size p line bytes q kept n =
 unfoldable pub lastIn : ℕ → Text → List ℕ → List ℕ → List ℕ → Fed
 lastIn size t line image map =
     pick (eqb (t .len) 0) (state (going t) line image map)
-    (fedLine size t (take (t .len) line) line image map)
+    (fedLine size t (t .len) line image map)
 
 -- the reader is closed
-abbrev pub afterClosing : Text → Answer Hex → Progress
+abbrev pub afterClosing : Text → Pointed Hex → Progress
 afterClosing t = atLine 0 (λ h. t)
 
 unfoldable pub shutOf : Progress → Progress
 shutOf (stopped b) = stopped b
-shutOf (going t) = afterClosing t (closeOf (t .hex))
+shutOf (going t) = afterClosing t (pointed noLine (closeOf (t .hex)))
 
 abbrev pub fedClosing : Fed → Fed
 fedClosing s = state (shutOf (s .progress)) (s .line) (s .image) (s .map)

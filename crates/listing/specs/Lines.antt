@@ -20,13 +20,14 @@ field word n = word ++ decimalOf n
 abbrev pub refusedWord : List ℕ
 refusedWord = 0x52 ∷ 0x45 ∷ 0x46 ∷ 0x55 ∷ 0x53 ∷ 0x45 ∷ 0x44 ∷ 0x20 ∷ []
 
--- REFUSED, the line number and the number, with single spaces
+-- REFUSED, the line number, the number and the column, with single spaces
 unfoldable pub refusalAt : Blame → List ℕ
-refusalAt b = field refusedWord (b .line) ++ (field (0x20 ∷ []) (b .number) ++ lineEnd)
+refusalAt b =
+    field refusedWord (b .line) ++ (field (0x20 ∷ []) (b .number) ++ (field (0x20 ∷ []) (b .column) ++ lineEnd))
 
--- no line of a refusal is longer: 8 characters, 20 digits, a space, 20 digits and 0A
+-- no line of a refusal is longer: 8 characters, three numbers of 20 digits, two spaces and 0A
 abbrev pub refusalRoom : ℕ
-refusalRoom = 50
+refusalRoom = 71
 
 -- REFUSED and the number
 unfoldable pub refusalLine : ℕ → List ℕ

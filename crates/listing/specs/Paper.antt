@@ -9,9 +9,9 @@ use Rattle.listing.specs.declared.plan.Listing.{Listing}
 use Rattle.listing.specs.declared.text.Blame as Code
 use Rattle.listing.specs.declared.text.Reading.{Reading}
 
--- the refusal's number, and its line
+-- the refusal's number, its line and its column
 abbrev pub paperBlame : Code.Blame → Blame
-paperBlame b = record { line = b .line; number = paperRefusal (b .refusal) }
+paperBlame b = record { line = b .line; number = paperRefusal (b .refusal); column = b .column }
 
 -- a text so far
 abbrev pub paperReading : Reading → Progress

@@ -6,15 +6,15 @@ use lib.ListN.{length, getD, take}
 use Rattle.basis.specs.Choice.{pick}
 use Rattle.basis.specs.Refusals.{Answer, refused, given}
 use Rattle.image.specs.Hex.{File, startIn, recordIn, closeOf}
-use Rattle.image.specs.Record.{recordMost}
+use Rattle.image.specs.Record.{recordMost, columnOf, Pointed, wrong, right, pointed, noLine}
 
 -- one 0D before the 0A is dropped
 unfoldable pub trimmedOf : List ℕ → List ℕ
 trimmedOf l = pick (eqb (getD l (length l - 1) 0) 0x0D) (take (length l - 1) l) l
 
--- how much of a line is enough: the longest record, a 0D, and one more to tell a longer line
+-- how much of a line is enough: the longest record, and one more to tell a longer line
 abbrev pub lineRoom : ℕ
-lineRoom = recordMost + 2
+lineRoom = recordMost + 1
 
 -- the lines of a text that follows an open line: a line ends at 0A, and nothing after the last 0A is no line
 unfoldable pub linesFrom : List ℕ → List ℕ → List (List ℕ)
@@ -24,23 +24,25 @@ linesFrom l (b ∷ t) = pick (eqb b 0x0A) (trimmedOf l ∷ linesFrom [] t) (line
 abbrev pub textLines : List ℕ → List (List ℕ)
 textLines t = linesFrom [] t
 
--- the paper's number of a refusal and its line, counted from 1; 0 where no line is to blame, as at closing
+-- the paper's number of a refusal with its line, counted from 1, and its column, counted from 0;
+-- line 0 where no line is to blame, as at closing
 pub record Blame : Type 0 where
   pub line : ℕ
   pub number : ℕ
+  pub column : ℕ
 
 -- refused at a line, or going on
 pub data Lined (A : Type 0) : Type 0 where
   stopped : Blame → Lined A
   going : A → Lined A
 
-abbrev pub refusedAt : {A : Type 0} → ℕ → ℕ → Lined A
-refusedAt n k = stopped (record { line = n; number = k })
+abbrev pub refusedAt : {A : Type 0} → ℕ → ℕ → ℕ → Lined A
+refusedAt n k c = stopped (record { line = n; number = k; column = c })
 
 -- an answer, refused at line n or going on as g says
-abbrev pub atLine : {A B : Type 0} → ℕ → (A → B) → Answer A → Lined B
-atLine n g (refused k) = refusedAt n k
-atLine n g (given x) = going (g x)
+abbrev pub atLine : {A B : Type 0} → ℕ → (A → B) → Pointed A → Lined B
+atLine n g (wrong k c) = refusedAt n k c
+atLine n g (right x) = going (g x)
 
 -- of a whole text: refused, or a file
 abbrev pub Verdict : Type 0
@@ -55,18 +57,19 @@ pub record Result : Type 0 where
 abbrev pub result : Verdict → List ℕ → List ℕ → Result
 result v image map = record { verdict = v; image = image; map = map }
 
--- on with the file that a record gives, or refused at line n
-abbrev pub unlessRefused : ℕ → List ℕ → List ℕ → Answer File → (File → Result) → Result
-unlessRefused n image map (refused k) g = result (refusedAt n k) image map
-unlessRefused n image map (given f) g = g f
+-- on with the file that a record gives, or refused at line n, which is l
+abbrev pub unlessRefused : ℕ → List ℕ → List ℕ → List ℕ → Answer File → (File → Result) → Result
+unlessRefused n l image map (refused k) g = result (refusedAt n k (columnOf k l)) image map
+unlessRefused n l image map (given f) g = g f
 
 -- records one after another, n before them; then closing
 unfoldable pub readFrom : ℕ → ℕ → List (List ℕ) → File → Result
-readFrom size n [] f = result (atLine 0 (λ h. tt) (closeOf (f .reader))) (f .image) (f .map)
+readFrom size n [] f = result (atLine 0 (λ h. tt) (pointed noLine (closeOf (f .reader)))) (f .image) (f .map)
 readFrom size n (l ∷ ls) f =
-    unlessRefused (n + 1) (f .image) (f .map) (recordIn size (f .reader) l (f .image) (f .map))
+    unlessRefused (n + 1) l (f .image) (f .map) (recordIn size (f .reader) l (f .image) (f .map))
     (readFrom size (n + 1) ls)
 
 -- a whole text: 20 where image or map has another size, else line by line
 unfoldable pub readIn : ℕ → List ℕ → List ℕ → List ℕ → Result
-readIn size t image map = unlessRefused 0 image map (startIn size image map) (readFrom size 0 (textLines t))
+readIn size t image map =
+    unlessRefused 0 noLine image map (startIn size image map) (readFrom size 0 (textLines t))

@@ -9,7 +9,7 @@ use crate::numbers::field;
 use crate::numbers::last_field;
 use crate::text::Blame;
 
-// REFUSED, the line and the number.
+// REFUSED, the line, the number and the column.
 pub fn refusal_at(buffer: &mut [u8], blame: Blame) -> usize
     requires { ⌜ refusalRoom ≤ length (now buffer) ⌝ }
     ensures { λ r. ⌜
@@ -19,7 +19,8 @@ pub fn refusal_at(buffer: &mut [u8], blame: Blame) -> usize
 {
     let first = field(buffer, 0, b"REFUSED ", blame.line);
     let refusal = blame.refusal;
-    last_field(buffer, first, b" ", refusal.number() as u64)
+    let second = field(buffer, first, b" ", refusal.number() as u64);
+    last_field(buffer, second, b" ", blame.column as u64)
 }
 
 // REFUSED and the number.

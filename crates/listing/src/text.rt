@@ -3,9 +3,11 @@ ghost use mathlib.Core.Path.{_≡_};
 ghost use Prim.Native.Nat.{_≤_};
 ghost use lib.ListN.{length, set};
 ghost use Rattle.basis.specs.Board.{flashSize};
-ghost use Rattle.image.specs.Hex.{settled, startIn, recordIn};
-ghost use Rattle.listing.specs.Text.{going, trimmedOf, lineRoom};
-ghost use Rattle.listing.specs.Feed.{state, nextLine, afterLine, keepOneOf, withKept, fedByte, byteIn, feedIn, Keeps, lastIn, shutOf, closeIn};
+ghost use Rattle.image.specs.Hex.{settled, startIn};
+ghost use Rattle.image.specs.Paper.{paperRefusal};
+ghost use Rattle.image.specs.Record.{noLine};
+ghost use Rattle.listing.specs.Text.{going, lineRoom};
+ghost use Rattle.listing.specs.Feed.{state, afterLine, columnIn, fedLine, oneMore, withOpen, endedLength, fedByte, byteIn, feedIn, Keeps, lastIn, shutOf, closeIn};
 ghost use Rattle.listing.specs.Paper.{paperReading};
 use basis::buffers::first;
 use image::hex::Hex;
@@ -13,20 +15,22 @@ use image::hex::Read;
 use image::record::LONGEST;
 use image::record::Refusal;
 
-// How much of a line is kept: the longest record, its 0D, and one more to tell a longer line.
-pub const LINE: usize = LONGEST + 2;
+// How much of a line is kept: the longest record, and one more to tell a longer line.
+pub const LINE: usize = LONGEST + 1;
 
-// The reader, the lines that it has taken, and how many bytes of the open line are kept.
+// The reader, the lines that it has taken, and of the open line its length, kept or not, and its last byte.
 pub struct Text {
     pub hex: Hex,
     pub lines: u64,
     pub len: usize,
+    pub last: u8,
 }
 
-// A refusal and its line, counted from 1; 0 where no line is to blame.
+// A refusal with its line, counted from 1, and its column, counted from 0; line 0 where no line is to blame.
 pub struct Blame {
     pub line: u64,
     pub refusal: Refusal,
+    pub column: usize,
 }
 
 pub enum Reading {
@@ -44,8 +48,8 @@ impl Reading {
     // A text at its start, with image and map as the hex reader starts them.
     pub fn start(image: &mut [u8], map: &mut [u8]) -> Reading
         ensures { λ r. ⌜
-            (let o = settled (startIn flashSize (now (image .entry)) (now (map .entry))) (now (image .entry))
-            (now (map .entry)) in
+            (let o = settled noLine (startIn flashSize (now (image .entry)) (now (map .entry)))
+            (now (image .entry)) (now (map .entry)) in
             (paperReading r ≡ afterLine 0 (o .answer)) × (now (image .exit) ≡ o .image)
             × (now (map .exit) ≡ o .map))
             ⌝ }
@@ -55,8 +59,13 @@ impl Reading {
                 hex,
                 lines: 0,
                 len: 0,
+                last: 0,
             }),
-            Read::Refused(refusal) => Reading::Refused(Blame { line: 0, refusal }),
+            Read::Refused(refusal, column) => Reading::Refused(Blame {
+                line: 0,
+                refusal,
+                column,
+            }),
         }
     }
 
@@ -151,26 +160,29 @@ impl Text {
             ⌝ }
     {
         let mut len = self.len;
+        let mut last = self.last;
         let mut i = 0;
         // the last byte that came is left to `byte`
         while i + 1 < bytes.len() {
             if bytes[i] == 0x0A {
-                return self.stretch(len, i);
+                return self.stretch(len, last, i);
             }
-            len = keep_one(line, len, bytes[i]);
+            last = bytes[i];
+            len = keep_one(line, len, last);
             i += 1;
         }
-        self.stretch(len, i)
+        self.stretch(len, last, i)
     }
 
-    fn stretch(self, kept: usize, len: usize) -> Stretch
-        ensures { λ r. ⌜ (paperReading (r .reading) ≡ going (withKept self kept)) × (r .len ≡ len) ⌝ }
+    fn stretch(self, n: usize, last: u8, len: usize) -> Stretch
+        ensures { λ r. ⌜ (paperReading (r .reading) ≡ going (withOpen self n last)) × (r .len ≡ len) ⌝ }
     {
         let hex = self.hex;
         let reading = Reading::Open(Text {
             hex,
             lines: self.lines,
-            len: kept,
+            len: n,
+            last,
         });
         Stretch { reading, len }
     }
@@ -181,16 +193,30 @@ impl Text {
             ≡ fedByte flashSize self b (now (line .entry)) (now (image .entry)) (now (map .entry))
             ⌝ }
     {
-        let n = self.len;
         if b == 0x0A {
-            return self.take(trimmed(first(line, n)), image, map);
+            return self.take(self.ended(), line, image, map);
         }
         let hex = self.hex;
         Reading::Open(Text {
             hex,
             lines: self.lines,
-            len: keep_one(line, n, b),
+            len: keep_one(line, self.len, b),
+            last: b,
         })
+    }
+
+    // The open line's length without the one 0D that may stand before its 0A.
+    fn ended(self) -> usize
+        ensures { λ r. ⌜ r ≡ endedLength self ⌝ }
+    {
+        let n = self.len;
+        if self.last != 0x0D {
+            return n;
+        }
+        if n == 0 {
+            return n;
+        }
+        n - 1
     }
 
     // What stands after the last 0A; nothing is no line.
@@ -204,29 +230,31 @@ impl Text {
         if n == 0 {
             return Reading::Open(self);
         }
-        self.take(first(line, n), image, map)
+        self.take(n, line, image, map)
     }
 
-    // One line: the next record.
-    fn take(self, line: &[u8], image: &mut [u8], map: &mut [u8]) -> Reading
+    // One line of `n` bytes, as many of them as are kept: the next record.
+    fn take(self, n: usize, line: &[u8], image: &mut [u8], map: &mut [u8]) -> Reading
         ensures { λ r. ⌜
-            (let o = settled
-            (recordIn flashSize (self .hex) (now (line .entry)) (now (image .entry)) (now (map .entry)))
-            (now (image .entry)) (now (map .entry)) in
-            (paperReading r ≡ afterLine (nextLine self) (o .answer)) × (now (image .exit) ≡ o .image)
-            × (now (map .exit) ≡ o .map))
+            state (paperReading r) (now (line .entry)) (now (image .exit)) (now (map .exit))
+            ≡ fedLine flashSize self n (now (line .entry)) (now (image .entry)) (now (map .entry))
             ⌝ }
     {
         let hex = self.hex;
         // no text has 2^64 lines
         let at = std::num::wrapping_add_u64(self.lines, 1);
-        match hex.record(line, image, map) {
+        match hex.record(first(line, n), image, map) {
             Read::Taken(next) => Reading::Open(Text {
                 hex: next,
                 lines: at,
                 len: 0,
+                last: 0,
             }),
-            Read::Refused(refusal) => Reading::Refused(Blame { line: at, refusal }),
+            Read::Refused(refusal, column) => Reading::Refused(Blame {
+                line: at,
+                refusal,
+                column: column_in(n, refusal, column),
+            }),
         }
     }
 
@@ -236,35 +264,42 @@ impl Text {
         let hex = self.hex;
         match hex.close() {
             Read::Taken(_) => Reading::Open(self),
-            Read::Refused(refusal) => Reading::Refused(Blame { line: 0, refusal }),
+            Read::Refused(refusal, column) => Reading::Refused(Blame {
+                line: 0,
+                refusal,
+                column,
+            }),
         }
     }
 }
 
-// One byte more behind the first `n`, where there is room; how many are kept then.
+// One byte more of a line that has `n`, kept where there is room; how long the line is then.
 fn keep_one(line: &mut [u8], n: usize, b: u8) -> usize
-    ensures { λ r. ⌜
-        (r ≡ keepOneOf n (now (line .entry))) × (now (line .exit) ≡ set (now (line .entry)) n b)
-        ⌝ }
+    ensures { λ r. ⌜ (r ≡ oneMore n) × (now (line .exit) ≡ set (now (line .entry)) n b) ⌝ }
 {
     if line.len() <= n {
-        return n;
+        return one_more(n);
     }
     line[n] = b;
     n + 1
 }
 
-// A line without the one 0D that may stand at its end.
-fn trimmed(line: &[u8]) -> &[u8]
-    ensures { λ r. ⌜ now r ≡ trimmedOf (now (line .entry)) ⌝ }
+// A longer line than 64 bits count must not pass for a short one.
+fn one_more(n: usize) -> usize
+    ensures { λ r. ⌜ r ≡ oneMore n ⌝ }
 {
-    let n = line.len();
-    if n == 0 {
-        return line;
+    if n == usize::MAX {
+        return n;
     }
-    let end = n - 1;
-    if line[end] != 0x0D {
-        return line;
+    n + 1
+}
+
+// 23 has the whole line's length, of which the reader saw no more than was kept.
+fn column_in(n: usize, refusal: Refusal, column: usize) -> usize
+    ensures { λ r. ⌜ r ≡ columnIn n (paperRefusal refusal) column ⌝ }
+{
+    if refusal.number() == 23 {
+        return n;
     }
-    &line[..end]
+    column
 }

@@ -19,12 +19,13 @@ use Rattle.listing.specs.declared.text.Reading.{Reading}
 lined-apart : {A : Type 0} {b : Blame} {x : A} → stopped b ≡ going x → ⊥
 lined-apart e = let z : _≡_ {A = ℕ} 0 1 = cc in omega arith
 
--- a refusal and its line
+-- a refusal, its line and its column
 blame-one : (a b : Code.Blame) → paperBlame a ≡ paperBlame b → a ≡ b
 blame-one a b e =
     let f = ap (λ (x : Blame). x .line) e in
     let g = refusal-one (a .refusal) (b .refusal) (ap (λ (x : Blame). x .number) e) in
-    λ i. record { line = f i; refusal = g i }
+    let h = ap (λ (x : Blame). x .column) e in
+    λ i. record { line = f i; refusal = g i; column = h i }
 
 -- a text as it comes
 reading-one : (r s : Reading) → paperReading r ≡ paperReading s → r ≡ s

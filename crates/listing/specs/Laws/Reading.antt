@@ -1,6 +1,6 @@
 -- What a text comes to, byte by byte, is what its lines give, however long they are.
 use Prim.Native.Nat.{ℕ, _+_, _-_, _%_, _^_, _≤_, _<_}
-use mathlib.Core.Bool.{true, false, not}
+use mathlib.Core.Bool.{Bool, true, false, not}
 use mathlib.Core.List.{List, [], _∷_, _++_}
 use mathlib.Core.Path.{_≡_, refl, sym, ap, _∙_}
 use native.Mathlib.Nat.{mod-eq-of-lt}
@@ -9,120 +9,161 @@ use native.Mathlib.Omega.{arith}
 use borrow.Author.Tests.{eq-eqb, ne-eqb, lt-ltb, le-ltb, eqb-true, eqb-false, ltb-true, ltb-false}
 use lib.Dec.{eqb, ltb}
 use lib.ListN.{length, getD, set, take, length-append, length-take, length-set}
-use lib.Seq.{length-take-le, take-all, take-nil, take-append-le, take-suc-set, set-out, getD-take}
+use lib.Seq.{take-all, take-length, take-nil, take-take, take-append-le, take-suc-set, set-out, getD-take, getD-at}
 use Rattle.basis.specs.Units.{rightSizesIn}
 use Rattle.basis.specs.Laws.Choice.{decide}
 use Rattle.basis.specs.Refusals.{Answer, refused, given, _when_, first}
-use Rattle.image.specs.Hex.{File, file, settled, startIn, recordIn, closeOf}
-use Rattle.image.specs.Record.{recordMost}
+use Rattle.image.specs.Hex.{Settled, File, file, settledAs, settled, startIn, recordIn, closeOf}
+use Rattle.image.specs.Record.{recordMost, columnOf, Pointed, wrong, right, pointed, noLine}
 use Rattle.image.specs.declared.hex.Hex.{Hex}
 use Rattle.listing.specs.Text.{Blame, stopped, going, atLine, Result, result, lineRoom, trimmedOf, linesFrom, unlessRefused, readFrom, readIn}
-use Rattle.listing.specs.Feed.{Fed, state, textAt, fedAfter, nextLine, withKept, keepOneOf, fedByte, byteIn, feedIn, lastIn, afterClosing, shutOf, fedClosing, endedOf, fedResult, cameTo}
-use Rattle.listing.specs.Laws.Feed.{byte-ends, byte-kept, keep-more, keep-none}
+use Rattle.listing.specs.Feed.{Fed, state, textAt, fedAfter, nextLine, columnIn, settledWholly, recordKept, oneMore, withOpen, endedLength, fedByte, byteIn, feedIn, lastIn, afterClosing, shutOf, fedClosing, endedOf, fedResult, cameTo}
+use Rattle.listing.specs.Laws.Feed.{byte-ends, byte-kept, more-counted}
 use Rattle.listing.specs.declared.text.Text.{Text}
 
--- ---- of a line that is too long, only its first character counts
+-- ---- of a line that is too long, only its first character and its length count
+
+-- 20, 21 or 22, else 23
+abbrev early : Bool → Bool → Bool → Answer File
+early s e n = first (20 when s ∷ 21 when e ∷ 22 when n ∷ []) (refused 23)
 
 module _ (size : ℕ) (h : Hex) (image map : List ℕ) where
   -- by its first character c
-  abbrev early : ℕ → Answer File
-  early c =
-      first
-      (20 when not (rightSizesIn size (length image) (length map))
-      ∷ 21 when h .ended
-      ∷ 22 when not (eqb c 0x3A) ∷ [])
-      (refused 23)
+  abbrev earlyBy : ℕ → Answer File
+  earlyBy c = early (not (rightSizesIn size (length image) (length map))) (h .ended) (not (eqb c 0x3A))
 
-  long-record : (l : List ℕ) → recordMost < length l → recordIn size h l image map ≡ early (getD l 0 0)
+  long-record : (l : List ℕ) → recordMost < length l → recordIn size h l image map ≡ earlyBy (getD l 0 0)
   unfolding first recordIn
   long-record l g =
       let some : length l ≡ 0 → ⊥ = λ e. omega arith in
       let least : 11 ≤ length l = omega arith in
       rw (ne-eqb _ _ some, le-ltb _ _ least, lt-ltb _ _ g)
 
-  overlong : (a b : List ℕ) → recordMost < length a → recordMost < length b → getD a 0 0 ≡ getD b 0 0
-      → recordIn size h a image map ≡ recordIn size h b image map
-  overlong a b p q e = long-record a p ∙ ap early e ∙ sym (long-record b q)
+  -- whatever is kept of it
+  long-settled : (k l : List ℕ) (s e n : Bool)
+      → settledWholly (length l) (settled k (early s e n) image map) ≡ settled l (early s e n) image map
+  unfolding first columnOf
+  long-settled k l true e n = refl
+  long-settled k l false true n = refl
+  long-settled k l false false true = refl
+  long-settled k l false false false = refl
 
-  -- so many characters of a line are enough
-  record-kept : (n : ℕ) (l : List ℕ) → lineRoom ≤ n
-      → recordIn size h (take n l) image map ≡ recordIn size h l image map
-  record-kept n l g =
+  -- of one that is kept whole, the reader's column stands
+  short-column : (k : ℕ) (l : List ℕ) → columnIn (length l) k (columnOf k l) ≡ columnOf k l
+  unfolding columnOf
+  short-column k l = decide (eqb k 23) (λ t. rw (eqb-true k 23 t)) (λ t. rw t)
+
+  short-settled : (l : List ℕ) (a : Answer File)
+      → settledWholly (length l) (settled l a image map) ≡ settled l a image map
+  short-settled l (refused k) = ap (λ c. settledAs (wrong k c) image map) (short-column k l)
+  short-settled l (given f) = refl
+
+  -- so many characters of a line and its length are enough
+  kept-settled : (n : ℕ) (l : List ℕ) → lineRoom ≤ n
+      → settledWholly (length l) (settled (take n l) (recordIn size h (take n l) image map) image map)
+      ≡ settled l (recordIn size h l image map) image map
+  kept-settled n l g =
       decide (ltb n (length l))
       (λ t. let k = ltb-true n (length l) t in
-      overlong (take n l) l (omega (arith, length-take n l)) (omega arith) (getD-take n l 0 0 (omega arith)))
-      (λ t. rw (take-all n l (ltb-false n (length l) t)))
+      let cut : recordMost < length (take n l) = omega (arith, length-take n l) in
+      rw (
+        long-record (take n l) cut,
+        getD-take n l 0 0 (omega arith),
+        long-record l (omega arith),
+      )
+      (long-settled (take n l) l _ (h .ended) (not (eqb (getD l 0 0) 0x3A))))
+      (λ t. rw (take-all n l (ltb-false n (length l) t)) (short-settled l (recordIn size h l image map)))
 
-trimmed-length : (l : List ℕ) → length l ≤ length (trimmedOf l) + 1
+  -- and so many are in a line buffer with room for them
+  recorded : (l line : List ℕ) → lineRoom ≤ length line → take (length l) line ≡ take (length line) l
+      → recordKept size h (length l) line image map ≡ settled l (recordIn size h l image map) image map
+  recorded l line room e = rw e (kept-settled (length line) l room)
+
+-- ---- the open line: its length, its last byte, and as much of it as the buffer has room for
+
+-- a line without its 0D is its first characters
+trimmed-take : (l : List ℕ) → trimmedOf l ≡ take (length (trimmedOf l)) l
 unfolding trimmedOf
-trimmed-length l =
+trimmed-take l =
     decide (eqb (getD l (length l - 1) 0) 0x0D)
-    (λ t. rw t (omega (arith, length-take (length l - 1) l)))
-    (λ t. rw t (omega arith))
+    (λ t. let n : length (take (length l - 1) l) ≡ length l - 1 = omega (arith, length-take (length l - 1) l) in
+    rw (t, n))
+    (λ t. rw t (sym (take-length l)))
 
-trimmed-first : (l : List ℕ) → 1 < length l → getD (trimmedOf l) 0 0 ≡ getD l 0 0
-unfolding trimmedOf
-trimmed-first l h =
-    decide (eqb (getD l (length l - 1) 0) 0x0D)
-    (λ t. rw t (getD-take (length l - 1) l 0 0 (omega arith)))
-    (λ t. rw t)
+trimmed-most : (l : List ℕ) → length (trimmedOf l) ≤ length l
+trimmed-most l = omega (arith, ap length (trimmed-take l), length-take (length (trimmedOf l)) l)
 
-module _ (size : ℕ) (h : Hex) (image map : List ℕ) where
-  record-trimmed : (n : ℕ) (l : List ℕ) → lineRoom ≤ n
-      → recordIn size h (trimmedOf (take n l)) image map ≡ recordIn size h (trimmedOf l) image map
-  record-trimmed n l g =
-      decide (ltb n (length l))
-      (λ t. let k = ltb-true n (length l) t in
-      let e : length (take n l) ≡ n = length-take-le n l (omega arith) in
-      overlong size h image map (trimmedOf (take n l)) (trimmedOf l)
-      (omega (arith, trimmed-length (take n l)))
-      (omega (arith, trimmed-length l))
-      (trimmed-first (take n l) (omega arith)
-      ∙ getD-take n l 0 0 (omega arith)
-      ∙ sym (trimmed-first l (omega arith))))
-      (λ t. rw (take-all n l (ltb-false n (length l) t)))
-
--- ---- the open line, as much of it as the buffer has room for
+take-swap : (m n : ℕ) (l : List ℕ) → take m (take n l) ≡ take n (take m l)
+take-swap m n l =
+    decide (ltb m n)
+    (λ t. let k = ltb-true m n t in
+    take-take m n l (omega arith) ∙ sym (take-all n (take m l) (omega (arith, length-take m l))))
+    (λ t. let k = ltb-false m n t in
+    take-all m (take n l) (omega (arith, length-take n l)) ∙ sym (take-take n m l k))
 
 Held : List ℕ → Text → List ℕ → Type 0
-Held l t line = (t .len ≤ length line) × (take (t .len) line ≡ take (length line) l)
+Held l t line =
+    (t .len ≡ length l) × (t .last ≡ getD l (length l - 1) 0) × (take (length l) line ≡ take (length line) l)
 
 module _ (l : List ℕ) (t : Text) (line : List ℕ) (h : Held l t line) where
-  held-length : length (take (length line) l) ≡ t .len
+  held-length : t .len ≡ length l
   unfolding Held
-  held-length = sym (ap length (h .1)) ∙ length-take-le (t .len) line (h .0)
+  held-length = h .0
 
-  held-is : take (t .len) line ≡ take (length line) l
+  held-is : take (length l) line ≡ take (length line) l
   unfolding Held
-  held-is = h .1
+  held-is = h .2
 
-  held-byte : (b : ℕ) → Held (l ++ (b ∷ [])) (withKept t (keepOneOf (t .len) line)) (set line (t .len) b)
+  -- the line that 0A ends: its length, and what is kept of it
+  held-ended : endedLength t ≡ length (trimmedOf l)
+  unfolding Held endedLength trimmedOf
+  held-ended =
+      rw (h .0, h .1)
+      (decide (eqb (getD l (length l - 1) 0) 0x0D)
+      (λ z. rw z (omega (arith, length-take (length l - 1) l)))
+      (λ z. rw z))
+
+  held-trimmed : take (length (trimmedOf l)) line ≡ take (length line) (trimmedOf l)
+  held-trimmed =
+      let n = length (trimmedOf l) in
+      sym (take-take n (length l) line (trimmed-most l))
+      ∙ ap (take n) held-is
+      ∙ take-swap n (length line) l
+      ∙ ap (take (length line)) (sym (trimmed-take l))
+
+  held-byte : (b : ℕ) → length l + 1 < 2 ^ 64
+      → Held (l ++ (b ∷ [])) (withOpen t (oneMore (t .len)) b) (set line (t .len) b)
   unfolding Held
-  held-byte b =
-      decide (ltb (t .len) (length line))
-      (λ z. let k = ltb-true (t .len) (length line) z in
-      let short : length l ≡ t .len = omega (arith, held-length, length-take (length line) l) in
-      let e : take (t .len) line ≡ l = h .1 ∙ take-all (length line) l (omega arith) in
-      rw (keep-more (t .len) line k) (
-        simp length-set (omega arith),
-        rw (add-one, take-suc-set line (t .len) b k, e)
-            (sym (take-all (length (set line (t .len) b)) (l ++ (b ∷ []))
-            (simp (length-append, length-set) (omega arith)))),
-      ))
-      (λ z. let k = ltb-false (t .len) (length line) z in
-      let long : length line ≤ length l = omega (arith, held-length, length-take (length line) l, h .0) in
-      rw (keep-none (t .len) line k, set-out line (t .len) b k)
-      (h .0, h .1 ∙ sym (take-append-le (length line) l (b ∷ []) long)))
+  held-byte b few =
+      let n : length (l ++ (b ∷ [])) ≡ length l + 1 = length-append l (b ∷ []) in
+      rw (h .0, more-counted (length l) few) (
+        sym n,
+        sym (getD-at l b [] 0 (length (l ++ (b ∷ [])) - 1) (omega arith)),
+        rw (n, length-set line (length l) b) kept,
+      )
+    where
+      kept : take (length l + 1) (set line (length l) b) ≡ take (length line) (l ++ (b ∷ []))
+      kept =
+          decide (ltb (length l) (length line))
+          (λ z. let k = ltb-true (length l) (length line) z in
+          rw (add-one, take-suc-set line (length l) b k, h .2, take-all (length line) l (omega arith))
+          (sym (take-all (length line) (l ++ (b ∷ [])) (omega (arith, length-append l (b ∷ []))))))
+          (λ z. let k = ltb-false (length l) (length line) z in
+          rw (set-out line (length l) b k)
+          (take-all (length l + 1) line (omega arith)
+          ∙ sym (take-all (length l) line k)
+          ∙ h .2
+          ∙ sym (take-append-le (length line) l (b ∷ []) k)))
 
-held-none : (t : Text) (line : List ℕ) → t .len ≡ 0 → Held [] t line
+held-none : (n : ℕ) (g : Hex) (line : List ℕ) → Held [] (textAt n g) line
 unfolding Held
-held-none t line e = rw e (omega arith, sym (take-nil (length line)))
+held-none n g line = (refl, refl, sym (take-nil (length line)))
 
 -- ---- whole texts
 
-verdict-shut : (t : Text) (a : Answer Hex) → endedOf (afterClosing t a) ≡ atLine 0 (λ h. tt) a
-verdict-shut t (refused k) = refl
-verdict-shut t (given h) = refl
+verdict-shut : (t : Text) (a : Pointed Hex) → endedOf (afterClosing t a) ≡ atLine 0 (λ h. tt) a
+verdict-shut t (wrong k c) = refl
+verdict-shut t (right h) = refl
 
 module _ (size : ℕ) where
   -- a refusal stays
@@ -132,36 +173,39 @@ module _ (size : ℕ) where
   feed-stopped x line image map [] = refl
   feed-stopped x line image map (b ∷ text) = feed-stopped x line image map text
 
-  -- what comes after line n, where the lines that follow give g
-  went : (n : ℕ) (line image map text : List ℕ) (a : Answer File) (g : File → Result)
+  -- what comes after line n, which is l, where the lines that follow give g
+  went : (n : ℕ) (l line image map text : List ℕ) (a : Answer File) (g : File → Result)
       → ((f : File) → cameTo size (state (going (textAt n (f .reader))) line (f .image) (f .map)) text ≡ g f)
-      → cameTo size (fedAfter n (settled a image map) line) text ≡ unlessRefused n image map a g
-  went n line image map text (refused k) g ih =
-      rw (feed-stopped (record { line = n; number = k }) line image map text)
-  went n line image map text (given f) g ih = ih f
+      → cameTo size (fedAfter n (settled l a image map) line) text ≡ unlessRefused n l image map a g
+  went n l line image map text (refused k) g ih =
+      rw (feed-stopped (record { line = n; number = k; column = columnOf k l }) line image map text)
+  went n l line image map text (given f) g ih = ih f
 
   module _ (line : List ℕ) (room : lineRoom ≤ length line) where
     -- the end: the open line is the last one, and nothing is none
     ends : (l : List ℕ) (t : Text) (image map : List ℕ) → Held l t line → nextLine t ≡ t .lines + 1
         → cameTo size (state (going t) line image map) []
         ≡ readFrom size (t .lines) (linesFrom l []) (file (t .hex) image map)
-    unfolding Held feedIn linesFrom readFrom lastIn shutOf
+    unfolding feedIn linesFrom readFrom lastIn shutOf
     ends l t image map h e =
-        let held = held-length l t line h in
-        let kept = length-take (length line) l in
+        let long = held-length l t line h in
         decide (eqb (length l) 0)
-        (λ z. let n : t .len ≡ 0 = omega (arith, held, kept, eqb-true (length l) 0 z) in
-        rw (z, eq-eqb (t .len) 0 n) (ap (λ v. result v image map) (verdict-shut t (closeOf (t .hex)))))
-        (λ z. let n : t .len ≡ 0 → ⊥ = λ q. eqb-false (length l) 0 z (omega (arith, held, kept)) in
-        rw (z, ne-eqb (t .len) 0 n, h .1, record-kept size (t .hex) image map (length line) l room, e)
-        (last (t .lines + 1) (recordIn size (t .hex) l image map)))
+        (λ z. let n : t .len ≡ 0 = long ∙ eqb-true (length l) 0 z in
+        rw (z, eq-eqb (t .len) 0 n)
+        (ap (λ v. result v image map) (verdict-shut t (pointed noLine (closeOf (t .hex))))))
+        (λ z. let n : t .len ≡ 0 → ⊥ = λ q. eqb-false (length l) 0 z (sym long ∙ q) in
+        rw (z, ne-eqb (t .len) 0 n, long, e)
+        (ap (λ (o : Settled). fedResult (fedClosing (fedAfter (t .lines + 1) o line)))
+        (recorded size (t .hex) image map l line room (held-is l t line h))
+        ∙ last (t .lines + 1) l (recordIn size (t .hex) l image map)))
       where
-        last : (n : ℕ) (a : Answer File)
-            → fedResult (fedClosing (fedAfter n (settled a image map) line))
-            ≡ unlessRefused n image map a (readFrom size n [])
-        last n (refused k) = refl
-        last n (given f) =
-            ap (λ v. result v (f .image) (f .map)) (verdict-shut (textAt n (f .reader)) (closeOf (f .reader)))
+        last : (n : ℕ) (l : List ℕ) (a : Answer File)
+            → fedResult (fedClosing (fedAfter n (settled l a image map) line))
+            ≡ unlessRefused n l image map a (readFrom size n [])
+        last n l (refused k) = refl
+        last n l (given f) =
+            ap (λ v. result v (f .image) (f .map))
+            (verdict-shut (textAt n (f .reader)) (pointed noLine (closeOf (f .reader))))
 
   numbered : (n k : ℕ) → n + k + 1 < 2 ^ 64 → (n + 1) % 2 ^ 64 ≡ n + 1
   numbered n k l = mod-eq-of-lt (omega arith)
@@ -182,7 +226,7 @@ module _ (size : ℕ) where
 
   read-on : (n : ℕ) (l : List ℕ) (ls : List (List ℕ)) (f : File)
       → readFrom size n (l ∷ ls) f
-      ≡ unlessRefused (n + 1) (f .image) (f .map) (recordIn size (f .reader) l (f .image) (f .map))
+      ≡ unlessRefused (n + 1) l (f .image) (f .map) (recordIn size (f .reader) l (f .image) (f .map))
       (readFrom size (n + 1) ls)
   unfolding readFrom
   read-on n l ls f = refl
@@ -191,19 +235,23 @@ module _ (size : ℕ) where
   line-taken : (l : List ℕ) (t : Text) (line image map : List ℕ) → lineRoom ≤ length line → Held l t line
       → nextLine t ≡ t .lines + 1 → (b : ℕ) → b ≡ 0x0A
       → fedByte size t b line image map
-      ≡ fedAfter (t .lines + 1) (settled (recordIn size (t .hex) (trimmedOf l) image map) image map) line
+      ≡ fedAfter (t .lines + 1) (settled (trimmedOf l) (recordIn size (t .hex) (trimmedOf l) image map) image map)
+      line
   line-taken l t line image map room h next b e =
       byte-ends size t b line image map e
-      ∙ rw (next, held-is l t line h, record-trimmed size (t .hex) image map (length line) l room)
+      ∙ rw (next, held-ended l t line h)
+      (ap (λ o. fedAfter (t .lines + 1) o line)
+      (recorded size (t .hex) image map (trimmedOf l) line room (held-trimmed l t line h)))
 
   -- from any state on: the open line and what comes, as lines
   reads : (text l line image map : List ℕ) (t : Text) → lineRoom ≤ length line → Held l t line
       → t .lines + length text + 1 < 2 ^ 64
+      → length l + length text + 1 < 2 ^ 64
       → cameTo size (state (going t) line image map) text
       ≡ readFrom size (t .lines) (linesFrom l text) (file (t .hex) image map)
-  reads [] l line image map t room h few =
+  reads [] l line image map t room h few short =
       ends line room l t image map h (numbered (t .lines) 0 (omega arith))
-  reads (b ∷ text) l line image map t room h few =
+  reads (b ∷ text) l line image map t room h few short =
       let next : nextLine t ≡ t .lines + 1 = numbered (t .lines) (length text) (omega arith) in
       let f : File = file (t .hex) image map in
       let by-lines : List (List ℕ) → Result = λ ls. readFrom size (t .lines) ls f in
@@ -211,23 +259,25 @@ module _ (size : ℕ) where
       fed-on (state (going t) line image map) b text
       ∙ decide (eqb b 0x0A)
       (λ z. ap on (line-taken l t line image map room h next b (eqb-true b 0x0A z))
-      ∙ went (t .lines + 1) line image map text (recordIn size (t .hex) (trimmedOf l) image map)
+      ∙ went (t .lines + 1) (trimmedOf l) line image map text
+      (recordIn size (t .hex) (trimmedOf l) image map)
       (readFrom size (t .lines + 1) (linesFrom [] text))
-      (λ g. let u = textAt (t .lines + 1) (g .reader) in
-      reads text [] line (g .image) (g .map) u room (held-none u line refl) (omega arith))
+      (λ g. reads text [] line (g .image) (g .map) (textAt (t .lines + 1) (g .reader)) room
+      (held-none (t .lines + 1) (g .reader) line) (omega arith) (omega arith))
       ∙ sym (ap by-lines (lines-end l text b z) ∙ read-on (t .lines) (trimmedOf l) (linesFrom [] text) f))
-      (λ z. let u = withKept t (keepOneOf (t .len) line) in
+      (λ z. let u = withOpen t (oneMore (t .len)) b in
       ap on (byte-kept size t b line image map (eqb-false b 0x0A z))
       ∙ reads text (l ++ (b ∷ [])) (set line (t .len) b) image map u
-      (simp length-set room) (held-byte l t line h b) (omega arith)
+      (simp length-set room) (held-byte l t line h b (omega arith)) (omega arith)
+      (omega (arith, length-append l (b ∷ [])))
       ∙ sym (ap by-lines (lines-on l text b z)))
 
-  -- from the start on, however the text was cut: what the paper says of its lines
+  -- from the start on, however the text was cut: what the paper says of its lines, with the column
   pub text-reads : (text line image map : List ℕ) → lineRoom ≤ length line → length text + 1 < 2 ^ 64
-      → cameTo size (fedAfter 0 (settled (startIn size image map) image map) line) text
+      → cameTo size (fedAfter 0 (settled noLine (startIn size image map) image map) line) text
       ≡ readIn size text image map
   unfolding readIn
   text-reads text line image map room few =
-      went 0 line image map text (startIn size image map) (readFrom size 0 (linesFrom [] text))
-      (λ f. let u = textAt 0 (f .reader) in
-      reads text [] line (f .image) (f .map) u room (held-none u line refl) (omega arith))
+      went 0 noLine line image map text (startIn size image map) (readFrom size 0 (linesFrom [] text))
+      (λ f. reads text [] line (f .image) (f .map) (textAt 0 (f .reader)) room
+      (held-none 0 (f .reader) line) (omega arith) (omega arith))

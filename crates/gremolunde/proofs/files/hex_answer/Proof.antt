@@ -1,5 +1,5 @@
 -- `hex_answer` meets its contract: the next reader is shown, or
--- the refusal's number with the reader as it came.
+-- the refusal's number and column with the reader as it came.
 use mathlib.Core.Path.{ap, sym, _∙_}
 use borrow.Author.Needs.{needs}
 use Rattle.image.specs.Paper.{paperRead}
@@ -10,13 +10,18 @@ use Rattle.gremolunde.proofs.files.hex_answer.Tie as tie
 
 returns : tie.Need-returns
 returns c =
-    (λ i. record { number = 0; reader = c .hex-shown .ensures i })
+    (λ i. record { number = 0; column = 0; reader = c .hex-shown .ensures i })
     ∙ ap (λ (x : Read). hexAnswer (c .before .before .before .before .args .reader) (paperRead x))
     (sym (c .before .before .answer .given .1))
 
 returns-2 : tie.Need-returns-2
 returns-2 c =
-    (λ i. record { number = c .number .ensures i; reader = c .before .before .before .before .args .reader })
+    (λ i.
+    record {
+      number = c .number .ensures i;
+      column = c .before .before .answer2 .given .0 .1 .0;
+      reader = c .before .before .before .before .args .reader;
+    })
     ∙ ap (λ (x : Read). hexAnswer (c .before .before .before .before .args .reader) (paperRead x))
     (sym (c .before .before .answer2 .given .1))
 

@@ -3,14 +3,12 @@ use native.Mathlib.Omega.{arith}
 use borrow.Author.Needs.{needs}
 use Prim.Native.Nat.{ℕ}
 use mathlib.Core.List.{List}
-use mathlib.Core.Path.{_≡_}
+use mathlib.Core.Path.{_≡_, _∙_}
 use borrow.Author.Tests.{eq-eqb, ne-eqb}
-use lib.ListN.{take}
-use Rattle.image.specs.Hex.{settled, recordIn}
+use Rattle.basis.specs.Board.{flashSize}
 use Rattle.listing.specs.Text.{going}
-use Rattle.listing.specs.Feed.{Progress, state, nextLine, lastIn}
+use Rattle.listing.specs.Feed.{state, fedLine, lastIn}
 use Rattle.listing.specs.declared.text.Text.{Text}
-use Rattle.listing.proofs.Texts.{Shown, fed-shown}
 use Rattle.listing.proofs.text.Text.last.Statement.{statement}
 use Rattle.listing.proofs.text.Text.last.Tie as tie
 
@@ -19,14 +17,9 @@ module _ (size : ℕ) (t : Text) (line image map : List ℕ) where
   unfolding lastIn
   last-none e = rw (eq-eqb _ _ e)
 
-  last-line : (l i m : List ℕ) (p : Progress) → (t .len ≡ 0 → ⊥) → l ≡ take (t .len) line
-      → Shown (nextLine t) p i m (settled (recordIn size (t .hex) l image map) image map)
-      → state p line i m ≡ lastIn size t line image map
+  last-line : (t .len ≡ 0 → ⊥) → fedLine size t (t .len) line image map ≡ lastIn size t line image map
   unfolding lastIn
-  last-line l i m p n el s =
-      rw (ne-eqb _ _ n)
-      (fed-shown (nextLine t) p line i m
-      (settled (recordIn size (t .hex) (take (t .len) line) image map) image map) (rw el at s))
+  last-line n = rw (ne-eqb _ _ n)
 
 returns : tie.Need-returns
 returns c = last-none _ _ _ _ _ (omega (arith, c .if1 .taken))
@@ -34,15 +27,13 @@ returns c = last-none _ _ _ _ _ (omega (arith, c .if1 .taken))
 returns-2 : tie.Need-returns-2
 returns-2 c =
     let taken = c .before .before .before .before in
-    let kept = taken .before .before .before in
-    last-line _ _ _ _ _ _ _ _ _ (kept .before .if1 .left) (kept .first .ensures) (taken .take .ensures)
+    taken .take .ensures ∙ last-line flashSize _ _ _ _ (taken .before .before .before .if1 .left)
 
 pub last-spec : {M : Type 1} → statement M
 last-spec =
     tie.close
     (tie.spec
     returns
-    (λ c κs. search needs)
     (λ c κs. search needs)
     (λ c. search needs)
     (λ c. search needs)

@@ -2,8 +2,8 @@
 use mathlib.Core.Path.{sym, ap, _∙_, _≡_}
 use borrow.Author.Needs.{needs}
 use Rattle.image.specs.Paper.{paperRead}
-use Rattle.basis.specs.Refusals.{Answer}
 use Rattle.image.specs.Hex.{closeOf}
+use Rattle.image.specs.Record.{Pointed, pointed, noLine}
 use Rattle.image.specs.declared.hex.Hex.{Hex}
 use Rattle.listing.specs.Text.{going}
 use Rattle.listing.specs.Feed.{afterClosing, shutOf}
@@ -11,7 +11,7 @@ use Rattle.listing.specs.declared.text.Text.{Text}
 use Rattle.listing.proofs.text.Text.shut.Statement.{statement}
 use Rattle.listing.proofs.text.Text.shut.Tie as tie
 
-shut-by : (t : Text) (a : Answer Hex) → a ≡ closeOf (t .hex) → afterClosing t a ≡ shutOf (going t)
+shut-by : (t : Text) (a : Pointed Hex) → a ≡ pointed noLine (closeOf (t .hex)) → afterClosing t a ≡ shutOf (going t)
 unfolding shutOf
 shut-by t a e = ap (afterClosing t) e
 
