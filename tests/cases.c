@@ -680,13 +680,16 @@ static int ask_take(const word *words) {
 
 /* Requests: hex files. */
 
-/* The next reader; a refusal hands this one back. */
+/* The next reader; a refusal gives its column and hands this one back. */
 static int give_reader(gremolunde_hex_read read, gremolunde_hex back) {
     give_number(read.number);
     if (read.number == 0) {
         reader = read.reader;
+        hold(read.column == 0);
+        return 1;
     }
-    hold(read.number == 0 || SAME(gremolunde_hex, read.reader, back));
+    give_number(read.column);
+    hold(SAME(gremolunde_hex, read.reader, back));
     return 1;
 }
 

@@ -43,9 +43,10 @@ FIELD(gremolunde_taken, number, 0, 4)
 FIELD(gremolunde_taken, answered, 8, 8)
 FIELD(gremolunde_taken, loader, 16, 24)
 
-STRUCT(gremolunde_hex_read, 16)
+STRUCT(gremolunde_hex_read, 32)
 FIELD(gremolunde_hex_read, number, 0, 4)
-FIELD(gremolunde_hex_read, reader, 4, 12)
+FIELD(gremolunde_hex_read, column, 8, 8)
+FIELD(gremolunde_hex_read, reader, 16, 12)
 
 STRUCT(gremolunde_hex_written, 16)
 FIELD(gremolunde_hex_written, number, 0, 4)

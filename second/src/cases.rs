@@ -7,7 +7,7 @@ use std::fmt;
 use std::io::{self, BufRead, Write};
 
 use crate::boundary::{LoaderRecord, ReaderRecord, SessionRecord};
-use crate::hex::{self, Reader};
+use crate::hex::{self, HexRefusal, Reader};
 use crate::line::{self, Exchange};
 use crate::listing::{hex_digits, log_line};
 use crate::loader::Loader;
@@ -329,7 +329,7 @@ impl Desk {
     fn over_file(
         &mut self,
         brought: &[u8],
-        call: impl Fn(Reader, &mut [u8], &mut [u8]) -> Result<Reader, Refusal>,
+        call: impl Fn(Reader, &mut [u8], &mut [u8]) -> Result<Reader, HexRefusal>,
     ) -> Option<Answer> {
         self.buffers
             .call(brought, &[Buffer::Image, Buffer::Map], &[])?;
@@ -347,11 +347,18 @@ impl Desk {
         Some(self.read_on(reader.close().map(|()| reader)))
     }
 
-    fn read_on(&mut self, given: Result<Reader, Refusal>) -> Answer {
-        Answer::of(given.map(|reader| {
-            self.reader = reader.into();
-            vec![]
-        }))
+    /// What a call of the hex reader gave; a refusal shows its column.
+    fn read_on(&mut self, given: Result<Reader, HexRefusal>) -> Answer {
+        match given {
+            Ok(reader) => {
+                self.reader = reader.into();
+                Answer::nothing()
+            }
+            Err(HexRefusal { refusal, column }) => Answer {
+                number: refusal.number(),
+                values: vec![column.to_string()],
+            },
+        }
     }
 
     fn write(&mut self, from: u32) -> Option<Answer> {

@@ -8,6 +8,12 @@ use crate::units::{FLASH_BYTES, FLASH_END, MAP_BYTES};
 /// Colon, count, address, type and checksum.
 const SHORTEST: usize = 11;
 const LONGEST: usize = 521;
+/// The colon's column.
+const COLON: usize = 0;
+/// Where count, address and type begin among a record's bytes.
+const COUNT: usize = 0;
+const ADDRESS: usize = 1;
+const TYPE: usize = 3;
 /// Count, address and type.
 const HEAD: usize = 4;
 /// The longest record the writer gives, with its line end.
@@ -15,6 +21,29 @@ pub const RECORD_BUFFER: usize = 44;
 const CUT: u32 = 16;
 const END_RECORD: &[u8] = b":00000001FF\n";
 const UNNAMED: u8 = 0xFF;
+
+/// A refusal of the reader and its column, counted from 0; 0 where it has none.
+#[derive(Clone, Copy, Debug, PartialEq, Eq)]
+pub struct HexRefusal {
+    pub refusal: Refusal,
+    pub column: usize,
+}
+
+impl From<Refusal> for HexRefusal {
+    /// For a refusal that has no column; only 22 to 28 have one.
+    fn from(refusal: Refusal) -> HexRefusal {
+        refusal.at(0)
+    }
+}
+
+impl Refusal {
+    fn at(self, column: usize) -> HexRefusal {
+        HexRefusal {
+            refusal: self,
+            column,
+        }
+    }
+}
 
 #[derive(Clone, Copy, Debug, PartialEq, Eq)]
 pub struct Reader {
@@ -26,7 +55,7 @@ pub struct Reader {
 }
 
 impl Reader {
-    pub fn start(image: &mut [u8], map: &mut [u8]) -> Result<Reader, Refusal> {
+    pub fn start(image: &mut [u8], map: &mut [u8]) -> Result<Reader, HexRefusal> {
         check_sizes(image, map)?;
         image.fill(UNNAMED);
         map.fill(0);
@@ -39,10 +68,15 @@ impl Reader {
     }
 
     /// Takes one record, its line end removed.
-    pub fn record(&mut self, text: &[u8], image: &mut [u8], map: &mut [u8]) -> Result<(), Refusal> {
+    pub fn record(
+        &mut self,
+        text: &[u8],
+        image: &mut [u8],
+        map: &mut [u8],
+    ) -> Result<(), HexRefusal> {
         check_sizes(image, map)?;
         if self.ended {
-            return Err(Refusal::RecordAfterEnd);
+            return Err(Refusal::RecordAfterEnd.into());
         }
         let record = Record::decode(text)?;
         match record.kind() {
@@ -55,12 +89,12 @@ impl Reader {
         Ok(())
     }
 
-    pub fn close(&self) -> Result<(), Refusal> {
+    pub fn close(&self) -> Result<(), HexRefusal> {
         if !self.ended {
-            return Err(Refusal::NoEndRecord);
+            return Err(Refusal::NoEndRecord.into());
         }
         if !self.taken {
-            return Err(Refusal::NoData);
+            return Err(Refusal::NoData.into());
         }
         Ok(())
     }
@@ -102,58 +136,73 @@ struct Record {
 }
 
 impl Record {
-    fn decode(text: &[u8]) -> Result<Record, Refusal> {
-        let digits = text.strip_prefix(b":").ok_or(Refusal::NoColon)?;
+    fn decode(text: &[u8]) -> Result<Record, HexRefusal> {
+        if !text.starts_with(b":") {
+            return Err(Refusal::NoColon.at(COLON));
+        }
         if text.len() < SHORTEST || text.len() > LONGEST || text.len().is_multiple_of(2) {
-            return Err(Refusal::RecordLength);
+            return Err(Refusal::RecordLength.at(text.len()));
         }
         let mut record = Record {
             bytes: [0; LONGEST / 2],
-            length: digits.len() / 2,
+            length: text.len() / 2,
         };
-        for (byte, pair) in record.bytes.iter_mut().zip(digits.chunks_exact(2)) {
-            *byte = digit(pair[0])? << 4 | digit(pair[1])?;
+        for (index, byte) in record.bytes[..record.length].iter_mut().enumerate() {
+            let column = first_digit(index);
+            *byte = digit(text, column)? << 4 | digit(text, column + 1)?;
         }
         record.check(text.len())?;
         Ok(record)
     }
 
-    fn check(&self, characters: usize) -> Result<(), Refusal> {
+    fn check(&self, characters: usize) -> Result<(), HexRefusal> {
         if characters != SHORTEST + 2 * self.count() {
-            return Err(Refusal::RecordCount);
+            return Err(Refusal::RecordCount.at(characters));
         }
         if sum(&self.bytes[..self.length]) != 0 {
-            return Err(Refusal::RecordChecksum);
+            return Err(Refusal::RecordChecksum.at(first_digit(self.length - 1)));
         }
         if self.kind() > 5 {
-            return Err(Refusal::RecordType);
+            return Err(Refusal::RecordType.at(first_digit(TYPE)));
         }
-        if !self.shape_fits() {
-            return Err(Refusal::RecordShape);
+        self.check_shape()
+    }
+
+    /// The count goes before the address where both are wrong.
+    fn check_shape(&self) -> Result<(), HexRefusal> {
+        let Some(count) = self.fixed_count() else {
+            return Ok(());
+        };
+        if self.count() != count {
+            return Err(Refusal::RecordShape.at(first_digit(COUNT)));
+        }
+        if self.address() != 0 {
+            return Err(Refusal::RecordShape.at(first_digit(ADDRESS)));
         }
         Ok(())
     }
 
-    fn shape_fits(&self) -> bool {
+    /// The one count of the type; data has any count, at any address.
+    fn fixed_count(&self) -> Option<usize> {
         match self.kind() {
-            0 => true,
-            1 => self.count() == 0 && self.address() == 0,
-            2 | 4 => self.count() == 2 && self.address() == 0,
+            0 => None,
+            1 => Some(0),
+            2 | 4 => Some(2),
             // a start address has four bytes
-            _ => self.count() == 4 && self.address() == 0,
+            _ => Some(4),
         }
     }
 
     fn count(&self) -> usize {
-        usize::from(self.bytes[0])
+        usize::from(self.bytes[COUNT])
     }
 
     fn address(&self) -> u16 {
-        u16::from_be_bytes([self.bytes[1], self.bytes[2]])
+        u16::from_be_bytes([self.bytes[ADDRESS], self.bytes[ADDRESS + 1]])
     }
 
     fn kind(&self) -> u8 {
-        self.bytes[3]
+        self.bytes[TYPE]
     }
 
     fn data(&self) -> &[u8] {
@@ -162,16 +211,22 @@ impl Record {
 
     /// The value of a record with two data bytes.
     fn value(&self) -> u16 {
-        u16::from_be_bytes([self.bytes[4], self.bytes[5]])
+        u16::from_be_bytes([self.bytes[HEAD], self.bytes[HEAD + 1]])
     }
 }
 
-fn digit(character: u8) -> Result<u8, Refusal> {
-    match character {
-        b'0'..=b'9' => Ok(character - b'0'),
-        b'A'..=b'F' => Ok(character - b'A' + 10),
-        b'a'..=b'f' => Ok(character - b'a' + 10),
-        _ => Err(Refusal::NoDigit),
+/// The column of the first digit of a record's byte.
+fn first_digit(index: usize) -> usize {
+    COLON + 1 + 2 * index
+}
+
+/// The value of the digit in a column.
+fn digit(text: &[u8], column: usize) -> Result<u8, HexRefusal> {
+    match text[column] {
+        character @ b'0'..=b'9' => Ok(character - b'0'),
+        character @ b'A'..=b'F' => Ok(character - b'A' + 10),
+        character @ b'a'..=b'f' => Ok(character - b'a' + 10),
+        _ => Err(Refusal::NoDigit.at(column)),
     }
 }
 
@@ -207,8 +262,8 @@ pub fn write(
 fn write_data(buffer: &mut [u8], address: u16, data: &[u8]) -> usize {
     let mut bytes = [0; HEAD + CUT as usize + 1];
     let end = HEAD + data.len();
-    bytes[0] = data.len() as u8;
-    bytes[1..3].copy_from_slice(&address.to_be_bytes());
+    bytes[COUNT] = data.len() as u8;
+    bytes[ADDRESS..TYPE].copy_from_slice(&address.to_be_bytes());
     bytes[HEAD..end].copy_from_slice(data);
     bytes[end] = checksum(&bytes[..end]);
     buffer[0] = b':';

@@ -2,7 +2,7 @@
 
 use std::fmt::Write;
 
-use crate::hex::{upper, Reader};
+use crate::hex::{upper, HexRefusal, Reader};
 use crate::loader::{ACK, GREETING};
 use crate::log::{self, Entry};
 use crate::packet::LONGEST;
@@ -13,7 +13,7 @@ use crate::units::{FLASH_BYTES, MAP_BYTES};
 /// A refusal with the line that brought it, 0 at closing.
 struct Refused {
     line: usize,
-    refusal: Refusal,
+    why: HexRefusal,
 }
 
 /// The packets a session sends for this hex text, or why it is refused.
@@ -22,7 +22,10 @@ pub fn plan(text: &[u8]) -> String {
     let mut map = vec![0; MAP_BYTES];
     match load(text, &mut image, &mut map).and_then(|()| steps(&image, &map).map_err(at_closing)) {
         Ok(listing) => listing,
-        Err(Refused { line, refusal }) => format!("REFUSED {line} {}\n", refusal.number()),
+        Err(Refused { line, why }) => {
+            let (number, column) = (why.refusal.number(), why.column);
+            format!("REFUSED {line} {number} {column}\n")
+        }
     }
 }
 
@@ -66,9 +69,9 @@ fn load(text: &[u8], image: &mut [u8], map: &mut [u8]) -> Result<(), Refused> {
     for (index, line) in lines(text).enumerate() {
         reader
             .record(without_end(line), image, map)
-            .map_err(|refusal| Refused {
+            .map_err(|why| Refused {
                 line: index + 1,
-                refusal,
+                why,
             })?;
     }
     reader.close().map_err(at_closing)
@@ -82,8 +85,11 @@ pub fn without_end(line: &[u8]) -> &[u8] {
     }
 }
 
-fn at_closing(refusal: Refusal) -> Refused {
-    Refused { line: 0, refusal }
+fn at_closing(refusal: impl Into<HexRefusal>) -> Refused {
+    Refused {
+        line: 0,
+        why: refusal.into(),
+    }
 }
 
 fn steps(image: &[u8], map: &[u8]) -> Result<String, Refusal> {

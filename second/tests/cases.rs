@@ -1,4 +1,4 @@
-//! The stored list of case lines, with what the paper says comes out.
+//! Case lines, stored ones and some more, with what the paper says comes out.
 
 use second::cases;
 
@@ -10,15 +10,20 @@ fn answered(input: &[u8]) -> String {
     String::from_utf8(output).expect("characters")
 }
 
-#[test]
-fn every_line_gives_what_the_paper_says() {
-    let lines = LIST.lines().map(cases::asked);
+/// Asks the lines of what must be printed.
+fn check(printed: &str) {
+    let lines = printed.lines().map(cases::asked);
     let input: String = lines.map(|line| format!("{line}\n")).collect();
     let output = answered(input.as_bytes());
-    for (given, expected) in output.lines().zip(LIST.lines()) {
+    for (given, expected) in output.lines().zip(printed.lines()) {
         assert_eq!(given, expected);
     }
-    assert_eq!(output.lines().count(), LIST.lines().count());
+    assert_eq!(output.lines().count(), printed.lines().count());
+}
+
+#[test]
+fn every_line_gives_what_the_paper_says() {
+    check(LIST);
 }
 
 #[test]
@@ -34,4 +39,50 @@ fn the_last_line_may_lack_its_end() {
     assert_eq!(answered(b"\n"), " -> ?\n");
     assert_eq!(answered(b"turned 81"), "turned 81 -> 0 0C\n");
     assert_eq!(answered(b"# turned 81"), "# turned 81\n");
+}
+
+#[test]
+fn refusals_of_the_hex_reader_show_their_column() {
+    let printed = "lend map 7935 -> 0\n\
+                   hex -> 20 0\n\
+                   record :0000 -> 20 0\n\
+                   lend map 7936 -> 0\n\
+                   hex -> 0\n\
+                   close -> 31 0\n\
+                   record  -> 22 0\n\
+                   record X -> 22 0\n\
+                   line  -> 22 0\n\
+                   record :0000 -> 23 5\n\
+                   line 3A30303030 -> 23 5\n\
+                   record :000000G1FF -> 24 7\n\
+                   line 3A303030300A3030314646 -> 24 5\n\
+                   record :01000000FF -> 25 11\n\
+                   record :020000040108EA -> 26 13\n\
+                   record :00000006FA -> 27 7\n\
+                   record :0100000100FE -> 28 1\n\
+                   record :00000101FE -> 28 3\n\
+                   record :0100010100FD -> 28 1\n\
+                   record :01F800000007 -> 29 0\n\
+                   record :00000001FF -> 0\n\
+                   line 3A30303030 -> 21 0\n\
+                   close -> 32 0\n\
+                   hex -> 0\n\
+                   record :020000001234B8 -> 0\n\
+                   record :010001000AF4 -> 30 0\n\
+                   record :00000001FF -> 0\n\
+                   close -> 0\n";
+    check(printed);
+}
+
+#[test]
+fn other_refusals_show_no_column() {
+    let printed = "lend record 43 -> 0\n\
+                   write 00000000 -> 33\n\
+                   lend map 7935 -> 0\n\
+                   write 00000000 -> 20\n\
+                   start reset -> 20\n\
+                   rehearse reset  -> 20\n\
+                   read  -> 1\n\
+                   logread  -> 50\n";
+    check(printed);
 }

@@ -1,6 +1,6 @@
 //! The paper's printed cases and limits.
 
-use second::hex::{self, Reader};
+use second::hex::{self, HexRefusal, Reader};
 use second::line::{rehearse, Exchange};
 use second::listing;
 use second::loader::{Condition, Loader, Protection, GREETING, NO_KEY};
@@ -235,6 +235,14 @@ fn run_leaves() {
     assert_eq!(served.give(Command::Run, 0, &[]), ack());
 }
 
+/// The number and the column of a refusal of the hex reader; both 0 for none.
+fn told<T>(given: Result<T, HexRefusal>) -> (u8, usize) {
+    match given {
+        Ok(_) => (0, 0),
+        Err(HexRefusal { refusal, column }) => (refusal.number(), column),
+    }
+}
+
 /// A reader with its image and map.
 #[derive(Clone, PartialEq, Debug)]
 struct Reading {
@@ -259,17 +267,23 @@ impl Reading {
         reading
     }
 
-    /// The refusal number, 0 for none; refusals leave everything as it stood.
-    fn record(&mut self, text: &str) -> u8 {
+    /// What comes of a record; refusals leave everything as it stood.
+    fn take(&mut self, text: &[u8]) -> (u8, usize) {
         let before = self.clone();
-        let text = text.as_bytes();
-        match self.reader.record(text, &mut self.image, &mut self.map) {
-            Ok(()) => 0,
-            Err(refusal) => {
-                assert_eq!(*self, before);
-                refusal.number()
-            }
+        let taken = self.reader.record(text, &mut self.image, &mut self.map);
+        if taken.is_err() {
+            assert_eq!(*self, before);
         }
+        told(taken)
+    }
+
+    /// The number alone.
+    fn record(&mut self, text: &str) -> u8 {
+        self.take(text.as_bytes()).0
+    }
+
+    fn close(&self) -> (u8, usize) {
+        told(self.reader.close())
     }
 
     fn session(&self, run: Run) -> Session {
@@ -323,40 +337,41 @@ fn empty_data_is_accepted_anywhere() {
     assert_eq!(reading.record(":00FFFF0002"), 0);
     assert_eq!(reading, Reading::new());
     assert_eq!(reading.record(":00000001FF"), 0);
-    assert_eq!(reading.reader.close(), Err(Refusal::NoData));
+    assert_eq!(reading.close(), (32, 0));
 }
 
 #[test]
 fn record_refusals() {
     let mut reading = Reading::of(&[":020000001234B8"]);
-    for (record, number) in [
-        ("", 22),
-        ("020000001234B8", 22),
-        (":00000001F", 23),
-        (":0000000", 23),
-        (":000000G1FF", 24),
-        (":010000001234B8", 25),
-        (":020000001234B9", 26),
-        (":00000006FA", 27),
-        (":0100000100FE", 28),
-        (":00000101FE", 28),
-        (":0100000200FD", 28),
-        (":020001020000FB", 28),
-        (":020000030000FB", 28),
-        (":02000005FFFFFB", 28),
-        (":02F7FF00000008", 29),
-        (":01F800000007", 29),
-        (":010001000AF4", 30),
+    for (record, number, column) in [
+        ("", 22, 0),
+        ("020000001234B8", 22, 0),
+        (":00000001F", 23, 10),
+        (":0000000", 23, 8),
+        (":000000G1FF", 24, 7),
+        (":010000001234B8", 25, 15),
+        (":020000001234B9", 26, 13),
+        (":00000006FA", 27, 7),
+        (":0100000100FE", 28, 1),
+        (":00000101FE", 28, 3),
+        (":0100000200FD", 28, 1),
+        (":020001020000FB", 28, 3),
+        (":020000030000FB", 28, 1),
+        (":02000005FFFFFB", 28, 1),
+        (":02F7FF00000008", 29, 0),
+        (":01F800000007", 29, 0),
+        (":010001000AF4", 30, 0),
     ] {
-        assert_eq!(reading.record(record), number, "{record}");
+        let taken = reading.take(record.as_bytes());
+        assert_eq!(taken, (number, column), "{record}");
     }
     assert_eq!(reading.record(":01F7FF000009"), 0);
     assert_eq!(reading.record(":0400000300000000F9"), 0);
     assert_eq!(reading.record(":04000005FFFFFFFFFB"), 0);
-    assert_eq!(reading.reader.close(), Err(Refusal::NoEndRecord));
+    assert_eq!(reading.close(), (31, 0));
     assert_eq!(reading.record(":00000001FF"), 0);
     assert_eq!(reading.record(""), 21);
-    assert_eq!(reading.reader.close(), Ok(()));
+    assert_eq!(reading.close(), (0, 0));
 }
 
 #[test]
@@ -374,10 +389,11 @@ fn bases_add_without_wrap() {
     assert_eq!(reading.record(":0000000000"), 0);
 }
 
-/// What a new reader says to each record.
-fn check_records(cases: &[(&str, u8)]) {
-    for (record, number) in cases {
-        assert_eq!(Reading::new().record(record), *number, "{record}");
+/// What a new reader says to each record, with the column.
+fn check_records(cases: &[(&str, u8, usize)]) {
+    for (record, number, column) in cases {
+        let taken = Reading::new().take(record.as_bytes());
+        assert_eq!(taken, (*number, *column), "{record}");
     }
 }
 
@@ -394,73 +410,73 @@ const START_RECORDS: [&str; 6] = [
 #[test]
 fn start_records_have_four_bytes() {
     check_records(&[
-        (":00000003FD", 28),
-        (":0100000312EA", 28),
-        (":020000031234B5", 28),
-        (":030000031234565E", 28),
-        (":0400000312345678E5", 0),
-        (":05000003123456789A4A", 28),
-        (":00000005FB", 28),
-        (":0100000512E8", 28),
-        (":020000051234B3", 28),
-        (":030000051234565C", 28),
-        (":0400000512345678E3", 0),
-        (":05000005123456789A48", 28),
+        (":00000003FD", 28, 1),
+        (":0100000312EA", 28, 1),
+        (":020000031234B5", 28, 1),
+        (":030000031234565E", 28, 1),
+        (":0400000312345678E5", 0, 0),
+        (":05000003123456789A4A", 28, 1),
+        (":00000005FB", 28, 1),
+        (":0100000512E8", 28, 1),
+        (":020000051234B3", 28, 1),
+        (":030000051234565C", 28, 1),
+        (":0400000512345678E3", 0, 0),
+        (":05000005123456789A48", 28, 1),
     ]);
 }
 
 #[test]
 fn start_records_have_address_0() {
     check_records(&[
-        (":0400010300000000F8", 28),
-        (":0401000300000000F8", 28),
-        (":0401010300000000F7", 28),
-        (":0400010500000000F6", 28),
-        (":0401000500000000F6", 28),
-        (":0401010500000000F5", 28),
+        (":0400010300000000F8", 28, 3),
+        (":0401000300000000F8", 28, 3),
+        (":0401010300000000F7", 28, 3),
+        (":0400010500000000F6", 28, 3),
+        (":0401000500000000F6", 28, 3),
+        (":0401010500000000F5", 28, 3),
     ]);
 }
 
 #[test]
 fn start_records_wrong_in_count_and_address() {
     check_records(&[
-        (":020001030000FA", 28),
-        (":020100030000FA", 28),
-        (":020001050000F8", 28),
-        (":020100050000F8", 28),
+        (":020001030000FA", 28, 1),
+        (":020100030000FA", 28, 1),
+        (":020001050000F8", 28, 1),
+        (":020100050000F8", 28, 1),
     ]);
 }
 
 #[test]
 fn other_records_keep_their_count() {
     check_records(&[
-        (":00000001FF", 0),
-        (":020000010000FD", 28),
-        (":0400000100000000FB", 28),
-        (":00000002FE", 28),
-        (":0100000200FD", 28),
-        (":020000020000FC", 0),
-        (":03000002000000FB", 28),
-        (":0400000200000000FA", 28),
-        (":00000004FC", 28),
-        (":0100000400FB", 28),
-        (":020000040000FA", 0),
-        (":03000004000000F9", 28),
-        (":0400000400000000F8", 28),
+        (":00000001FF", 0, 0),
+        (":020000010000FD", 28, 1),
+        (":0400000100000000FB", 28, 1),
+        (":00000002FE", 28, 1),
+        (":0100000200FD", 28, 1),
+        (":020000020000FC", 0, 0),
+        (":03000002000000FB", 28, 1),
+        (":0400000200000000FA", 28, 1),
+        (":00000004FC", 28, 1),
+        (":0100000400FB", 28, 1),
+        (":020000040000FA", 0, 0),
+        (":03000004000000F9", 28, 1),
+        (":0400000400000000F8", 28, 1),
     ]);
 }
 
 #[test]
 fn length_and_checksum_of_a_start_record_go_before_its_shape() {
     check_records(&[
-        (":040000030000FB", 25),
-        (":0200000500000000F9", 25),
-        (":020000030000FC", 26),
-        (":020000050000FA", 26),
-        (":0400010300000000F9", 26),
-        (":0400010500000000F7", 26),
-        (":0400000300000000FA", 26),
-        (":0400000500000000F8", 26),
+        (":040000030000FB", 25, 15),
+        (":0200000500000000F9", 25, 19),
+        (":020000030000FC", 26, 13),
+        (":020000050000FA", 26, 13),
+        (":0400010300000000F9", 26, 17),
+        (":0400010500000000F7", 26, 17),
+        (":0400000300000000FA", 26, 17),
+        (":0400000500000000F8", 26, 17),
     ]);
 }
 
@@ -495,9 +511,9 @@ fn start_record_changes_nothing() {
 fn start_record_is_no_data() {
     for record in START_RECORDS {
         let mut reading = Reading::of(&[record]);
-        assert_eq!(reading.reader.close(), Err(Refusal::NoEndRecord));
+        assert_eq!(reading.close(), (31, 0));
         assert_eq!(reading.record(":00000001FF"), 0);
-        assert_eq!(reading.reader.close(), Err(Refusal::NoData));
+        assert_eq!(reading.close(), (32, 0));
     }
 }
 
@@ -521,6 +537,265 @@ fn longest_record() {
     let zeros = "0".repeat(510);
     assert_eq!(Reading::new().record(&format!(":FF000000{zeros}01")), 0);
     assert_eq!(Reading::new().record(&format!(":FF000000{zeros}0001")), 23);
+}
+
+/// 510 digits between a head and an end; the longest record's are nine
+/// characters and two.
+fn long_line(head: &str, end: &str) -> String {
+    format!("{head}{}{end}", "0".repeat(510))
+}
+
+#[test]
+fn column_of_22_is_the_place_of_the_colon() {
+    check_records(&[
+        ("", 22, 0),
+        ("0", 22, 0),
+        ("\0", 22, 0),
+        ("\r", 22, 0),
+        ("00000001FF", 22, 0),
+        (";00000001FF", 22, 0),
+        (" :00000001FF", 22, 0),
+        ("0:00000001FF", 22, 0),
+        ("G0000000:FF", 22, 0),
+        (&long_line("0FF000000", "01"), 22, 0),
+        (&"0".repeat(600), 22, 0),
+    ]);
+}
+
+#[test]
+fn column_of_23_is_the_length_of_the_line() {
+    check_records(&[
+        (":", 23, 1),
+        ("::", 23, 2),
+        (":0000", 23, 5),
+        (":GGGG", 23, 5),
+        (":00000001F", 23, 10),
+        (":00000001FF0", 23, 12),
+        (":00000001FF\r", 23, 12),
+        (":0000 0001FF", 23, 12),
+        (&long_line(":FF0000000", "01"), 23, 522),
+        (&long_line(":FF00000000", "01"), 23, 523),
+    ]);
+}
+
+#[test]
+fn each_wrong_length_is_a_column_of_23() {
+    let even = (12..=520).step_by(2);
+    for length in (1..=10).chain(even).chain(522..=530).chain([1000, 70_000]) {
+        // 24 and 25 come later
+        for filling in ["0", "F", "G", ":", "\0"] {
+            let line = format!(":{}", filling.repeat(length - 1));
+            check_records(&[(&line, 23, length)]);
+        }
+    }
+}
+
+#[test]
+fn column_of_24_is_the_first_bad_character() {
+    check_records(&[
+        (":G0000001FF", 24, 1),
+        (":0G000001FF", 24, 2),
+        (":00G00001FF", 24, 3),
+        (":00000G01FF", 24, 6),
+        (":000000G1FF", 24, 7),
+        (":0000000GFF", 24, 8),
+        (":00000001GF", 24, 9),
+        (":00000001FG", 24, 10),
+        (": 0000001FF", 24, 1),
+        (":00000001F ", 24, 10),
+        (":00000001F\r", 24, 10),
+    ]);
+}
+
+#[test]
+fn column_of_24_is_the_first_of_several() {
+    check_records(&[
+        (":GG000001FF", 24, 1),
+        (":0GG00001FF", 24, 2),
+        (":0G00000GFF", 24, 2),
+        (":G0000001FG", 24, 1),
+        (":00000001GG", 24, 9),
+        (":GGGGGGGGGG", 24, 1),
+        (":000\r0\n01FF", 24, 4),
+    ]);
+}
+
+#[test]
+fn column_of_24_at_a_colon_and_at_a_nul() {
+    check_records(&[
+        ("::0000001FF", 24, 1),
+        (":0000:001FF", 24, 5),
+        (":00000001F:", 24, 10),
+        ("::00000001FFF", 24, 1),
+        (":\x000000001FF", 24, 1),
+        (":000\x000001FF", 24, 4),
+        (":00000001F\0", 24, 10),
+        (":0000\0:01FF", 24, 5),
+        (":0000:\x0001FF", 24, 5),
+    ]);
+}
+
+#[test]
+fn column_of_24_before_count_checksum_type_and_shape() {
+    check_records(&[
+        (":01000001FG", 24, 10),
+        (":FG00000001", 24, 2),
+        (":000000G6FF", 24, 7),
+        (":0000010/FE", 24, 8),
+        (&long_line(":FF00000g", "01"), 24, 8),
+        (&long_line(":FF000000", "G1"), 24, 519),
+        (&long_line(":FF000000", "0G"), 24, 520),
+    ]);
+}
+
+#[test]
+fn each_character_that_is_no_digit_is_a_column_of_24() {
+    let mut reading = Reading::new();
+    for place in 1..=10 {
+        let others = (0..=255u8).filter(|character| !character.is_ascii_hexdigit());
+        for character in others {
+            let mut line = *b":00000001FF";
+            line[place] = character;
+            assert_eq!(reading.take(&line), (24, place), "{character:02X}");
+        }
+    }
+}
+
+#[test]
+fn column_of_25_is_the_length_of_the_line() {
+    check_records(&[
+        (":01000000FF", 25, 11),
+        (":FF00000001", 25, 11),
+        (":02000006FF", 25, 11),
+        (":00000001FFFF", 25, 13),
+        (":010000001234B8", 25, 15),
+        (":030000001234B7", 25, 15),
+        (&long_line(":00000000", "00"), 25, 521),
+        (&long_line(":FE000000", "02"), 25, 521),
+        (&long_line(":FF0000", "01"), 25, 519),
+    ]);
+}
+
+#[test]
+fn column_of_26_is_the_first_digit_of_the_checksum() {
+    check_records(&[
+        (":00000001FE", 26, 9),
+        (":00000001EF", 26, 9),
+        (":0100000012EC", 26, 11),
+        (":020000001234B9", 26, 13),
+        (":020000040108EA", 26, 13),
+        (":0200000212FFBD", 26, 13),
+        (":0401000090FFAA5502", 26, 17),
+        (&long_line(":FF000000", "02"), 26, 519),
+    ]);
+}
+
+#[test]
+fn column_of_26_wherever_the_wrong_digit_stands() {
+    check_records(&[
+        (":020000001235B8", 26, 13),
+        (":020000002234B8", 26, 13),
+        (":020100001234B8", 26, 13),
+        (":00000000FF", 26, 9),
+        (":00000006FF", 26, 9),
+        (":00000101FF", 26, 9),
+        (":0100000100FF", 26, 11),
+    ]);
+}
+
+#[test]
+fn column_of_27_is_the_first_digit_of_the_type() {
+    check_records(&[
+        (":00000006FA", 27, 7),
+        (":00000010F0", 27, 7),
+        (":000000FF01", 27, 7),
+        (":000000ff01", 27, 7),
+        (":00123406B4", 27, 7),
+        (":0100000600F9", 27, 7),
+        (":020000061234B2", 27, 7),
+        (&long_line(":FF000006", "FB"), 27, 7),
+    ]);
+}
+
+#[test]
+fn column_of_28_is_the_first_digit_of_the_count() {
+    check_records(&[
+        (":0100000100FE", 28, 1),
+        (":0100000200FD", 28, 1),
+        (":020000030000FB", 28, 1),
+        (":0100000400FB", 28, 1),
+        (":00000005FB", 28, 1),
+        (&long_line(":FF000001", "00"), 28, 1),
+    ]);
+}
+
+#[test]
+fn column_of_28_is_the_first_digit_of_the_address() {
+    check_records(&[
+        (":00000101FE", 28, 3),
+        (":00001001EF", 28, 3),
+        (":00010001FE", 28, 3),
+        (":00100001EF", 28, 3),
+        (":00FFFF0101", 28, 3),
+        (":020001020000FB", 28, 3),
+        (":0400010300000000F8", 28, 3),
+        (":021000040000EA", 28, 3),
+        (":0400010500000000F6", 28, 3),
+    ]);
+}
+
+#[test]
+fn column_of_28_is_that_of_the_count_where_both_are_wrong() {
+    check_records(&[
+        (":0100010100FD", 28, 1),
+        (":00100002EE", 28, 1),
+        (":0100010200FC", 28, 1),
+        (":020001030000FA", 28, 1),
+        (":03000104000000F8", 28, 1),
+        (":020001050000F8", 28, 1),
+        (&long_line(":FF000101", "FF"), 28, 1),
+    ]);
+}
+
+#[test]
+fn other_refusals_have_column_0() {
+    let lines = [
+        "",
+        ":0000",
+        ":0000000GFF",
+        ":01000000FF",
+        ":00000001FE",
+        ":00000006FA",
+        ":00000101FE",
+        ":00000001FF",
+    ];
+    let shorten: [fn(&mut Reading); 2] = [
+        |reading| reading.image.truncate(FLASH_BYTES - 1),
+        |reading| reading.map.truncate(MAP_BYTES - 1),
+    ];
+    for shorten in shorten {
+        let mut reading = Reading::new();
+        shorten(&mut reading);
+        let started = Reader::start(&mut reading.image, &mut reading.map);
+        assert_eq!(told(started), (20, 0));
+        for line in lines {
+            assert_eq!(reading.take(line.as_bytes()), (20, 0), "{line}");
+        }
+    }
+    let mut ended = Reading::of(&[":00000001FF"]);
+    for line in lines {
+        assert_eq!(ended.take(line.as_bytes()), (21, 0), "{line}");
+    }
+    assert_eq!(ended.close(), (32, 0));
+    let mut reading = Reading::of(&[":020000001234B8"]);
+    for (line, number) in [
+        (":02F7FF00000008", 29),
+        (":01F800000007", 29),
+        (":010001000AF4", 30),
+    ] {
+        assert_eq!(reading.take(line.as_bytes()), (number, 0), "{line}");
+    }
+    assert_eq!(reading.close(), (31, 0));
 }
 
 fn written(reading: &Reading) -> Vec<String> {
@@ -1100,15 +1375,141 @@ fn printed_listings() {
                 TOTAL 4\n";
     assert_eq!(listing::plan(b":020200001234B6\n:00000001FF\n"), plan);
     assert_eq!(listing::plan(b":020200001234B6\r\n:00000001FF"), plan);
-    assert_eq!(listing::plan(b""), "REFUSED 0 31\n");
-    assert_eq!(listing::plan(b"\n"), "REFUSED 1 22\n");
-    assert_eq!(listing::plan(b":00000001FF\n"), "REFUSED 0 32\n");
-    assert_eq!(listing::plan(b":00000001FF\n\n"), "REFUSED 2 21\n");
-    assert_eq!(listing::plan(b":00000001FF\r\r\n"), "REFUSED 1 23\n");
-    assert_eq!(listing::plan(b":00000001FF\r"), "REFUSED 1 23\n");
+    assert_eq!(listing::plan(b""), "REFUSED 0 31 0\n");
+    assert_eq!(listing::plan(b"\n"), "REFUSED 1 22 0\n");
+    assert_eq!(listing::plan(b":00000001FF\n"), "REFUSED 0 32 0\n");
+    assert_eq!(listing::plan(b":00000001FF\n\n"), "REFUSED 2 21 0\n");
+    assert_eq!(listing::plan(b":00000001FF\r\r\n"), "REFUSED 1 23 12\n");
+    assert_eq!(listing::plan(b":00000001FF\r"), "REFUSED 1 23 12\n");
     assert_eq!(
         listing::readlog(&[0, 8, 1, 0, 0, 4, 0, 4, 0, 2]),
         "VERSION 1 OUTCOME 0 ACKED 4 TOTAL 4 BYTES 2\n"
     );
     assert_eq!(listing::readlog(&[]), "REFUSED 50\n");
+}
+
+fn check_plans(cases: &[(&str, &str)]) {
+    for (text, printed) in cases {
+        let planned = listing::plan(text.as_bytes());
+        let head: String = text.chars().take(60).collect();
+        assert_eq!(planned, format!("{printed}\n"), "{head:?}");
+    }
+}
+
+#[test]
+fn plan_prints_the_column() {
+    check_plans(&[
+        ("x\n", "REFUSED 1 22 0"),
+        (":020200001234B6\n:0000\n", "REFUSED 2 23 5"),
+        (":020200001234B6\r\n:0000000GFF\r\n", "REFUSED 2 24 8"),
+        (":0000000\0FF\n", "REFUSED 1 24 8"),
+        (":010000001234B8\n:00000001FF\n", "REFUSED 1 25 15"),
+        (":020000001234B9\n", "REFUSED 1 26 13"),
+        (":0000000000\n:00000006FA\n", "REFUSED 2 27 7"),
+        (":0100000100FE\n", "REFUSED 1 28 1"),
+        (":00000101FE\n", "REFUSED 1 28 3"),
+        (":0100010100FD\n", "REFUSED 1 28 1"),
+    ]);
+}
+
+#[test]
+fn plan_prints_column_0_for_other_refusals() {
+    check_plans(&[
+        (":00000001FF\n:0000\n", "REFUSED 2 21 0"),
+        (
+            ":020000001234B8\n:0000000000\n:02F7FF00000008\n",
+            "REFUSED 3 29 0",
+        ),
+        (":020000001234B8\n:010001000AF4\n", "REFUSED 2 30 0"),
+        (":020000001234B8\n", "REFUSED 0 31 0"),
+        (":00000001FF", "REFUSED 0 32 0"),
+    ]);
+}
+
+#[test]
+fn plan_drops_one_0d_and_only_before_0a() {
+    check_plans(&[
+        (":00000001F\n", "REFUSED 1 23 10"),
+        (":00000001F\r\n", "REFUSED 1 23 10"),
+        (":00000001F\r\r\n", "REFUSED 1 24 10"),
+        (":00000001F\r", "REFUSED 1 24 10"),
+        (":00000001FF\r\r\n", "REFUSED 1 23 12"),
+        (":00000001FF\r\r\r\n", "REFUSED 1 24 11"),
+        (":00000001FF\r", "REFUSED 1 23 12"),
+        (":00000001FF\r\r", "REFUSED 1 24 11"),
+        (":00000001FF\r0\n", "REFUSED 1 24 11"),
+        (":00000001FF\r:00000001FF\n", "REFUSED 1 24 11"),
+    ]);
+}
+
+#[test]
+fn plan_of_empty_lines_and_of_a_colon_alone() {
+    check_plans(&[
+        ("\n", "REFUSED 1 22 0"),
+        ("\r\n", "REFUSED 1 22 0"),
+        ("\r\r\n", "REFUSED 1 22 0"),
+        ("\r", "REFUSED 1 22 0"),
+        (":020200001234B6\n\n", "REFUSED 2 22 0"),
+        (":", "REFUSED 1 23 1"),
+        (":\n", "REFUSED 1 23 1"),
+        (":\r\n", "REFUSED 1 23 1"),
+        (":\r\r\n", "REFUSED 1 23 2"),
+        (":\r", "REFUSED 1 23 2"),
+    ]);
+}
+
+/// Line ends, each with how many characters of it are the line's.
+const LINE_ENDS: [(&str, usize); 7] = [
+    ("\n", 0),
+    ("\r\n", 0),
+    ("\r\r\n", 1),
+    ("\r\r\r\n", 2),
+    ("", 0),
+    ("\r", 1),
+    ("\r\r", 2),
+];
+
+#[test]
+fn plan_counts_the_whole_of_a_long_line() {
+    for length in [522, 523, 524, 525, 600, 1000, 5000, 65_536, 70_000] {
+        let digits = "0".repeat(length - 1);
+        for (end, more) in LINE_ENDS {
+            let (line, column) = (format!(":{digits}{end}"), length + more);
+            check_plans(&[
+                (&line, &format!("REFUSED 1 23 {column}")),
+                (
+                    &format!(":020200001234B6\r\n{line}"),
+                    &format!("REFUSED 2 23 {column}"),
+                ),
+                (
+                    &format!(":020200001234B6\n:00000001FF\n{line}"),
+                    "REFUSED 3 21 0",
+                ),
+                (&format!("0{digits}{end}"), "REFUSED 1 22 0"),
+            ]);
+        }
+    }
+}
+
+#[test]
+fn plan_of_a_line_of_521_characters() {
+    let line = long_line(":FE000000", "02");
+    for (end, more) in LINE_ENDS {
+        let printed = match more {
+            0 => "REFUSED 1 25 521",
+            1 => "REFUSED 1 23 522",
+            _ => "REFUSED 1 23 523",
+        };
+        check_plans(&[(&format!("{line}{end}"), printed)]);
+    }
+}
+
+#[test]
+fn plan_of_ten_million_digits() {
+    let digits = "0".repeat(10_000_000);
+    check_plans(&[
+        (&format!(":{digits}"), "REFUSED 1 23 10000001"),
+        (&format!(":{digits}\r\n"), "REFUSED 1 23 10000001"),
+        (&digits, "REFUSED 1 22 0"),
+    ]);
 }

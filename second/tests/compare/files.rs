@@ -6,6 +6,7 @@ use second::listing::hex_digits;
 use second::packet::checksum;
 use second::units::{FLASH_END, MAP_BYTES};
 
+use crate::damage;
 use crate::maps;
 use crate::pair::Pair;
 use crate::random::Random;
@@ -25,6 +26,7 @@ pub fn compare(pair: &mut Pair) {
         pair.fill_buffer(buffer, 0x5A);
     }
     shapes(pair, &mut random);
+    damage::compare(pair, &mut random);
     for _ in 0..FILES {
         file(pair, &mut random);
     }
@@ -47,13 +49,18 @@ pub fn compare(pair: &mut Pair) {
     }
 }
 
-/// Each type that has a shape, with counts and addresses on each side of it.
+/// Each type that has a shape, with counts and addresses on each side of it,
+/// and each type that is none.
 fn shapes(pair: &mut Pair, random: &mut Random) {
     let state = pair.hex(IMAGE, MAP);
-    for kind in 1..=5 {
-        for length in 0..=6 {
-            for address in [0, 1, 0x100] {
-                let text = encoded(address, kind, &random.bytes(length));
+    for kind in 1..=255 {
+        let lengths = match kind {
+            1..=5 => &[0, 1, 2, 3, 4, 5, 6, 16, 254, 255][..],
+            _ => &[0, 2],
+        };
+        for length in lengths {
+            for address in [0, 1, 0x10, 0x100, 0x1000, 0xFFFF] {
+                let text = encoded(address, kind, &random.bytes(*length));
                 pair.record(state, &text, IMAGE, MAP);
             }
         }
@@ -229,10 +236,14 @@ pub fn start_record(random: &mut Random) -> Vec<u8> {
 }
 
 pub fn encoded(address: u16, kind: u8, data: &[u8]) -> Vec<u8> {
-    let mut bytes = vec![data.len() as u8];
-    bytes.extend(address.to_be_bytes());
-    bytes.push(kind);
-    bytes.extend(data);
+    let [high, low] = address.to_be_bytes();
+    let head = [data.len() as u8, high, low, kind];
+    summed(head.iter().chain(data).copied())
+}
+
+/// A record of these bytes and their checksum.
+pub fn summed(bytes: impl Iterator<Item = u8>) -> Vec<u8> {
+    let mut bytes: Vec<u8> = bytes.collect();
     bytes.push(checksum(&bytes));
     format!(":{}", hex_digits(&bytes)).into_bytes()
 }

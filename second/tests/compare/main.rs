@@ -3,6 +3,7 @@
 //! programs must have been built. With `--nocapture` the counts are printed.
 
 mod caselines;
+mod damage;
 mod examples;
 mod files;
 mod loaders;
@@ -10,6 +11,7 @@ mod logs;
 mod maps;
 mod packets;
 mod pair;
+mod plans;
 mod programs;
 mod random;
 mod rehearsals;
@@ -29,6 +31,8 @@ type Compare = fn(&mut Pair);
 const OFTEN: u64 = 100;
 /// The same of each program, which is started anew for each input.
 const OFTEN_IN_PROGRAMS: u64 = 5;
+/// How often each listed column must be seen that is not the same in every line.
+const OFTEN_IN_COLUMNS: u64 = 2;
 
 const PARTS: [(&str, Compare); 7] = [
     ("packet", packets::compare),
@@ -58,6 +62,8 @@ fn library() {
     }
     println!("{:10} {:7} {}", "all", whole.compared, whole.line());
     whole.check(&tally::LIBRARY, OFTEN);
+    whole.check_columns(&tally::FIXED_COLUMNS, OFTEN);
+    whole.check_columns(&tally::RECORD_COLUMNS, OFTEN_IN_COLUMNS);
 }
 
 #[test]
@@ -65,6 +71,8 @@ fn plan() {
     let tally = programs::compare_plan();
     println!("plan: {} texts {}", tally.compared, tally.line());
     tally.check(&tally::PLAN, OFTEN_IN_PROGRAMS);
+    tally.check_columns(&tally::FIXED_COLUMNS, OFTEN_IN_PROGRAMS);
+    tally.check_columns(&tally::PLAN_COLUMNS, OFTEN_IN_COLUMNS);
 }
 
 #[test]

@@ -192,10 +192,21 @@ impl Pair {
         (bytes_of(&taken), self.desk.loader())
     }
 
+    /// Calls the hex reader and gives the number; the only value of a refusal
+    /// is its column.
+    fn read_hex(&mut self, function: &'static str, line: impl Into<Vec<u8>>) -> u8 {
+        let answer = self.call(function, line);
+        self.given(&answer, "reader");
+        if let [column] = &answer.values[..] {
+            let column = column.parse().expect("a column");
+            self.tally.column(answer.number, column);
+        }
+        answer.number
+    }
+
     pub fn hex(&mut self, image: Part, map: Part) -> ReaderRecord {
         self.lend_file(image, map);
-        let answer = self.call("hex", "hex");
-        self.given(&answer, "reader");
+        self.read_hex("hex", "hex");
         self.desk.reader()
     }
 
@@ -212,16 +223,13 @@ impl Pair {
             true => format!("line {}", hex_digits(text)).into_bytes(),
             false => [b"record ", text].concat(),
         };
-        let answer = self.call("record", line);
-        self.given(&answer, "reader");
-        (answer.number, self.desk.reader())
+        let number = self.read_hex("record", line);
+        (number, self.desk.reader())
     }
 
     pub fn close_file(&mut self, record: ReaderRecord) -> u8 {
         self.set_reader(record);
-        let answer = self.call("close", "close");
-        self.given(&answer, "reader");
-        answer.number
+        self.read_hex("close", "close")
     }
 
     /// The characters written without their line end, and where to go on;

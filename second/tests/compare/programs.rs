@@ -6,14 +6,19 @@ use std::thread;
 
 use second::listing;
 
+use crate::damage;
 use crate::examples;
 use crate::files;
+use crate::plans;
 use crate::random::Random;
 use crate::root;
 use crate::tally::Tally;
+use crate::wire;
 
 const PLANS: u32 = 700;
 const LOGS: u32 = 400;
+/// How much of an input a message shows; a text may have millions of bytes.
+const SHOWN: usize = 20_000;
 
 /// What a program prints for an input.
 fn printed(path: &str, input: &[u8]) -> Vec<u8> {
@@ -39,10 +44,11 @@ fn alike(path: &str, input: &[u8], expected: &[u8]) {
     let given = printed(path, input);
     if given != expected {
         panic!(
-            "{path} differs\ninput    {:?}\nexpected {:?}\ngiven    {:?}",
-            String::from_utf8_lossy(input),
-            String::from_utf8_lossy(expected),
-            String::from_utf8_lossy(&given)
+            "{path} differs\ninput    {:?} of {} bytes\nexpected {:?}\ngiven    {:?}",
+            wire::head(input, SHOWN),
+            input.len(),
+            wire::head(expected, SHOWN),
+            wire::head(&given, SHOWN)
         );
     }
 }
@@ -52,6 +58,7 @@ pub fn compare_plan() -> Tally {
     let fixed: [&[u8]; 4] = [b"", b"\n", b"\r\n", b":020200001234B6\n:00000001FF\n"];
     let mut texts: Vec<Vec<u8>> = fixed.map(<[u8]>::to_vec).into();
     texts.extend(examples::texts());
+    texts.extend(plans::texts());
     texts.extend((0..PLANS).map(|_| plan_text(&mut random)));
     for (with, without) in examples::started() {
         // a start address changes nothing
@@ -72,19 +79,25 @@ fn compare(name: &'static str, listing: fn(&[u8]) -> String, inputs: &[Vec<u8>])
     for input in inputs {
         let expected = listing(input);
         alike(&format!("target/bin/{name}"), input, expected.as_bytes());
-        tally.count(name, number(&expected));
+        count(&mut tally, name, &expected);
     }
     tally
 }
 
-/// The number of a refusal, the last word of its line; 0 where there is none.
-fn number(printed: &str) -> u8 {
-    match printed.trim_end().strip_prefix("REFUSED ") {
-        Some(words) => {
-            let last = words.split(' ').next_back().expect("a word");
-            last.parse().expect("a number")
+/// Counts what was printed: behind `REFUSED` readlog has the number alone, plan
+/// the line, the number and the column.
+fn count(tally: &mut Tally, name: &'static str, printed: &str) {
+    let Some(words) = printed.trim_end().strip_prefix("REFUSED ") else {
+        return tally.count(name, 0);
+    };
+    let words = words.split(' ').map(|word| word.parse().expect("a number"));
+    match words.collect::<Vec<usize>>()[..] {
+        [number] => tally.count(name, number as u8),
+        [_, number, column] => {
+            tally.count(name, number as u8);
+            tally.column(number as u8, column);
         }
-        None => 0,
+        _ => panic!("{name} printed {printed}"),
     }
 }
 
@@ -155,10 +168,8 @@ fn data_records(random: &mut Random) -> Vec<Vec<u8>> {
 /// Any record, or a line longer than every record.
 fn odd_record(random: &mut Random) -> Vec<u8> {
     if random.once_in(6) {
-        let digits = random.pick(&[521, 522, 523, 1000, 5000]);
-        let mut line = vec![b'0'; digits];
-        line[0] = b':';
-        return line;
+        let length = random.pick(&[521, 522, 523, 1000, 5000]);
+        return damage::filled(length, b':', b'0');
     }
     files::text(random)
 }

@@ -1,7 +1,8 @@
-//! What was compared: how many calls, and how often each function gave each
-//! number.
+//! What was compared: how many calls, how often each function gave each
+//! number, and how often each hex refusal had each column.
 
 use std::collections::BTreeMap;
+use std::fmt::Display;
 
 /// Each function and the numbers that it can give, 0 where it was done; the
 /// endings that steps give and those that are read off; the marks.
@@ -34,14 +35,34 @@ pub const PLAN: [(&str, &[u8]); 1] =
     [("plan", &[0, 21, 22, 23, 24, 25, 26, 27, 28, 29, 30, 31, 32])];
 pub const READLOG: [(&str, &[u8]); 1] = [("readlog", &[0, 50, 51, 52, 53])];
 
+/// The columns of the refusals that have the same in every line.
+pub const FIXED_COLUMNS: [(u8, &[usize]); 3] = [(22, &[0]), (27, &[7]), (28, &[1, 3])];
+/// Some columns of the others, the lowest and the highest that a record's line
+/// can have among them.
+pub const RECORD_COLUMNS: [(u8, &[usize]); 4] = [
+    (23, &[1, 2, 9, 10, 12, 518, 520, 522, 523, 530, 70_000]),
+    (24, &[1, 2, 3, 6, 7, 8, 9, 10, 14, 518, 519, 520]),
+    (25, &[11, 13, 15, 519, 521]),
+    (26, &[9, 11, 13, 517, 519]),
+];
+/// The same for `plan`.
+pub const PLAN_COLUMNS: [(u8, &[usize]); 4] = [
+    (23, &[1, 10, 522, 523, 524, 1000, 5000, 70_000, 10_000_001]),
+    (24, &[1, 2, 3, 6, 7, 8, 9, 13, 14]),
+    (25, &[11, 13, 15, 521]),
+    (26, &[9, 13]),
+];
+
 #[derive(Clone, Debug, Default)]
 pub struct Tally {
     pub compared: u64,
-    calls: Counts,
-    notes: Counts,
+    calls: Counts<(&'static str, u8)>,
+    notes: Counts<(&'static str, u8)>,
+    /// Under a refusal's number and its column.
+    columns: Counts<(u8, usize)>,
 }
 
-type Counts = BTreeMap<(&'static str, u8), u64>;
+type Counts<Key> = BTreeMap<Key, u64>;
 
 impl Tally {
     /// Counts one comparison of a function that gave this number.
@@ -55,48 +76,77 @@ impl Tally {
         add(&mut self.notes, (what, value), 1);
     }
 
-    pub fn add(&mut self, other: &Tally) {
-        self.compared += other.compared;
-        for (counts, more) in [
-            (&mut self.calls, &other.calls),
-            (&mut self.notes, &other.notes),
-        ] {
-            for (key, often) in more {
-                add(counts, *key, *often);
-            }
-        }
+    /// Counts the column of a hex refusal.
+    pub fn column(&mut self, number: u8, column: usize) {
+        add(&mut self.columns, (number, column), 1);
     }
 
-    /// How often each number was seen, then each other value, in one line.
+    pub fn add(&mut self, other: &Tally) {
+        self.compared += other.compared;
+        join(&mut self.calls, &other.calls);
+        join(&mut self.notes, &other.notes);
+        join(&mut self.columns, &other.columns);
+    }
+
+    /// How often each number was seen, then each other value, then how many
+    /// columns each refusal had, in one line.
     pub fn line(&self) -> String {
-        let mut numbers = BTreeMap::new();
+        let (mut numbers, mut columns) = (Counts::new(), Counts::new());
         for ((_, number), often) in &self.calls {
-            *numbers.entry(number).or_insert(0) += often;
+            add(&mut numbers, number, *often);
+        }
+        for (number, _) in self.columns.keys() {
+            add(&mut columns, number, 1);
         }
         let numbers = numbers.into_iter();
         let numbers = numbers.map(|(number, often)| format!(" {number}:{often}"));
         let notes = self.notes.iter();
         let notes = notes.map(|((what, value), often)| format!(" {what} {value}:{often}"));
-        numbers.chain(notes).collect()
+        let columns = columns.into_iter();
+        let columns = columns.map(|(number, many)| format!(" columns {number}:{many}"));
+        numbers.chain(notes).chain(columns).collect()
     }
 
     /// Each of these must have been seen so often.
     pub fn check(&self, expected: &[(&'static str, &[u8])], often: u64) {
-        let mut rare = Vec::new();
-        for (what, numbers) in expected {
-            for number in *numbers {
-                let key = (*what, *number);
-                let seen = self.calls.get(&key).or(self.notes.get(&key));
-                let seen = seen.copied().unwrap_or(0);
-                if seen < often {
-                    rare.push(format!("{what} gave {number} {seen} times"));
-                }
-            }
-        }
-        assert!(rare.is_empty(), "{}", rare.join(", "));
+        check("gave", expected, often, |key| {
+            self.calls.get(key).or(self.notes.get(key))
+        });
+    }
+
+    /// Each of these columns must have been seen so often.
+    pub fn check_columns(&self, expected: &[(u8, &[usize])], often: u64) {
+        check("had column", expected, often, |key| self.columns.get(key));
     }
 }
 
-fn add(counts: &mut Counts, key: (&'static str, u8), often: u64) {
+fn add<Key: Ord>(counts: &mut Counts<Key>, key: Key, often: u64) {
     *counts.entry(key).or_default() += often;
+}
+
+fn join<Key: Copy + Ord>(counts: &mut Counts<Key>, more: &Counts<Key>) {
+    for (key, often) in more {
+        add(counts, *key, *often);
+    }
+}
+
+fn check<'a, What, Value>(
+    verb: &str,
+    expected: &[(What, &[Value])],
+    often: u64,
+    seen: impl Fn(&(What, Value)) -> Option<&'a u64>,
+) where
+    What: Copy + Display,
+    Value: Copy + Display,
+{
+    let mut rare = Vec::new();
+    for (what, values) in expected {
+        for value in *values {
+            let seen = seen(&(*what, *value)).copied().unwrap_or(0);
+            if seen < often {
+                rare.push(format!("{what} {verb} {value} {seen} times"));
+            }
+        }
+    }
+    assert!(rare.is_empty(), "{}", rare.join(", "));
 }

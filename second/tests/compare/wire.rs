@@ -107,17 +107,17 @@ fn check(output: ChildStdout, lines: Receiver<Vec<u8>>) -> Result<(), String> {
 }
 
 fn difference(before: &VecDeque<Vec<u8>>, expected: &[u8], given: &[u8]) -> String {
-    let before: Vec<String> = before.iter().map(|line| head(line)).collect();
+    let before: Vec<String> = before.iter().map(|line| head(line, SHOWN)).collect();
     format!(
         "{PROGRAM} differs\n{}\nexpected {}\ngiven    {}",
         before.join("\n"),
-        head(expected),
-        head(given)
+        head(expected, SHOWN),
+        head(given, SHOWN)
     )
 }
 
-/// A line as far as it is shown.
-fn head(line: &[u8]) -> String {
-    let shown = &line[..line.len().min(SHOWN)];
+/// What a message shows of some bytes.
+pub fn head(bytes: &[u8], most: usize) -> String {
+    let shown = &bytes[..bytes.len().min(most)];
     String::from_utf8_lossy(shown).into_owned()
 }
