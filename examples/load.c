@@ -7,32 +7,42 @@ static uint8_t image[GREMOLUNDE_IMAGE], map[GREMOLUNDE_MAP], flash[GREMOLUNDE_FL
 static uint8_t packet[GREMOLUNDE_PACKET], answer[GREMOLUNDE_ANSWER], record[GREMOLUNDE_LOG];
 static gremolunde_loader board;
 
+/* More characters than any record has. */
+enum { KEPT = 600 };
+
 static int say(const char *what, uint32_t number) {
     fprintf(stderr, "%s: %lu\n", what, (unsigned long)number);
     return 1;
 }
 
-/* The next line without its end, or 0; of a line that is longer than any record the rest is left out. */
-static int next_line(FILE *file, uint8_t line[600], size_t *length) {
-    int c;
-    for (*length = 0; (c = getc(file)) != EOF;) {
+/* The next line without its end, or 0: its whole length, and as many of its characters as are kept. */
+static int next_line(FILE *file, uint8_t line[KEPT], size_t *length) {
+    int c, last = EOF;
+    for (*length = 0; (c = getc(file)) != EOF; last = c) {
         if (c == '\n') {
-            *length -= *length > 0 && line[*length - 1] == '\r';
+            *length -= last == '\r';
             return 1;
         }
-        if (*length < 600) {
-            line[(*length)++] = (uint8_t)c;
+        if (*length < KEPT) {
+            line[*length] = (uint8_t)c;
         }
+        ++*length;
     }
     return *length > 0;
 }
 
+/* The number that the file is refused with, 0 if it is taken; says which line is wrong, and where. */
 static uint32_t read_file(FILE *file) {
-    uint8_t line[600];
-    size_t length;
+    uint8_t line[KEPT];
+    size_t length, lines = 0;
     gremolunde_hex_read read = gremolunde_hex_start(image, sizeof image, map, sizeof map);
-    while (read.number == 0 && next_line(file, line, &length)) {
-        read = gremolunde_hex_record(read.reader, line, length, image, sizeof image, map, sizeof map);
+    for (; read.number == 0 && next_line(file, line, &length); ++lines) {
+        read = gremolunde_hex_record(read.reader, line, length < KEPT ? length : KEPT, image, sizeof image, map,
+                                     sizeof map);
+        if (read.number != 0) {
+            /* 23 has the length of the whole line, of which the reader saw no more than was kept */
+            fprintf(stderr, "line %zu, column %zu\n", lines + 1, read.number == 23 ? length : read.column);
+        }
     }
     return read.number != 0 ? read.number : gremolunde_hex_close(read.reader).number;
 }

@@ -29,7 +29,7 @@ extern "C" {
 #endif
 
 /* Rises when a struct changes, or what a number in one means. */
-#define GREMOLUNDE_VERSION 1
+#define GREMOLUNDE_VERSION 2
 
 /* The sizes that the paper asks for, in bytes: flash, image and map exactly so, the others at least so. */
 #define GREMOLUNDE_FLASH 63488
@@ -108,9 +108,10 @@ typedef struct gremolunde_taken {
     gremolunde_loader loader;
 } gremolunde_taken;
 
-/* The next hex reader. */
+/* The next hex reader. A refusal from 22 to 28 has the column where its line is wrong, counted from 0. */
 typedef struct gremolunde_hex_read {
     uint32_t number;
+    size_t column;
     gremolunde_hex reader;
 } gremolunde_hex_read;
 
@@ -179,7 +180,10 @@ gremolunde_taken gremolunde_loader_take(gremolunde_loader loader, const uint8_t 
 gremolunde_hex_read gremolunde_hex_start(uint8_t *image, size_t image_length, uint8_t *map, size_t map_length);
 
 /* Takes one record, its line end removed. 20 to 30. Of the types 01 to 05, BB is 0 for 01, 2 for 02 and 04, 4 for 03
- * and 05, whose start address is checked and ignored; AAAA is 0 for all five, else 28. */
+ * and 05, whose start address is checked and ignored; AAAA is 0 for all five, else 28. The column of 22 is 0, that of
+ * 23 and 25 `line_length`, of 24 the first character behind the colon that is no digit, of 26 the checksum's first
+ * digit, of 27 the type's (7), of 28 the count's (1) if the count is wrong, else the address's (3); other refusals
+ * have column 0. */
 gremolunde_hex_read gremolunde_hex_record(gremolunde_hex reader, const uint8_t *line, size_t line_length,
                                           uint8_t *image, size_t image_length, uint8_t *map, size_t map_length);
 
