@@ -209,14 +209,13 @@ impl Text {
     fn ended(self) -> usize
         ensures { λ r. ⌜ r ≡ endedLength self ⌝ }
     {
-        let n = self.len;
         if self.last != 0x0D {
-            return n;
+            return self.len;
         }
-        if n == 0 {
-            return n;
+        if self.len == 0 {
+            return 0;
         }
-        n - 1
+        self.len - 1
     }
 
     // What stands after the last 0A; nothing is no line.
