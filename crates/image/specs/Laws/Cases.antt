@@ -1,22 +1,26 @@
--- The records of the paper's cases, and start records, read by a fresh reader on a board of 272 bytes.
+-- The records of the paper's cases, start records and columns, read by a fresh reader on a board of 272 bytes.
 use Prim.Native.Nat.{ℕ, _*_}
 use mathlib.Core.Bool.{Bool, true, false}
-use mathlib.Core.List.{List, [], _∷_}
+use mathlib.Core.List.{List, [], _∷_, _++_}
 use mathlib.Core.Path.{_≡_, refl}
 use lib.Dec.{eqb}
-use lib.ListN.{getD, replicate}
+use lib.ListN.{getD, set, replicate}
 use Rattle.basis.specs.Choice.{both, all, any}
 use Rattle.basis.specs.Refusals.{Answer, refused, given, first}
 use Rattle.basis.specs.Sums.{plainSum, sumOf}
 use Rattle.image.specs.Digits.{digitOf, digitsBefore, decoded}
 use Rattle.basis.specs.Lists.{stored}
 use Rattle.image.specs.Hex.{File, fresh, recordIn}
+use Rattle.image.specs.Record.{columnOf, Pointed, wrong, right, pointed}
 use Rattle.image.specs.Writer.{letterOf, spelt}
 use Rattle.runs.specs.Map.{named, nameOf, nameAllOf}
 
--- a record of these bytes, read
+-- a line, read, and a record of these bytes
+abbrev onLine : List ℕ → Answer File
+onLine l = recordIn 272 fresh l (replicate 272 0xFF) (replicate 34 0)
+
 abbrev on : List ℕ → Answer File
-on b = recordIn 272 fresh (0x3A ∷ spelt b) (replicate 272 0xFF) (replicate 34 0)
+on b = onLine (0x3A ∷ spelt b)
 
 -- the number of its refusal, or 0
 abbrev number : Answer File → ℕ
@@ -36,6 +40,18 @@ linear (given f) = f .reader .linear
 abbrev unchanged : Answer File → Bool
 unchanged (refused n) = false
 unchanged (given f) = both (eqb (plainSum (f .image)) (272 * 0xFF)) (eqb (plainSum (f .map)) 0)
+
+-- refused with this number and this column
+abbrev told : ℕ → ℕ → Pointed File → Bool
+told n c (wrong k d) = both (eqb k n) (eqb d c)
+told n c (right f) = false
+
+abbrev wrongAt : ℕ → ℕ → List ℕ → Bool
+wrongAt n c l = told n c (pointed l (onLine l))
+
+-- :00000001FF
+abbrev endLine : List ℕ
+endLine = 0x3A ∷ spelt (0x00 ∷ 0x00 ∷ 0x00 ∷ 0x01 ∷ 0xFF ∷ [])
 
 abbrev cases : List Bool
 cases =
@@ -60,11 +76,25 @@ cases =
     ∷ eqb (number (on (0x02 ∷ 0x00 ∷ 0x00 ∷ 0x05 ∷ 0x00 ∷ 0x00 ∷ 0xF9 ∷ []))) 28
     -- data of count 0 at 0xFFFF is accepted and changes nothing
     ∷ unchanged (on (0x00 ∷ 0xFF ∷ 0xFF ∷ 0x00 ∷ 0x02 ∷ []))
-    -- the board's last byte is taken, one more is 29
+    -- the board's last byte is taken, one more is 29, which has no column
     ∷ eqb (number (on (0x01 ∷ 0x01 ∷ 0x0F ∷ 0x00 ∷ 0x00 ∷ 0xEF ∷ []))) 0
-    ∷ eqb (number (on (0x02 ∷ 0x01 ∷ 0x0F ∷ 0x00 ∷ 0x00 ∷ 0x00 ∷ 0xEE ∷ []))) 29
+    ∷ wrongAt 29 0 (0x3A ∷ spelt (0x02 ∷ 0x01 ∷ 0x0F ∷ 0x00 ∷ 0x00 ∷ 0x00 ∷ 0xEE ∷ []))
+    -- the colon's place; the line's length, a 0D and a wrong count
+    ∷ wrongAt 22 0 (set endLine 0 0x58)
+    ∷ wrongAt 23 12 (endLine ++ (0x0D ∷ []))
+    ∷ wrongAt 25 11 (set endLine 2 0x31)
+    -- the first bad character: the last of the line, the first of two
+    ∷ wrongAt 24 10 (set endLine 10 0x47)
+    ∷ wrongAt 24 1 (set (set endLine 1 0x47) 2 0x47)
+    -- the checksum's first digit; the type's
+    ∷ wrongAt 26 9 (set endLine 10 0x45)
+    ∷ wrongAt 27 7 (0x3A ∷ spelt (0x00 ∷ 0x00 ∷ 0x00 ∷ 0x06 ∷ 0xFA ∷ []))
+    -- the count's first digit, also where the address is wrong too; the address's
+    ∷ wrongAt 28 1 (0x3A ∷ spelt (0x01 ∷ 0x00 ∷ 0x00 ∷ 0x01 ∷ 0x00 ∷ 0xFE ∷ []))
+    ∷ wrongAt 28 1 (0x3A ∷ spelt (0x01 ∷ 0x00 ∷ 0x01 ∷ 0x01 ∷ 0x00 ∷ 0xFD ∷ []))
+    ∷ wrongAt 28 3 (0x3A ∷ spelt (0x00 ∷ 0x00 ∷ 0x01 ∷ 0x01 ∷ 0xFE ∷ []))
     ∷ []
 
 pub record-cases : all cases ≡ true
-unfolding first recordIn digitOf digitsBefore decoded stored any nameAllOf named nameOf plainSum sumOf letterOf spelt
+unfolding first recordIn columnOf digitOf digitsBefore decoded stored any nameAllOf named nameOf plainSum sumOf letterOf spelt
 record-cases = refl
