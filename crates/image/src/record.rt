@@ -67,6 +67,7 @@ impl Refusal {
     }
 }
 
+// Passed, or a refusal and its column.
 pub enum Check {
     Passed,
     Refused(Refusal, usize),

@@ -39,22 +39,22 @@ fedAfter n o line = state (afterLine n (o .answer)) line (o .image) (o .map)
 abbrev pub nextLine : Text → ℕ
 nextLine t = (t .lines + 1) % 2 ^ 64
 
--- of a line of n bytes: the reader sees no more of it than is kept, but 23 has the column n
+-- of a line of n bytes the reader sees no more than the k that are kept: where these end for it, the line ends
 abbrev pub columnIn : ℕ → ℕ → ℕ → ℕ
-columnIn n k c = pick (eqb k 23) n c
+columnIn n k c = pick (eqb c k) n c
 
-abbrev pub wholly : ℕ → Pointed Hex → Pointed Hex
-wholly n (wrong k c) = wrong k (columnIn n k c)
-wholly n (right h) = right h
+abbrev pub wholly : ℕ → ℕ → Pointed Hex → Pointed Hex
+wholly n k (wrong x c) = wrong x (columnIn n k c)
+wholly n k (right h) = right h
 
-abbrev pub settledWholly : ℕ → Settled → Settled
-settledWholly n o = settledAs (wholly n (o .answer)) (o .image) (o .map)
+abbrev pub settledWholly : ℕ → ℕ → Settled → Settled
+settledWholly n k o = settledAs (wholly n k (o .answer)) (o .image) (o .map)
 
 -- a line of n bytes, as many of them as the buffer holds, as the next record
 abbrev pub recordKept : ℕ → Hex → ℕ → List ℕ → List ℕ → List ℕ → Settled
 recordKept size h n line image map =
     let l = take n line in
-    settledWholly n (settled l (recordIn size h l image map) image map)
+    settledWholly n (length l) (settled l (recordIn size h l image map) image map)
 
 abbrev pub fedLine : ℕ → Text → ℕ → List ℕ → List ℕ → List ℕ → Fed
 fedLine size t n line image map =

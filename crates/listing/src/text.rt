@@ -4,7 +4,6 @@ ghost use Prim.Native.Nat.{_≤_};
 ghost use lib.ListN.{length, set};
 ghost use Rattle.basis.specs.Board.{flashSize};
 ghost use Rattle.image.specs.Hex.{settled, startIn};
-ghost use Rattle.image.specs.Paper.{paperRefusal};
 ghost use Rattle.image.specs.Record.{noLine};
 ghost use Rattle.listing.specs.Text.{going, lineRoom};
 ghost use Rattle.listing.specs.Feed.{state, afterLine, columnIn, fedLine, oneMore, withOpen, endedLength, fedByte, byteIn, feedIn, Keeps, lastIn, shutOf, closeIn};
@@ -242,7 +241,8 @@ impl Text {
         let hex = self.hex;
         // no text has 2^64 lines
         let at = std::num::wrapping_add_u64(self.lines, 1);
-        match hex.record(first(line, n), image, map) {
+        let kept = first(line, n);
+        match hex.record(kept, image, map) {
             Read::Taken(next) => Reading::Open(Text {
                 hex: next,
                 lines: at,
@@ -252,7 +252,7 @@ impl Text {
             Read::Refused(refusal, column) => Reading::Refused(Blame {
                 line: at,
                 refusal,
-                column: column_in(n, refusal, column),
+                column: column_in(n, kept.len(), column),
             }),
         }
     }
@@ -293,11 +293,11 @@ fn one_more(n: usize) -> usize
     n + 1
 }
 
-// 23 has the whole line's length, of which the reader saw no more than was kept.
-fn column_in(n: usize, refusal: Refusal, column: usize) -> usize
-    ensures { λ r. ⌜ r ≡ columnIn n (paperRefusal refusal) column ⌝ }
+// The reader sees no more of a line than is kept: where that ends for it, the whole line ends.
+fn column_in(n: usize, kept: usize, column: usize) -> usize
+    ensures { λ r. ⌜ r ≡ columnIn n kept column ⌝ }
 {
-    if refusal.number() == 23 {
+    if column == kept {
         return n;
     }
     column

@@ -1,17 +1,20 @@
 -- Two outcomes that a contract permits are equal: the paper's numbers and values tell all cases apart.
 use Prim.Native.Nat.{ℕ}
-use mathlib.Core.List.{List}
+use mathlib.Core.List.{List, _∷_}
 use mathlib.Core.Path.{_≡_, refl, sym, ap, _∙_}
 use lib.Dec.{eqb}
+use lib.ListN.{drop}
 use Rattle.basis.specs.Choice.{pick}
 use Rattle.basis.specs.Laws.Refusals.{apart, given-one, refused-one, back-one, determined}
-use Rattle.basis.specs.Lists.{overlay}
+use Rattle.basis.specs.Lists.{Bytes, overlay}
 use Rattle.basis.specs.Refusals.{Answer}
+use Rattle.image.specs.Digits.{decoded}
 use Rattle.image.specs.Hex.{Settled, settledAs}
 use Rattle.image.specs.Laws.Pointed.{pointed-apart, right-one, wrong-one}
+use Rattle.image.specs.Laws.Writer.{spelt-bytes}
 use Rattle.image.specs.Paper.{paperRefusal, paperCheck, paperRead, paperWritten}
-use Rattle.image.specs.Record.{Pointed}
-use Rattle.image.specs.Writer.{Step, measured, textBytes}
+use Rattle.image.specs.Record.{shapeOf, Pointed, pointed}
+use Rattle.image.specs.Writer.{Step, spelt, measured, textBytes}
 use Rattle.image.specs.declared.hex.Hex.{Hex}
 use Rattle.image.specs.declared.hex.Read.{Read}
 use Rattle.image.specs.declared.hex.Read.the-variants.{Taken, Refused}
@@ -69,6 +72,14 @@ check-one (check.Refused x c) (check.Refused y d) e =
 
 pub check-determined : {a : Pointed Unit} (r s : Check) → paperCheck r ≡ a → paperCheck s ≡ a → r ≡ s
 check-determined = determined paperCheck check-one
+
+-- the shape's word holds of every line that spells the bytes, and there is one
+pub shape-determined : (b : List ℕ) → Bytes b → (r s : Check)
+    → ((line : List ℕ) → b ≡ decoded (drop 1 line) → paperCheck r ≡ pointed line (shapeOf b))
+    → ((line : List ℕ) → b ≡ decoded (drop 1 line) → paperCheck s ≡ pointed line (shapeOf b))
+    → r ≡ s
+shape-determined b h r s p q =
+    let e = sym (spelt-bytes b h) in check-determined r s (p (0x3A ∷ spelt b) e) (q (0x3A ∷ spelt b) e)
 
 -- reading
 read-one : (r s : Read) → paperRead r ≡ paperRead s → r ≡ s

@@ -9,7 +9,7 @@ use lib.ListN.{length, getD, take, drop, length-drop}
 use lib.Seq.{take-at}
 use borrow.Author.Tests.{eq-eqb, ne-eqb, le-ltb, eqb-true, eqb-false, ltb-false, not-false}
 use Rattle.basis.specs.Units.{rightSizesIn}
-use Rattle.basis.specs.Choice.{pick, both, either}
+use Rattle.basis.specs.Choice.{pick, either}
 use Rattle.basis.specs.Refusals.{given, first, andThen}
 use Rattle.basis.specs.Laws.Refusals.{given-one, passed, through, first-then}
 use Rattle.basis.specs.Lists.{Bytes, copyOf}
@@ -18,7 +18,7 @@ use Rattle.basis.specs.Sums.{plainSum, sumOf}
 use Rattle.image.specs.Digits.{digitOf, digitsBefore, firstBad, decoded}
 use Rattle.image.specs.Writer.{letterOf, spelt, line}
 use Rattle.image.specs.Laws.Writer.{length-spelt, spelt-digits, spelt-bytes}
-use Rattle.basis.specs.Laws.Choice.{decide, pick-second, both-true, both-no, either-none}
+use Rattle.basis.specs.Laws.Choice.{decide, pick-second, both-no, either-none}
 use Rattle.image.specs.Record.{count, kind, address, recordLeast, recordMost, noColon, lengthWrong, notDigits, countWrong, isData, kindWrong, isStart, countFor, shapeWrong, characterRows, byteRows, shapeRows, charactersOf, decodedBytes, framingOf, shapeOf}
 use Rattle.image.specs.Hex.{File, hex, file, effect, place, placeRows, namedBefore, placed, otherOf, recordIn, applyIn, dataIn}
 use Rattle.image.specs.declared.hex.Hex.{Hex}

@@ -40,27 +40,29 @@ module _ (size : ℕ) (h : Hex) (image map : List ℕ) where
       rw (ne-eqb _ _ some, le-ltb _ _ least, lt-ltb _ _ g)
 
   -- whatever is kept of it
-  long-settled : (k l : List ℕ) (s e n : Bool)
-      → settledWholly (length l) (settled k (early s e n) image map) ≡ settled l (early s e n) image map
+  long-settled : (k l : List ℕ) (s e n : Bool) → (0 ≡ length k → ⊥)
+      → settledWholly (length l) (length k) (settled k (early s e n) image map)
+      ≡ settled l (early s e n) image map
   unfolding first columnOf
-  long-settled k l true e n = refl
-  long-settled k l false true n = refl
-  long-settled k l false false true = refl
-  long-settled k l false false false = refl
+  long-settled k l true e n some = rw (ne-eqb 0 (length k) some)
+  long-settled k l false true n some = rw (ne-eqb 0 (length k) some)
+  long-settled k l false false true some = rw (ne-eqb 0 (length k) some)
+  long-settled k l false false false some = rw (eq-eqb (length k) (length k) refl)
 
   -- of one that is kept whole, the reader's column stands
-  short-column : (k : ℕ) (l : List ℕ) → columnIn (length l) k (columnOf k l) ≡ columnOf k l
-  unfolding columnOf
-  short-column k l = decide (eqb k 23) (λ t. rw (eqb-true k 23 t)) (λ t. rw t)
+  short-column : (n c : ℕ) → columnIn n n c ≡ c
+  short-column n c = decide (eqb c n) (λ t. rw t (sym (eqb-true c n t))) (λ t. rw t)
 
   short-settled : (l : List ℕ) (a : Answer File)
-      → settledWholly (length l) (settled l a image map) ≡ settled l a image map
-  short-settled l (refused k) = ap (λ c. settledAs (wrong k c) image map) (short-column k l)
+      → settledWholly (length l) (length l) (settled l a image map) ≡ settled l a image map
+  short-settled l (refused k) =
+      ap (λ c. settledAs (wrong k c) image map) (short-column (length l) (columnOf k l))
   short-settled l (given f) = refl
 
   -- so many characters of a line and its length are enough
   kept-settled : (n : ℕ) (l : List ℕ) → lineRoom ≤ n
-      → settledWholly (length l) (settled (take n l) (recordIn size h (take n l) image map) image map)
+      → settledWholly (length l) (length (take n l))
+      (settled (take n l) (recordIn size h (take n l) image map) image map)
       ≡ settled l (recordIn size h l image map) image map
   kept-settled n l g =
       decide (ltb n (length l))
@@ -71,7 +73,7 @@ module _ (size : ℕ) (h : Hex) (image map : List ℕ) where
         getD-take n l 0 0 (omega arith),
         long-record l (omega arith),
       )
-      (long-settled (take n l) l _ (h .ended) (not (eqb (getD l 0 0) 0x3A))))
+      (long-settled (take n l) l _ (h .ended) (not (eqb (getD l 0 0) 0x3A)) (λ e. omega arith)))
       (λ t. rw (take-all n l (ltb-false n (length l) t)) (short-settled l (recordIn size h l image map)))
 
   -- and so many are in a line buffer with room for them

@@ -1,16 +1,13 @@
 -- `shape` meets its contract: its tests are those of the table, in its order.
 use Prim.Native.Nat.{ℕ}
-use mathlib.Core.Bool.{Bool, true, false, not}
 use mathlib.Core.List.{List}
 use mathlib.Core.Path.{_≡_, sym, _∙_}
 use native.Mathlib.Omega.{arith}
-use lib.Dec.{eqb}
 use lib.ListN.{drop}
 use borrow.Author.Tests.{lt-ltb, le-ltb, eq-eqb, ne-eqb}
-use Rattle.basis.specs.Choice.{pick}
 use Rattle.basis.specs.Refusals.{first}
 use Rattle.image.specs.Digits.{decoded}
-use Rattle.image.specs.Record.{count, kind, address, countFor, shapeOf, columnOf, Pointed, wrong, right, pointed}
+use Rattle.image.specs.Record.{count, kind, address, countFor, shapeOf, columnOf, wrong, right, pointed}
 use borrow.Author.Needs.{needs}
 use Rattle.image.proofs.record.shape.Statement.{statement}
 use Rattle.image.proofs.record.shape.Tie as tie

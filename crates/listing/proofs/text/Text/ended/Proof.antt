@@ -1,5 +1,4 @@
 -- `ended` meets its contract: the last byte tells.
-use mathlib.Core.Path.{_≡_}
 use borrow.Author.Needs.{needs}
 use borrow.Author.Tests.{eq-eqb, ne-eqb}
 use Rattle.listing.specs.Feed.{endedLength}

@@ -3,7 +3,7 @@ use Prim.Native.Nat.{ℕ}
 use mathlib.Core.List.{List}
 use mathlib.Core.Path.{_≡_, ap}
 use borrow.Author.Needs.{needs}
-use lib.ListN.{take}
+use lib.ListN.{length, take}
 use Rattle.basis.specs.Board.{flashSize}
 use Rattle.image.specs.Hex.{Settled, settledAs, settled, recordIn}
 use Rattle.image.specs.Paper.{paperRead, paperRefusal}
@@ -21,14 +21,14 @@ module _ (size : ℕ) (t : Text) (n : ℕ) (line : List ℕ) (at : ℕ) (l : Lis
     (next : at ≡ nextLine t) (lent : l ≡ take n line) (i m image map : List ℕ) where
   took : (r x : Read) → r ≡ x
       → settledAs (paperRead r) i m ≡ settled l (recordIn size (t .hex) l image map) image map
-      → state (afterLine at (wholly n (paperRead x))) line i m ≡ fedLine size t n line image map
+      → state (afterLine at (wholly n (length l) (paperRead x))) line i m ≡ fedLine size t n line image map
   took r x same e =
       let f : settledAs (paperRead x) i m
       ≡ settled (take n line) (recordIn size (t .hex) (take n line) image map) image map = rw (same, lent) at e in
-      rw next (ap (λ (o : Settled). fedAfter (nextLine t) (settledWholly n o) line) f)
+      rw (next, lent) (ap (λ (o : Settled). fedAfter (nextLine t) (settledWholly n (length (take n line)) o) line) f)
 
   -- a refusal has the column that the whole length makes of the reader's
-  refused : (r : Read) (x : Refusal) (c d : ℕ) → r ≡ Refused x c → d ≡ columnIn n (paperRefusal x) c
+  refused : (r : Read) (x : Refusal) (c d : ℕ) → r ≡ Refused x c → d ≡ columnIn n (length l) c
       → settledAs (paperRead r) i m ≡ settled l (recordIn size (t .hex) l image map) image map
       → state (refusedAt at (paperRefusal x) d) line i m ≡ fedLine size t n line image map
   refused r x c d same e f = rw e (took r (Refused x c) same f)
