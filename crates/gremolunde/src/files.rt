@@ -18,7 +18,7 @@ use image::hex::Read;
 use image::writer::Written;
 use image::writer::write;
 
-// The next state of the reader; a refusal has its column, 0 where there is none, and hands the state back as it came.
+// The next state of the reader; a refusal hands it back as it came, and has its column, 0 where there is none.
 #[repr(C)]
 pub struct HexRead {
     pub number: u32,

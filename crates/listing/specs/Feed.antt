@@ -39,7 +39,7 @@ fedAfter n o line = state (afterLine n (o .answer)) line (o .image) (o .map)
 abbrev pub nextLine : Text → ℕ
 nextLine t = (t .lines + 1) % 2 ^ 64
 
--- of a line of n bytes the reader sees no more than the k that are kept: where these end for it, the line ends
+-- of a line of n bytes the reader sees no more than the k that are kept: where they end for it, the line ends
 abbrev pub columnIn : ℕ → ℕ → ℕ → ℕ
 columnIn n k c = pick (eqb c k) n c
 

@@ -23,7 +23,8 @@ refusedWord = 0x52 ∷ 0x45 ∷ 0x46 ∷ 0x55 ∷ 0x53 ∷ 0x45 ∷ 0x44 ∷ 0x2
 -- REFUSED, the line number, the number and the column, with single spaces
 unfoldable pub refusalAt : Blame → List ℕ
 refusalAt b =
-    field refusedWord (b .line) ++ (field (0x20 ∷ []) (b .number) ++ (field (0x20 ∷ []) (b .column) ++ lineEnd))
+    field refusedWord (b .line)
+    ++ (field (0x20 ∷ []) (b .number) ++ (field (0x20 ∷ []) (b .column) ++ lineEnd))
 
 -- no line of a refusal is longer: 8 characters, three numbers of 20 digits, two spaces and 0A
 abbrev pub refusalRoom : ℕ

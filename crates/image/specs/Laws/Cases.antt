@@ -1,4 +1,4 @@
--- The records of the paper's cases, start records and columns, read by a fresh reader on a board of 272 bytes.
+-- The paper's records, start records and columns, read by a fresh reader on a board of 272 bytes.
 use Prim.Native.Nat.{ℕ, _*_}
 use mathlib.Core.Bool.{Bool, true, false}
 use mathlib.Core.List.{List, [], _∷_, _++_}

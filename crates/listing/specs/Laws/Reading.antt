@@ -27,6 +27,9 @@ use Rattle.listing.specs.declared.text.Text.{Text}
 abbrev early : Bool → Bool → Bool → Answer File
 early s e n = first (20 when s ∷ 21 when e ∷ 22 when n ∷ []) (refused 23)
 
+short-column : (n c : ℕ) → columnIn n n c ≡ c
+short-column n c = decide (eqb c n) (λ t. rw t (sym (eqb-true c n t))) (λ t. rw t)
+
 module _ (size : ℕ) (h : Hex) (image map : List ℕ) where
   -- by its first character c
   abbrev earlyBy : ℕ → Answer File
@@ -50,9 +53,6 @@ module _ (size : ℕ) (h : Hex) (image map : List ℕ) where
   long-settled k l false false false some = rw (eq-eqb (length k) (length k) refl)
 
   -- of one that is kept whole, the reader's column stands
-  short-column : (n c : ℕ) → columnIn n n c ≡ c
-  short-column n c = decide (eqb c n) (λ t. rw t (sym (eqb-true c n t))) (λ t. rw t)
-
   short-settled : (l : List ℕ) (a : Answer File)
       → settledWholly (length l) (length l) (settled l a image map) ≡ settled l a image map
   short-settled l (refused k) =
@@ -88,8 +88,9 @@ trimmed-take : (l : List ℕ) → trimmedOf l ≡ take (length (trimmedOf l)) l
 unfolding trimmedOf
 trimmed-take l =
     decide (eqb (getD l (length l - 1) 0) 0x0D)
-    (λ t. let n : length (take (length l - 1) l) ≡ length l - 1 = omega (arith, length-take (length l - 1) l) in
-    rw (t, n))
+    (λ t. let n = length l - 1 in
+    let e : length (take n l) ≡ n = omega (arith, length-take n l) in
+    rw (t, e))
     (λ t. rw t (sym (take-length l)))
 
 trimmed-most : (l : List ℕ) → length (trimmedOf l) ≤ length l
@@ -237,8 +238,8 @@ module _ (size : ℕ) where
   line-taken : (l : List ℕ) (t : Text) (line image map : List ℕ) → lineRoom ≤ length line → Held l t line
       → nextLine t ≡ t .lines + 1 → (b : ℕ) → b ≡ 0x0A
       → fedByte size t b line image map
-      ≡ fedAfter (t .lines + 1) (settled (trimmedOf l) (recordIn size (t .hex) (trimmedOf l) image map) image map)
-      line
+      ≡ fedAfter (t .lines + 1)
+      (settled (trimmedOf l) (recordIn size (t .hex) (trimmedOf l) image map) image map) line
   line-taken l t line image map room h next b e =
       byte-ends size t b line image map e
       ∙ rw (next, held-ended l t line h)

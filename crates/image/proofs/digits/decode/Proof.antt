@@ -61,8 +61,9 @@ module _ (line bytes : List ℕ) (i : ℕ) where
 
 abbrev Inv-loop : tie.InvT-loop
 Inv-loop line bytes₀ n i₀ bytes i =
-    (i ≤ n) × (length bytes ≡ length bytes₀) × (2 * i + digitsBefore (drop (2 * i + 1) line) + 1 ≡ firstBad line) ×
-    (copyOf bytes i (decoded (drop (2 * i + 1) line)) ≡ copyOf bytes₀ 0 (decoded (drop 1 line)))
+    (i ≤ n) × (length bytes ≡ length bytes₀)
+    × (2 * i + digitsBefore (drop (2 * i + 1) line) + 1 ≡ firstBad line)
+    × (copyOf bytes i (decoded (drop (2 * i + 1) line)) ≡ copyOf bytes₀ 0 (decoded (drop 1 line)))
 
 abbrev μ-loop : tie.MeasureT-loop
 μ-loop line bytes₀ n i₀ bytes i = n - i

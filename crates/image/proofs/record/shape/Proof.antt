@@ -49,7 +49,8 @@ module _ (c : tie.Else2) (line : List ℕ) (d : bytes-at c ≡ decoded (drop 1 l
 
 returns-3 : tie.Need-returns-3
 returns-3 c line d =
-    miscounted (c .before .before) line d (λ e. omega (arith, c .if3 .taken, c .before .count-for .ensures, e))
+    miscounted (c .before .before) line d
+    (λ e. omega (arith, c .if3 .taken, c .before .count-for .ensures, e))
 
 -- behind the count: where it was asked for, and what is known there
 abbrev asked : tie.Else3 → tie.Else2

@@ -110,7 +110,8 @@ returns-3 c =
     let a = entry (framed-at passed) .args in
     done .«data» .ensures (now (a .line))
     ∙ ap (λ x. settled (now (a .line)) x (now (a .image)) (now (a .map)))
-    (apply-data flashSize _ (now (a .line)) _ _ _ (framed (framed-at passed)) (shaped passed) (tested .if1 .taken))
+    (apply-data flashSize _ (now (a .line)) _ _ _ (framed (framed-at passed)) (shaped passed)
+    (tested .if1 .taken))
 
 other-requires : tie.Need-other-requires
 other-requires c κs =
@@ -122,7 +123,8 @@ returns-4 c =
     let passed = c .before .before .before in
     let a = entry (framed-at passed) .args in
     rw (c .other .ensures) (ap (λ x. settled (now (a .line)) x (now (a .image)) (now (a .map)))
-    (apply-other flashSize _ (now (a .line)) _ _ _ (framed (framed-at passed)) (shaped passed) (c .before .if1 .left)))
+    (apply-other flashSize _ (now (a .line)) _ _ _ (framed (framed-at passed)) (shaped passed)
+    (c .before .if1 .left)))
 
 pub apply-spec : {M : Type 1} → statement M
 apply-spec =

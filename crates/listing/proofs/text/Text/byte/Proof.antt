@@ -20,7 +20,8 @@ returns : tie.Need-returns
 returns c =
     let taken = c .before .before .before .before in
     let counted = taken .before .before .before .before in
-    taken .take .ensures ∙ ended-by flashSize _ _ _ _ _ _ (counted .before .if1 .taken) (counted .ended .ensures)
+    taken .take .ensures
+    ∙ ended-by flashSize _ _ _ _ _ _ (counted .before .if1 .taken) (counted .ended .ensures)
 
 returns-2 : tie.Need-returns-2
 returns-2 c =

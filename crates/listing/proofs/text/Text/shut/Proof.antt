@@ -11,7 +11,8 @@ use Rattle.listing.specs.declared.text.Text.{Text}
 use Rattle.listing.proofs.text.Text.shut.Statement.{statement}
 use Rattle.listing.proofs.text.Text.shut.Tie as tie
 
-shut-by : (t : Text) (a : Pointed Hex) → a ≡ pointed noLine (closeOf (t .hex)) → afterClosing t a ≡ shutOf (going t)
+shut-by : (t : Text) (a : Pointed Hex) → a ≡ pointed noLine (closeOf (t .hex))
+    → afterClosing t a ≡ shutOf (going t)
 unfolding shutOf
 shut-by t a e = ap (afterClosing t) e
 

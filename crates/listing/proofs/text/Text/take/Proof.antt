@@ -23,9 +23,11 @@ module _ (size : ℕ) (t : Text) (n : ℕ) (line : List ℕ) (at : ℕ) (l : Lis
       → settledAs (paperRead r) i m ≡ settled l (recordIn size (t .hex) l image map) image map
       → state (afterLine at (wholly n (length l) (paperRead x))) line i m ≡ fedLine size t n line image map
   took r x same e =
-      let f : settledAs (paperRead x) i m
-      ≡ settled (take n line) (recordIn size (t .hex) (take n line) image map) image map = rw (same, lent) at e in
-      rw (next, lent) (ap (λ (o : Settled). fedAfter (nextLine t) (settledWholly n (length (take n line)) o) line) f)
+      let k = take n line in
+      let f : settledAs (paperRead x) i m ≡ settled k (recordIn size (t .hex) k image map) image map =
+      rw (same, lent) at e in
+      rw (next, lent)
+      (ap (λ (o : Settled). fedAfter (nextLine t) (settledWholly n (length k) o) line) f)
 
   -- a refusal has the column that the whole length makes of the reader's
   refused : (r : Read) (x : Refusal) (c d : ℕ) → r ≡ Refused x c → d ≡ columnIn n (length l) c
