@@ -13,11 +13,11 @@ use Rattle.image.proofs.digits.decode.Statement.{statement}
 use Rattle.image.proofs.digits.decode.Tie as tie
 
 module _ (line bytes : List ℕ) (i : ℕ) where
-  -- the characters that are left after i bytes, and how many digits stand before a bad one there
+  -- the characters that are left after i bytes
   abbrev left : List ℕ
   left = drop (2 * i + 1) line
 
-  -- so many digits stand there, and bytes holds what they spell
+  -- n digits stand there before a bad character or the end, and spell no byte
   abbrev Says : ℕ → Type 0
   Says n = (digitsBefore left ≡ n) × (copyOf bytes i (decoded left) ≡ bytes)
 
