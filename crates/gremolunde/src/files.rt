@@ -18,7 +18,7 @@ use image::hex::Read;
 use image::writer::Written;
 use image::writer::write;
 
-// The next state of the reader; a refusal hands it back as it came, and has its column, 0 where there is none.
+// The next state of the reader; a refusal hands it back as it came, and has its column, 0 where it has none.
 #[repr(C)]
 pub struct HexRead {
     pub number: u32,
@@ -37,7 +37,7 @@ pub struct HexWritten {
 #[no_mangle]
 pub extern "C" fn gremolunde_hex_start(image: &mut [u8], map: &mut [u8]) -> HexRead
     ensures { λ r. ⌜
-        (let o = settled noLine (startIn flashSize (now (image .entry)) (now (map .entry)))
+        (let o = settled (pointed noLine (startIn flashSize (now (image .entry)) (now (map .entry))))
         (now (image .entry)) (now (map .entry)) in
         (r ≡ hexAnswer noReader (o .answer)) × (now (image .exit) ≡ o .image) × (now (map .exit) ≡ o .map))
         ⌝ }
@@ -65,9 +65,10 @@ pub extern "C" fn gremolunde_hex_record(
     map: &mut [u8],
 ) -> HexRead
     ensures { λ r. ⌜
-        (let o = settled (now (line .entry))
-        (recordIn flashSize (hexMeant reader) (now (line .entry)) (now (image .entry)) (now (map .entry)))
-        (now (image .entry)) (now (map .entry)) in
+        (let l = now (line .entry) in
+        let i = now (image .entry) in
+        let m = now (map .entry) in
+        let o = settled (pointed l (recordIn flashSize (hexMeant reader) l i m)) i m in
         (r ≡ hexAnswer reader (o .answer)) × (now (image .exit) ≡ o .image) × (now (map .exit) ≡ o .map))
         ⌝ }
 {

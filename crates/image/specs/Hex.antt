@@ -6,11 +6,11 @@ use mathlib.Core.Path.{_≡_}
 use lib.Dec.{eqb, ltb}
 use lib.ListN.{length, drop, replicate}
 use Rattle.basis.specs.Choice.{pick, both, either}
-use Rattle.basis.specs.Refusals.{Answer, refused, given, Rule, _when_, first}
+use Rattle.basis.specs.Refusals.{Answer, given, Rule, _when_, first}
 use Rattle.basis.specs.Units.{rightSizesIn}
 use Rattle.image.specs.Digits.{decoded}
 use Rattle.basis.specs.Lists.{copyOf}
-use Rattle.image.specs.Record.{count, address, kind, payload, value, isData, characterRows, byteRows, shapeRows, columnOf, Pointed, wrong, right}
+use Rattle.image.specs.Record.{count, address, kind, payload, value, isData, characterRows, byteRows, shapeRows, Pointed, wrong, right}
 use Rattle.image.specs.declared.hex.Hex.{Hex}
 use Rattle.runs.specs.Map.{anyNamed, nameAllOf}
 
@@ -32,10 +32,10 @@ pub record Settled : Type 0 where
 abbrev pub settledAs : Pointed Hex → List ℕ → List ℕ → Settled
 settledAs a image map = record { answer = a; image = image; map = map }
 
--- of a line: a refusal leaves image and map as they stood
-abbrev pub settled : List ℕ → Answer File → List ℕ → List ℕ → Settled
-settled line (refused n) image map = settledAs (wrong n (columnOf n line)) image map
-settled line (given f) image map = settledAs (right (f .reader)) (f .image) (f .map)
+-- a refusal leaves image and map as they stood
+abbrev pub settled : Pointed File → List ℕ → List ℕ → Settled
+settled (wrong n c) image map = settledAs (wrong n c) image map
+settled (right f) image map = settledAs (right (f .reader)) (f .image) (f .map)
 
 -- both bases, whether the end record came, and whether a data byte was taken
 abbrev pub hex : ℕ → ℕ → Bool → Bool → Hex

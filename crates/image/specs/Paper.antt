@@ -43,9 +43,9 @@ abbrev pub paperRead : Read.Read → Pointed Hex
 paperRead (read.Taken h) = right h
 paperRead (read.Refused x column) = wrong (paperRefusal x) column
 
--- reading a line answers r and leaves image′ and map′, where the paper says a of image and map
-abbrev pub Reads : Read.Read → List ℕ → List ℕ → List ℕ → Answer File → List ℕ → List ℕ → Type 0
-Reads r image′ map′ line a image map = settledAs (paperRead r) image′ map′ ≡ settled line a image map
+-- reading answers r and leaves image′ and map′, where the paper says a of image and map
+abbrev pub Reads : Read.Read → List ℕ → List ℕ → Pointed File → List ℕ → List ℕ → Type 0
+Reads r image′ map′ a image map = settledAs (paperRead r) image′ map′ ≡ settled a image map
 
 -- the length of what was written with the address to go on from, or the refusal
 abbrev pub paperWritten : Written.Written → Answer Measured

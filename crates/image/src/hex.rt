@@ -48,7 +48,7 @@ impl Hex {
         ensures { λ r. ⌜
             (let i = now (image .entry) in
             let m = now (map .entry) in
-            Reads r (now (image .exit)) (now (map .exit)) noLine (startIn flashSize i m) i m)
+            Reads r (now (image .exit)) (now (map .exit)) (pointed noLine (startIn flashSize i m)) i m)
             ⌝ }
     {
         if !right_sizes(image.len(), map.len()) {
@@ -70,7 +70,7 @@ impl Hex {
             (let l = now (line .entry) in
             let i = now (image .entry) in
             let m = now (map .entry) in
-            Reads r (now (image .exit)) (now (map .exit)) l (recordIn flashSize self l i m) i m)
+            Reads r (now (image .exit)) (now (map .exit)) (pointed l (recordIn flashSize self l i m)) i m)
             ⌝ }
     {
         if !right_sizes(image.len(), map.len()) {
@@ -94,7 +94,7 @@ impl Hex {
             (let l = now (line .entry) in
             let i = now (image .entry) in
             let m = now (map .entry) in
-            Reads r (now (image .exit)) (now (map .exit)) l (recordIn flashSize self l i m) i m)
+            Reads r (now (image .exit)) (now (map .exit)) (pointed l (recordIn flashSize self l i m)) i m)
             ⌝ }
     {
         let checked = characters(line, bytes);
@@ -115,8 +115,8 @@ impl Hex {
             (let l = now (line .entry) in
             let i = now (image .entry) in
             let m = now (map .entry) in
-            Reads r (now (image .exit)) (now (map .exit)) l
-            (applyIn flashSize self (length l) (now (bytes .entry)) i m) i m)
+            Reads r (now (image .exit)) (now (map .exit))
+            (pointed l (applyIn flashSize self (length l) (now (bytes .entry)) i m)) i m)
             ⌝ }
     {
         let framed = framing(line, bytes);
@@ -142,8 +142,8 @@ impl Hex {
         ensures { λ r. ⌜
             (let i = now (image .entry) in
             let m = now (map .entry) in
-            (line : List ℕ) → Reads r (now (image .exit)) (now (map .exit)) line
-            (dataIn flashSize self (now (bytes .entry)) i m) i m)
+            (line : List ℕ) → Reads r (now (image .exit)) (now (map .exit))
+            (pointed line (dataIn flashSize self (now (bytes .entry)) i m)) i m)
             ⌝ }
     {
         let count = wide(bytes[0]);

@@ -54,7 +54,7 @@ settledWholly n k o = settledAs (wholly n k (o .answer)) (o .image) (o .map)
 abbrev pub recordKept : ℕ → Hex → ℕ → List ℕ → List ℕ → List ℕ → Settled
 recordKept size h n line image map =
     let l = take n line in
-    settledWholly n (length l) (settled l (recordIn size h l image map) image map)
+    settledWholly n (length l) (settled (pointed l (recordIn size h l image map)) image map)
 
 abbrev pub fedLine : ℕ → Text → ℕ → List ℕ → List ℕ → List ℕ → Fed
 fedLine size t n line image map =

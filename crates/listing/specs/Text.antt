@@ -4,9 +4,8 @@ use mathlib.Core.List.{List, [], _∷_, _++_}
 use lib.Dec.{eqb}
 use lib.ListN.{length, getD, take}
 use Rattle.basis.specs.Choice.{pick}
-use Rattle.basis.specs.Refusals.{Answer, refused, given}
 use Rattle.image.specs.Hex.{File, startIn, recordIn, closeOf}
-use Rattle.image.specs.Record.{recordMost, columnOf, Pointed, wrong, right, pointed, noLine}
+use Rattle.image.specs.Record.{recordMost, Pointed, wrong, right, pointed, noLine}
 
 -- one 0D before the 0A is dropped
 unfoldable pub trimmedOf : List ℕ → List ℕ
@@ -57,19 +56,19 @@ pub record Result : Type 0 where
 abbrev pub result : Verdict → List ℕ → List ℕ → Result
 result v image map = record { verdict = v; image = image; map = map }
 
--- on with the file that a record gives, or refused at line n, which is l
-abbrev pub unlessRefused : ℕ → List ℕ → List ℕ → List ℕ → Answer File → (File → Result) → Result
-unlessRefused n l image map (refused k) g = result (refusedAt n k (columnOf k l)) image map
-unlessRefused n l image map (given f) g = g f
+-- on with the file that a record gives, or refused at line n
+abbrev pub unlessRefused : ℕ → List ℕ → List ℕ → Pointed File → (File → Result) → Result
+unlessRefused n image map (wrong k c) g = result (refusedAt n k c) image map
+unlessRefused n image map (right f) g = g f
 
 -- records one after another, n before them; then closing
 unfoldable pub readFrom : ℕ → ℕ → List (List ℕ) → File → Result
 readFrom size n [] f = result (atLine 0 (λ h. tt) (pointed noLine (closeOf (f .reader)))) (f .image) (f .map)
 readFrom size n (l ∷ ls) f =
-    unlessRefused (n + 1) l (f .image) (f .map) (recordIn size (f .reader) l (f .image) (f .map))
+    unlessRefused (n + 1) (f .image) (f .map) (pointed l (recordIn size (f .reader) l (f .image) (f .map)))
     (readFrom size (n + 1) ls)
 
 -- a whole text: 20 where image or map has another size, else line by line
 unfoldable pub readIn : ℕ → List ℕ → List ℕ → List ℕ → Result
 readIn size t image map =
-    unlessRefused 0 noLine image map (startIn size image map) (readFrom size 0 (textLines t))
+    unlessRefused 0 image map (pointed noLine (startIn size image map)) (readFrom size 0 (textLines t))

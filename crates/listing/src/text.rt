@@ -4,7 +4,7 @@ ghost use Prim.Native.Nat.{_≤_};
 ghost use lib.ListN.{length, set};
 ghost use Rattle.basis.specs.Board.{flashSize};
 ghost use Rattle.image.specs.Hex.{settled, startIn};
-ghost use Rattle.image.specs.Record.{noLine};
+ghost use Rattle.image.specs.Record.{pointed, noLine};
 ghost use Rattle.listing.specs.Text.{going, lineRoom};
 ghost use Rattle.listing.specs.Feed.{state, afterLine, columnIn, fedLine, oneMore, withOpen, endedLength, fedByte, byteIn, feedIn, Keeps, lastIn, shutOf, closeIn};
 ghost use Rattle.listing.specs.Paper.{paperReading};
@@ -47,7 +47,7 @@ impl Reading {
     // A text at its start, with image and map as the hex reader starts them.
     pub fn start(image: &mut [u8], map: &mut [u8]) -> Reading
         ensures { λ r. ⌜
-            (let o = settled noLine (startIn flashSize (now (image .entry)) (now (map .entry)))
+            (let o = settled (pointed noLine (startIn flashSize (now (image .entry)) (now (map .entry))))
             (now (image .entry)) (now (map .entry)) in
             (paperReading r ≡ afterLine 0 (o .answer)) × (now (image .exit) ≡ o .image)
             × (now (map .exit) ≡ o .map))

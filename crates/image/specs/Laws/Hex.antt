@@ -72,13 +72,14 @@ characters-length line e =
     one : (x : ℕ) → (x ≡ 0 → ⊥) → x < 2 → x ≡ 1
     one x z l = omega arith
 
--- digits only: the first is one, and so are the others
+-- no more digits than characters
 digits-most : (s : List ℕ) → digitsBefore s ≤ length s
 unfolding digitsBefore
 digits-most [] = omega arith
 digits-most (c ∷ s) =
     decide (ltb (digitOf c) 16) (λ t. rw t (omega (arith, digits-most s))) (λ t. rw t (omega arith))
 
+-- digits only: the first is one, and so are the others
 digits-only : (c : ℕ) (s : List ℕ)
     → digitsBefore (c ∷ s) ≡ length (c ∷ s)
     → (ltb (digitOf c) 16 ≡ true) × (digitsBefore s ≡ length s)

@@ -27,7 +27,7 @@ module _ (line : List ℕ) where
   -- what it refuses stays so, whatever else would follow
   pub pointed-stays : (a : Answer Unit) (r : Answer File) (k c : ℕ) (image map : List ℕ)
       → wrong k c ≡ pointed line a
-      → settledAs (wrong k c) image map ≡ settled line (andThen a r) image map
+      → settledAs (wrong k c) image map ≡ settled (pointed line (andThen a r)) image map
   pointed-stays (refused n) r k c image map e =
       let w = wrong-one e in λ i. settledAs (wrong (w .0 i) (w .1 i)) image map
   pointed-stays (given x) r k c image map e = absurd (pointed-apart e)

@@ -12,7 +12,7 @@ use lib.ListN.{length, getD, set, take, length-append, length-take, length-set}
 use lib.Seq.{take-all, take-length, take-nil, take-take, take-append-le, take-suc-set, set-out, getD-take, getD-at}
 use Rattle.basis.specs.Units.{rightSizesIn}
 use Rattle.basis.specs.Laws.Choice.{decide}
-use Rattle.basis.specs.Refusals.{Answer, refused, given, _when_, first}
+use Rattle.basis.specs.Refusals.{Answer, refused, _when_, first}
 use Rattle.image.specs.Hex.{Settled, File, file, settledAs, settled, startIn, recordIn, closeOf}
 use Rattle.image.specs.Record.{recordMost, columnOf, Pointed, wrong, right, pointed, noLine}
 use Rattle.image.specs.declared.hex.Hex.{Hex}
@@ -44,8 +44,8 @@ module _ (size : ℕ) (h : Hex) (image map : List ℕ) where
 
   -- whatever is kept of it
   long-settled : (k l : List ℕ) (s e n : Bool) → (0 ≡ length k → ⊥)
-      → settledWholly (length l) (length k) (settled k (early s e n) image map)
-      ≡ settled l (early s e n) image map
+      → settledWholly (length l) (length k) (settled (pointed k (early s e n)) image map)
+      ≡ settled (pointed l (early s e n)) image map
   unfolding first columnOf
   long-settled k l true e n some = rw (ne-eqb 0 (length k) some)
   long-settled k l false true n some = rw (ne-eqb 0 (length k) some)
@@ -53,17 +53,15 @@ module _ (size : ℕ) (h : Hex) (image map : List ℕ) where
   long-settled k l false false false some = rw (eq-eqb (length k) (length k) refl)
 
   -- of one that is kept whole, the reader's column stands
-  short-settled : (l : List ℕ) (a : Answer File)
-      → settledWholly (length l) (length l) (settled l a image map) ≡ settled l a image map
-  short-settled l (refused k) =
-      ap (λ c. settledAs (wrong k c) image map) (short-column (length l) (columnOf k l))
-  short-settled l (given f) = refl
+  short-settled : (n : ℕ) (a : Pointed File) → settledWholly n n (settled a image map) ≡ settled a image map
+  short-settled n (wrong k c) = ap (λ c. settledAs (wrong k c) image map) (short-column n c)
+  short-settled n (right f) = refl
 
   -- so many characters of a line and its length are enough
   kept-settled : (n : ℕ) (l : List ℕ) → lineRoom ≤ n
       → settledWholly (length l) (length (take n l))
-      (settled (take n l) (recordIn size h (take n l) image map) image map)
-      ≡ settled l (recordIn size h l image map) image map
+      (settled (pointed (take n l) (recordIn size h (take n l) image map)) image map)
+      ≡ settled (pointed l (recordIn size h l image map)) image map
   kept-settled n l g =
       decide (ltb n (length l))
       (λ t. let k = ltb-true n (length l) t in
@@ -74,11 +72,13 @@ module _ (size : ℕ) (h : Hex) (image map : List ℕ) where
         long-record l (omega arith),
       )
       (long-settled (take n l) l _ (h .ended) (not (eqb (getD l 0 0) 0x3A)) (λ e. omega arith)))
-      (λ t. rw (take-all n l (ltb-false n (length l) t)) (short-settled l (recordIn size h l image map)))
+      (λ t. rw (take-all n l (ltb-false n (length l) t))
+      (short-settled (length l) (pointed l (recordIn size h l image map))))
 
   -- and so many are in a line buffer with room for them
   recorded : (l line : List ℕ) → lineRoom ≤ length line → take (length l) line ≡ take (length line) l
-      → recordKept size h (length l) line image map ≡ settled l (recordIn size h l image map) image map
+      → recordKept size h (length l) line image map
+      ≡ settled (pointed l (recordIn size h l image map)) image map
   recorded l line room e = rw e (kept-settled (length line) l room)
 
 -- ---- the open line: its length, its last byte, and as much of it as the buffer has room for
@@ -176,13 +176,13 @@ module _ (size : ℕ) where
   feed-stopped x line image map [] = refl
   feed-stopped x line image map (b ∷ text) = feed-stopped x line image map text
 
-  -- what comes after line n, which is l, where the lines that follow give g
-  went : (n : ℕ) (l line image map text : List ℕ) (a : Answer File) (g : File → Result)
+  -- what comes after line n, where the lines that follow give g
+  went : (n : ℕ) (line image map text : List ℕ) (a : Pointed File) (g : File → Result)
       → ((f : File) → cameTo size (state (going (textAt n (f .reader))) line (f .image) (f .map)) text ≡ g f)
-      → cameTo size (fedAfter n (settled l a image map) line) text ≡ unlessRefused n l image map a g
-  went n l line image map text (refused k) g ih =
-      rw (feed-stopped (record { line = n; number = k; column = columnOf k l }) line image map text)
-  went n l line image map text (given f) g ih = ih f
+      → cameTo size (fedAfter n (settled a image map) line) text ≡ unlessRefused n image map a g
+  went n line image map text (wrong k c) g ih =
+      rw (feed-stopped (record { line = n; number = k; column = c }) line image map text)
+  went n line image map text (right f) g ih = ih f
 
   module _ (line : List ℕ) (room : lineRoom ≤ length line) where
     -- the end: the open line is the last one, and nothing is none
@@ -200,13 +200,13 @@ module _ (size : ℕ) where
         rw (z, ne-eqb (t .len) 0 n, long, e)
         (ap (λ (o : Settled). fedResult (fedClosing (fedAfter (t .lines + 1) o line)))
         (recorded size (t .hex) image map l line room (held-is l t line h))
-        ∙ last (t .lines + 1) l (recordIn size (t .hex) l image map)))
+        ∙ last (t .lines + 1) (pointed l (recordIn size (t .hex) l image map))))
       where
-        last : (n : ℕ) (l : List ℕ) (a : Answer File)
-            → fedResult (fedClosing (fedAfter n (settled l a image map) line))
-            ≡ unlessRefused n l image map a (readFrom size n [])
-        last n l (refused k) = refl
-        last n l (given f) =
+        last : (n : ℕ) (a : Pointed File)
+            → fedResult (fedClosing (fedAfter n (settled a image map) line))
+            ≡ unlessRefused n image map a (readFrom size n [])
+        last n (wrong k c) = refl
+        last n (right f) =
             ap (λ v. result v (f .image) (f .map))
             (verdict-shut (textAt n (f .reader)) (pointed noLine (closeOf (f .reader))))
 
@@ -229,8 +229,8 @@ module _ (size : ℕ) where
 
   read-on : (n : ℕ) (l : List ℕ) (ls : List (List ℕ)) (f : File)
       → readFrom size n (l ∷ ls) f
-      ≡ unlessRefused (n + 1) l (f .image) (f .map) (recordIn size (f .reader) l (f .image) (f .map))
-      (readFrom size (n + 1) ls)
+      ≡ unlessRefused (n + 1) (f .image) (f .map)
+      (pointed l (recordIn size (f .reader) l (f .image) (f .map))) (readFrom size (n + 1) ls)
   unfolding readFrom
   read-on n l ls f = refl
 
@@ -239,7 +239,7 @@ module _ (size : ℕ) where
       → nextLine t ≡ t .lines + 1 → (b : ℕ) → b ≡ 0x0A
       → fedByte size t b line image map
       ≡ fedAfter (t .lines + 1)
-      (settled (trimmedOf l) (recordIn size (t .hex) (trimmedOf l) image map) image map) line
+      (settled (pointed (trimmedOf l) (recordIn size (t .hex) (trimmedOf l) image map)) image map) line
   line-taken l t line image map room h next b e =
       byte-ends size t b line image map e
       ∙ rw (next, held-ended l t line h)
@@ -262,8 +262,8 @@ module _ (size : ℕ) where
       fed-on (state (going t) line image map) b text
       ∙ decide (eqb b 0x0A)
       (λ z. ap on (line-taken l t line image map room h next b (eqb-true b 0x0A z))
-      ∙ went (t .lines + 1) (trimmedOf l) line image map text
-      (recordIn size (t .hex) (trimmedOf l) image map)
+      ∙ went (t .lines + 1) line image map text
+      (pointed (trimmedOf l) (recordIn size (t .hex) (trimmedOf l) image map))
       (readFrom size (t .lines + 1) (linesFrom [] text))
       (λ g. reads text [] line (g .image) (g .map) (textAt (t .lines + 1) (g .reader)) room
       (held-none (t .lines + 1) (g .reader) line) (omega arith) (omega arith))
@@ -277,10 +277,11 @@ module _ (size : ℕ) where
 
   -- from the start on, however the text was cut: what the paper says of its lines, with the column
   pub text-reads : (text line image map : List ℕ) → lineRoom ≤ length line → length text + 1 < 2 ^ 64
-      → cameTo size (fedAfter 0 (settled noLine (startIn size image map) image map) line) text
+      → cameTo size (fedAfter 0 (settled (pointed noLine (startIn size image map)) image map) line) text
       ≡ readIn size text image map
   unfolding readIn
   text-reads text line image map room few =
-      went 0 noLine line image map text (startIn size image map) (readFrom size 0 (linesFrom [] text))
+      went 0 line image map text (pointed noLine (startIn size image map))
+      (readFrom size 0 (linesFrom [] text))
       (λ f. reads text [] line (f .image) (f .map) (textAt 0 (f .reader)) room
       (held-none 0 (f .reader) line) (omega arith) (omega arith))

@@ -21,7 +21,7 @@ use Rattle.image.proofs.hex.Hex.apply.Tie as tie
 -- the ways out, each by the table
 module _ (size : ℕ) (h : Hex) (line b image map : List ℕ) where
   abbrev told : Settled
-  told = settled line (applyIn size h (length line) b image map) image map
+  told = settled (pointed line (applyIn size h (length line) b image map)) image map
 
   apply-framing : (k c : ℕ) → wrong k c ≡ pointed line (framingOf (length line) b)
       → settledAs (wrong k c) image map ≡ told
@@ -109,7 +109,7 @@ returns-3 c =
     let passed = tested .before .before in
     let a = entry (framed-at passed) .args in
     done .«data» .ensures (now (a .line))
-    ∙ ap (λ x. settled (now (a .line)) x (now (a .image)) (now (a .map)))
+    ∙ ap (λ x. settled (pointed (now (a .line)) x) (now (a .image)) (now (a .map)))
     (apply-data flashSize _ (now (a .line)) _ _ _ (framed (framed-at passed)) (shaped passed)
     (tested .if1 .taken))
 
@@ -122,7 +122,7 @@ returns-4 : tie.Need-returns-4
 returns-4 c =
     let passed = c .before .before .before in
     let a = entry (framed-at passed) .args in
-    rw (c .other .ensures) (ap (λ x. settled (now (a .line)) x (now (a .image)) (now (a .map)))
+    rw (c .other .ensures) (ap (λ x. settled (pointed (now (a .line)) x) (now (a .image)) (now (a .map)))
     (apply-other flashSize _ (now (a .line)) _ _ _ (framed (framed-at passed)) (shaped passed)
     (c .before .if1 .left)))
 

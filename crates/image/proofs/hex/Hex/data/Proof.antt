@@ -7,7 +7,7 @@ use lib.ListN.{length, take, drop, length-drop}
 use lib.Seq.{length-take-le}
 use borrow.Author.Tests.{lt-ltb, le-ltb, not-true, not-false}
 use Rattle.basis.specs.Refusals.{first}
-use Rattle.image.specs.Record.{count, payload, columnOf, wrong, right}
+use Rattle.image.specs.Record.{count, payload, columnOf, wrong, right, pointed}
 use Rattle.basis.specs.Lists.{stored}
 use Rattle.runs.specs.Map.{anyNamed, nameAllOf}
 use Rattle.basis.specs.Choice.{any}
@@ -22,7 +22,7 @@ use Rattle.image.proofs.hex.Hex.data.Tie as tie
 -- the ways out, each by the table
 module _ (size : ℕ) (h : Hex) (b image map line : List ℕ) where
   abbrev told : Settled
-  told = settled line (dataIn size h b image map) image map
+  told = settled (pointed line (dataIn size h b image map)) image map
 
   data-none : count b ≡ 0 → settledAs (right h) image map ≡ told
   unfolding first dataIn any nameAllOf stored

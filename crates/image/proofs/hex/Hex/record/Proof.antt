@@ -11,7 +11,7 @@ use Rattle.basis.specs.Units.{rightSizesIn}
 use Rattle.basis.specs.Board.{flashSize}
 use Rattle.basis.specs.Refusals.{first}
 use Rattle.image.specs.Hex.{settledAs, settled, recordIn}
-use Rattle.image.specs.Record.{columnOf, wrong}
+use Rattle.image.specs.Record.{columnOf, wrong, pointed}
 use Rattle.image.specs.declared.hex.Hex.{Hex}
 use Rattle.image.proofs.hex.Hex.record.Statement.{statement}
 use Rattle.image.proofs.hex.Hex.record.Tie as tie
@@ -19,12 +19,12 @@ use Rattle.image.proofs.hex.Hex.record.Tie as tie
 -- the early ways out, each by the table
 module _ (size : ℕ) (h : Hex) (line image map : List ℕ) where
   record-size : rightSizesIn size (length image) (length map) ≡ false
-      → settledAs (wrong 20 0) image map ≡ settled line (recordIn size h line image map) image map
+      → settledAs (wrong 20 0) image map ≡ settled (pointed line (recordIn size h line image map)) image map
   unfolding first recordIn columnOf
   record-size e = simp e
 
   record-ended : rightSizesIn size (length image) (length map) ≡ true → h .ended ≡ true
-      → settledAs (wrong 21 0) image map ≡ settled line (recordIn size h line image map) image map
+      → settledAs (wrong 21 0) image map ≡ settled (pointed line (recordIn size h line image map)) image map
   unfolding first recordIn columnOf
   record-ended e t = simp (e, t)
 

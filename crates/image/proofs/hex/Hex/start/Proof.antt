@@ -12,7 +12,7 @@ use Rattle.basis.specs.Laws.Units.{sizes-right}
 use Rattle.basis.specs.Units.{rightSizesIn}
 use Rattle.basis.specs.Refusals.{first}
 use Rattle.image.specs.Hex.{settledAs, settled, fresh, startIn}
-use Rattle.image.specs.Record.{columnOf, wrong, right, noLine}
+use Rattle.image.specs.Record.{columnOf, wrong, right, pointed, noLine}
 use borrow.Author.Needs.{needs}
 use Rattle.basis.specs.Board.{flashSize, mapSize}
 use Rattle.image.proofs.hex.Hex.start.Statement.{statement}
@@ -20,13 +20,13 @@ use Rattle.image.proofs.hex.Hex.start.Tie as tie
 
 module _ (size : ℕ) (image map : List ℕ) where
   start-size : rightSizesIn size (length image) (length map) ≡ false
-      → settledAs (wrong 20 0) image map ≡ settled noLine (startIn size image map) image map
+      → settledAs (wrong 20 0) image map ≡ settled (pointed noLine (startIn size image map)) image map
   unfolding first startIn columnOf
   start-size e = simp e
 
   start-given : (i m : List ℕ) → rightSizesIn size (length image) (length map) ≡ true
       → i ≡ copyOf image 0 (replicate size 0xFF) → m ≡ copyOf map 0 (replicate (size / 8) 0)
-      → settledAs (right fresh) i m ≡ settled noLine (startIn size image map) image map
+      → settledAs (right fresh) i m ≡ settled (pointed noLine (startIn size image map)) image map
   unfolding first startIn columnOf
   start-given i m e ei em =
       let s = sizes-right size (length image) (length map) e in

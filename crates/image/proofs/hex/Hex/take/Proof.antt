@@ -25,7 +25,7 @@ use Rattle.image.proofs.hex.Hex.take.Tie as tie
 module _ (size : ℕ) (h : Hex) (line image map : List ℕ) (p : length image ≡ size) (q : length map ≡ size / 8)
     (going : h .ended ≡ false) where
   take-refused : (k c : ℕ) → wrong k c ≡ pointed line (charactersOf line)
-      → settledAs (wrong k c) image map ≡ settled line (recordIn size h line image map) image map
+      → settledAs (wrong k c) image map ≡ settled (pointed line (recordIn size h line image map)) image map
   take-refused k c e =
       rw (record-cut size h image map line (right-sizes size _ _ p q) going)
       (pointed-stays line (charactersOf line) _ k c image map e)
@@ -97,7 +97,7 @@ returns-2 c =
     let start = entry (checked-at told) in
     let pre = start .pre in
     applied .apply .ensures
-    ∙ ap (λ x. settled (line-at told) x (now (start .args .image)) (now (start .args .map)))
+    ∙ ap (λ x. settled (pointed (line-at told) x) (now (start .args .image)) (now (start .args .map)))
     (take-applied flashSize _ _ _ _ (pre .1) (pre .2) (pre .3) _ (passed told) (spelt told))
 
 pub take-spec : {M : Type 1} → statement M

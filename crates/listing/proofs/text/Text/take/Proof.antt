@@ -7,6 +7,7 @@ use lib.ListN.{length, take}
 use Rattle.basis.specs.Board.{flashSize}
 use Rattle.image.specs.Hex.{Settled, settledAs, settled, recordIn}
 use Rattle.image.specs.Paper.{paperRead, paperRefusal}
+use Rattle.image.specs.Record.{pointed}
 use Rattle.image.specs.declared.hex.Read.{Read}
 use Rattle.image.specs.declared.hex.Read.the-variants.{Refused}
 use Rattle.image.specs.declared.record.Refusal.{Refusal}
@@ -20,18 +21,18 @@ use Rattle.listing.proofs.text.Text.take.Tie as tie
 module _ (size : ℕ) (t : Text) (n : ℕ) (line : List ℕ) (at : ℕ) (l : List ℕ)
     (next : at ≡ nextLine t) (lent : l ≡ take n line) (i m image map : List ℕ) where
   took : (r x : Read) → r ≡ x
-      → settledAs (paperRead r) i m ≡ settled l (recordIn size (t .hex) l image map) image map
+      → settledAs (paperRead r) i m ≡ settled (pointed l (recordIn size (t .hex) l image map)) image map
       → state (afterLine at (wholly n (length l) (paperRead x))) line i m ≡ fedLine size t n line image map
   took r x same e =
       let k = take n line in
-      let f : settledAs (paperRead x) i m ≡ settled k (recordIn size (t .hex) k image map) image map =
-      rw (same, lent) at e in
+      let f : settledAs (paperRead x) i m
+      ≡ settled (pointed k (recordIn size (t .hex) k image map)) image map = rw (same, lent) at e in
       rw (next, lent)
       (ap (λ (o : Settled). fedAfter (nextLine t) (settledWholly n (length k) o) line) f)
 
   -- a refusal has the column that the whole length makes of the reader's
   refused : (r : Read) (x : Refusal) (c d : ℕ) → r ≡ Refused x c → d ≡ columnIn n (length l) c
-      → settledAs (paperRead r) i m ≡ settled l (recordIn size (t .hex) l image map) image map
+      → settledAs (paperRead r) i m ≡ settled (pointed l (recordIn size (t .hex) l image map)) image map
       → state (refusedAt at (paperRefusal x) d) line i m ≡ fedLine size t n line image map
   refused r x c d same e f = rw e (took r (Refused x c) same f)
 
