@@ -1,25 +1,32 @@
 -- How a session goes on, and how it ends.
 use Prim.Native.Nat.{ℕ}
 use mathlib.Core.Bool.{Bool, true, false}
-use lib.Dec.{eqb, ltb}
-use Rattle.basis.specs.Choice.{pick, both}
+use lib.Dec.{eqb, leb, ltb}
+use Rattle.basis.specs.Choice.{pick, both, either}
 use Rattle.basis.specs.declared.kind.RunKind.{RunKind}
 use Rattle.events.specs.Events.{isGreeting, isAck}
 use Rattle.events.specs.declared.ending.Awaited.{Awaited}
 use Rattle.events.specs.declared.event.Event.{Event}
 use Rattle.events.specs.declared.ending.Outcome.{Outcome}
 
--- 0 valid; 40 silence, 41 BEL, 42 no greeting, 43 other bytes or none
+-- 0 valid, 1 verified and held; 40 silence, 41 BEL, 42 no greeting, 43 other bytes or none
 abbrev pub paperOutcome : Outcome → ℕ
 paperOutcome Outcome.Valid = 0
+paperOutcome Outcome.Held = 1
 paperOutcome Outcome.Silence = 40
 paperOutcome Outcome.Bel = 41
 paperOutcome Outcome.NoGreeting = 42
 paperOutcome Outcome.Other = 43
 
--- the ending that was asked for: ACK to R ends valid, whatever the run kind
+-- the ending that was asked for: ACK to R ends valid; to hold, the last V's ACK ends verified and held
 abbrev pub asked : RunKind → Outcome
-asked kind = Outcome.Valid
+asked RunKind.Reset = Outcome.Valid
+asked RunKind.Jump = Outcome.Valid
+asked RunKind.Hold = Outcome.Held
+
+-- an ending that a session of the run kind can have: the one that was asked for, or 40 to 43
+abbrev pub endingFor : RunKind → Outcome → Bool
+endingFor kind o = either (eqb (paperOutcome o) (paperOutcome (asked kind))) (leb 40 (paperOutcome o))
 
 -- the event is the one awaited
 abbrev pub goesOn : Awaited → Event → Bool
@@ -49,6 +56,7 @@ endingOf Awaited.Ack Event.Silence = Outcome.Silence
 -- 42 only before the first packet
 abbrev pub failing : Outcome → ℕ → Bool
 failing Outcome.Valid k = false
+failing Outcome.Held k = false
 failing Outcome.Silence k = true
 failing Outcome.Bel k = true
 failing Outcome.NoGreeting k = eqb k 0

@@ -1,6 +1,6 @@
 // How a session goes on and how it ends: any event but the one that it awaits is an end.
 ghost use mathlib.Core.Path.{_≡_};
-ghost use Rattle.events.specs.Endings.{paperOutcome, asked, endingOf, failing, endsAt};
+ghost use Rattle.events.specs.Endings.{paperOutcome, asked, endingFor, endingOf, failing, endsAt};
 use crate::event::Event;
 use basis::kind::RunKind;
 
@@ -12,6 +12,8 @@ pub enum Awaited {
 
 pub enum Outcome {
     Valid,
+    // Verified, and held as was asked.
+    Held,
     Silence,
     Bel,
     NoGreeting,
@@ -48,6 +50,7 @@ impl Outcome {
         match kind {
             RunKind::Reset => Outcome::Valid,
             RunKind::Jump => Outcome::Valid,
+            RunKind::Hold => Outcome::Held,
         }
     }
 
@@ -57,11 +60,23 @@ impl Outcome {
     {
         match self {
             Outcome::Valid => 0,
+            Outcome::Held => 1,
             Outcome::Silence => 40,
             Outcome::Bel => 41,
             Outcome::NoGreeting => 42,
             Outcome::Other => 43,
         }
+    }
+
+    // Whether a session of the run kind can end so: a hold session is never valid, and no other is held.
+    pub fn suits(self, kind: RunKind) -> bool
+        ensures { λ r. ⌜ r ≡ endingFor kind self ⌝ }
+    {
+        let asked = Outcome::asked(kind);
+        if self.number() == asked.number() {
+            return true;
+        }
+        40 <= self.number()
     }
 
     // Whether events lead to this ending with `k` of `total` packets acknowledged.
@@ -83,6 +98,7 @@ impl Outcome {
     {
         match self {
             Outcome::Valid => false,
+            Outcome::Held => false,
             Outcome::Silence => true,
             Outcome::Bel => true,
             Outcome::NoGreeting => k == 0,

@@ -1,13 +1,13 @@
 -- Laws of endings: their numbers tell them apart, and with how many packets acknowledged each can come.
 use Prim.Native.Nat.{ℕ, _≤_, _<_}
 use mathlib.Core.Bool.{true, false}
-use mathlib.Core.Path.{_≡_, refl, sym}
+use mathlib.Core.Path.{_≡_, refl, sym, ap, _∙_}
 use borrow.Author.Tests.{eq-eqb, ne-eqb, eqb-true, ltb-true, lt-ltb, le-ltb}
-use lib.Dec.{eqb, ltb}
+use lib.Dec.{eqb, leb, ltb}
 use Rattle.basis.specs.Choice.{pick}
 use Rattle.basis.specs.Laws.Choice.{decide, both-true, true-false}
 use Rattle.basis.specs.Laws.Refusals.{back-one}
-use Rattle.events.specs.Endings.{paperOutcome, asked, failing, endsAt}
+use Rattle.events.specs.Endings.{paperOutcome, asked, endingFor, failing, endsAt}
 use Rattle.events.specs.declared.ending.Outcome.{Outcome}
 use Rattle.basis.specs.declared.kind.RunKind.{RunKind}
 
@@ -15,14 +15,16 @@ use Rattle.basis.specs.declared.kind.RunKind.{RunKind}
 outcomeBy : ℕ → Outcome
 outcomeBy n =
     pick (eqb n 0) Outcome.Valid
+    (pick (eqb n 1) Outcome.Held
     (pick (eqb n 40) Outcome.Silence
     (pick (eqb n 41) Outcome.Bel
     (pick (eqb n 42) Outcome.NoGreeting
-    Outcome.Other)))
+    Outcome.Other))))
 
 outcome-back : (x : Outcome) → outcomeBy (paperOutcome x) ≡ x
 unfolding outcomeBy
 outcome-back Outcome.Valid = refl
+outcome-back Outcome.Held = refl
 outcome-back Outcome.Silence = refl
 outcome-back Outcome.Bel = refl
 outcome-back Outcome.NoGreeting = refl
@@ -52,11 +54,35 @@ module _ (wish o : Outcome) (n k : ℕ) where
       (λ t. all (eqb-true _ _ t) (eqb-true k n (rw t at h)))
       (λ t. let b = both-true (ltb k n) (failing o k) (rw t at h) in before (ltb-true _ _ (b .0)) (b .1))
 
--- a failure, before the last is acknowledged, is an ending to which events lead
-pub fails-ends : (kind : RunKind) (o : Outcome) (n k : ℕ) → k < n → failing o k ≡ true
-    → endsAt (asked kind) n o k ≡ true
-fails-ends kind Outcome.Valid n k l f = absurd (true-false (sym f))
-fails-ends kind Outcome.Silence n k l f = rw (lt-ltb k n l)
-fails-ends kind Outcome.Bel n k l f = rw (lt-ltb k n l)
-fails-ends kind Outcome.NoGreeting n k l f = rw (lt-ltb k n l) f
-fails-ends kind Outcome.Other n k l f = rw (lt-ltb k n l)
+-- a failure is not what was asked for
+module _ (kind : RunKind) (o : Outcome) (k : ℕ) (f : failing o k ≡ true) where
+  pub fails-other : paperOutcome o ≡ paperOutcome (asked kind) → ⊥
+  fails-other e =
+      true-false (sym f ∙ ap (λ (x : Outcome). failing x k) (outcome-one o (asked kind) e) ∙ well kind)
+    where
+      well : (kind : RunKind) → failing (asked kind) k ≡ false
+      well RunKind.Reset = refl
+      well RunKind.Jump = refl
+      well RunKind.Hold = refl
+
+  -- so before the last is acknowledged it is an ending to which events lead
+  pub fails-ends : (n : ℕ) → k < n → endsAt (asked kind) n o k ≡ true
+  fails-ends n l = ends-fails (asked kind) o n k fails-other l ∙ f
+
+  -- and every run kind has it
+  pub fails-suits : endingFor kind o ≡ true
+  fails-suits = rw (ne-eqb _ _ fails-other) (go o f)
+    where
+      go : (o : Outcome) → failing o k ≡ true → leb 40 (paperOutcome o) ≡ true
+      go Outcome.Valid f = absurd (true-false (sym f))
+      go Outcome.Held f = absurd (true-false (sym f))
+      go Outcome.Silence f = refl
+      go Outcome.Bel f = refl
+      go Outcome.NoGreeting f = refl
+      go Outcome.Other f = refl
+
+-- so does it the one that was asked for
+pub asked-suits : (kind : RunKind) → endingFor kind (asked kind) ≡ true
+asked-suits RunKind.Reset = refl
+asked-suits RunKind.Jump = refl
+asked-suits RunKind.Hold = refl

@@ -6,10 +6,10 @@ use Rattle.events.specs.declared.ending.Outcome.{Outcome}
 use Rattle.events.proofs.ending.Outcome.fails.Statement.{statement}
 use Rattle.events.proofs.ending.Outcome.fails.Tie as tie
 
-returns-4 : tie.Need-returns-4
-returns-4 c =
+returns-5 : tie.Need-returns-5
+returns-5 c =
     let s = c .before .before .args in
-    ap (λ (o : Outcome). failing o (s .k)) (sym (c .enum-told4 .given .1))
+    ap (λ (o : Outcome). failing o (s .k)) (sym (c .enum-told5 .given .1))
 
 pub fails-spec : {M : Type 1} → statement M
 fails-spec =
@@ -23,5 +23,7 @@ fails-spec =
     (λ c. search needs)
     (λ c. search needs)
     (λ c. search needs)
-    returns-4
+    (λ c. search needs)
+    (λ c. search needs)
+    returns-5
     (λ c. search needs))
