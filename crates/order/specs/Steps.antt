@@ -6,7 +6,7 @@ use lib.Dec.{eqb, leb, ltb}
 use Rattle.basis.specs.Choice.{pick, both}
 use Rattle.basis.specs.Units.{startOf}
 use Rattle.basis.specs.declared.kind.RunKind.{RunKind}
-use Rattle.order.specs.Plan.{erasePacket, writePacket, verifyPacket, runPacket, beforeVerify, beforeR, total}
+use Rattle.order.specs.Plan.{sendsR, erasePacket, writePacket, verifyPacket, runPacket, beforeVerify, beforeR, total}
 use Rattle.order.specs.declared.cursor.Following.{Following}
 use Rattle.order.specs.declared.step.Step.{Step}
 use Rattle.runs.specs.Map.{named}
@@ -32,7 +32,8 @@ writeAt a = Step.Write (record { 0 = a })
 abbrev pub verifyAt : ℕ → Step
 verifyAt a = Step.Verify (record { 0 = a })
 
--- the step after k acknowledgements: its packet is the k-th of the plan, counted from 0
+-- the step after k acknowledgements: its packet is the k-th of the plan, counted from 0;
+-- R stands in the plan where the run kind sends it
 unfoldable pub stepAt : ℕ → List ℕ → ℕ → Step
 stepAt board m k =
     pick (ltb k (runCount board m)) (eraseAt (select (runStarts board m) k board))
@@ -47,8 +48,9 @@ abbrev pub packetAt : ℕ → List ℕ → List ℕ → RunKind → ℕ → List
 packetAt board image m kind k = packetOf board image m kind (stepAt board m k)
 
 -- what is left after k acknowledgements: the step then, and once all packets are acknowledged nothing
-abbrev pub followingAt : ℕ → List ℕ → ℕ → Following
-followingAt board m k = pick (ltb k (total board m)) (Following.Step (stepAt board m k)) Following.End
+abbrev pub followingAt : ℕ → List ℕ → RunKind → ℕ → Following
+followingAt board m kind k =
+    pick (ltb k (total board m kind)) (Following.Step (stepAt board m k)) Following.End
 
 -- ---- from step to step, by the map alone
 
@@ -67,24 +69,41 @@ nextRun board m q = follow (touched m) board board q
 abbrev pub nextPiece : ℕ → List ℕ → ℕ → ℕ
 nextPiece board m a = follow (named m) pieceMost (startOf board) a
 
--- the first step, and what follows one
+-- the first step: E of the first run
 abbrev pub firstOf : ℕ → List ℕ → Step
 firstOf board m = eraseAt (lowestRun board m)
 
-unfoldable pub followOf : ℕ → List ℕ → Step → Following
-followOf board m (Step.Erase p) =
-    pick (ltb (nextRun board m (p .0)) board)
-    (Following.Step (eraseAt (nextRun board m (p .0))))
+-- after E of the run at q: the next run, or the first piece to write
+abbrev pub afterErase : ℕ → List ℕ → ℕ → Following
+afterErase board m q =
+    pick (ltb (nextRun board m q) board)
+    (Following.Step (eraseAt (nextRun board m q)))
     (Following.Step (writeAt (lowestPiece board m)))
-followOf board m (Step.Write a) =
-    pick (ltb (nextPiece board m (a .0)) (startOf board))
-    (Following.Step (writeAt (nextPiece board m (a .0))))
+
+-- after W of the piece at a: the next piece, or the first to verify
+abbrev pub afterWrite : ℕ → List ℕ → ℕ → Following
+afterWrite board m a =
+    pick (ltb (nextPiece board m a) (startOf board))
+    (Following.Step (writeAt (nextPiece board m a)))
     (Following.Step (verifyAt (lowestPiece board m)))
-followOf board m (Step.Verify a) =
-    pick (ltb (nextPiece board m (a .0)) (startOf board))
-    (Following.Step (verifyAt (nextPiece board m (a .0))))
-    (Following.Step Step.Run)
-followOf board m Step.Run = Following.End
+
+-- behind the last V: R, or to hold nothing
+abbrev pub behindLast : RunKind → Following
+behindLast kind = pick (sendsR kind) (Following.Step Step.Run) Following.End
+
+-- after V of the piece at a: the next piece, or what comes behind the last
+abbrev pub afterVerify : ℕ → List ℕ → RunKind → ℕ → Following
+afterVerify board m kind a =
+    pick (ltb (nextPiece board m a) (startOf board))
+    (Following.Step (verifyAt (nextPiece board m a)))
+    (behindLast kind)
+
+-- what follows a step
+unfoldable pub followOf : ℕ → List ℕ → RunKind → Step → Following
+followOf board m kind (Step.Erase p) = afterErase board m (p .0)
+followOf board m kind (Step.Write a) = afterWrite board m (a .0)
+followOf board m kind (Step.Verify a) = afterVerify board m kind (a .0)
+followOf board m kind Step.Run = Following.End
 
 -- ---- where a step stands
 
@@ -100,11 +119,11 @@ abbrev pub ranked : (ℕ → Bool) → ℕ → ℕ → ℕ → Bool
 ranked starts base a k = both (starts a) (eqb (base + count starts a) k)
 
 -- its packet is the k-th of the file
-unfoldable pub standsAt : ℕ → List ℕ → Step → ℕ → Bool
-standsAt board m (Step.Erase p) k = ranked (runStarts board m) 0 (p .0) k
-standsAt board m (Step.Write a) k = ranked (pieceStarts m) (runCount board m) (a .0) k
-standsAt board m (Step.Verify a) k = ranked (pieceStarts m) (beforeVerify board m) (a .0) k
-standsAt board m Step.Run k = eqb (beforeR board m) k
+unfoldable pub standsAt : ℕ → List ℕ → RunKind → Step → ℕ → Bool
+standsAt board m kind (Step.Erase p) k = ranked (runStarts board m) 0 (p .0) k
+standsAt board m kind (Step.Write a) k = ranked (pieceStarts m) (runCount board m) (a .0) k
+standsAt board m kind (Step.Verify a) k = ranked (pieceStarts m) (beforeVerify board m) (a .0) k
+standsAt board m kind Step.Run k = both (sendsR kind) (eqb (beforeR board m) k)
 
 -- the address that a step names: 0 for R, the board's end for a page past the board
 unfoldable pub placeOf : ℕ → Step → ℕ
@@ -114,8 +133,8 @@ placeOf board (Step.Verify a) = a .0
 placeOf board Step.Run = 0
 
 -- what a survey at that address says of it
-abbrev pub standsBy : Surveyed → Step → ℕ → Bool
-standsBy f (Step.Erase p) k = both (f .run) (eqb (f .below .runs) k)
-standsBy f (Step.Write a) k = both (f .piece) (eqb (f .all .runs + f .below .pieces) k)
-standsBy f (Step.Verify a) k = both (f .piece) (eqb (f .all .runs + f .all .pieces + f .below .pieces) k)
-standsBy f Step.Run k = eqb (f .all .runs + 2 * f .all .pieces) k
+abbrev pub standsBy : Surveyed → RunKind → Step → ℕ → Bool
+standsBy f kind (Step.Erase p) k = both (f .run) (eqb (f .below .runs) k)
+standsBy f kind (Step.Write a) k = both (f .piece) (eqb (f .all .runs + f .below .pieces) k)
+standsBy f kind (Step.Verify a) k = both (f .piece) (eqb (f .all .runs + f .all .pieces + f .below .pieces) k)
+standsBy f kind Step.Run k = both (sendsR kind) (eqb (f .all .runs + 2 * f .all .pieces) k)

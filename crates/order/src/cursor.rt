@@ -4,11 +4,12 @@ ghost use mathlib.Core.Bool.{true};
 ghost use Prim.Native.Nat.{_<_};
 ghost use lib.ListN.{length};
 ghost use Rattle.basis.specs.Board.{pages, flashSize, mapSize};
-ghost use Rattle.order.specs.Steps.{atStart, lowestPiece, nextRun, nextPiece, firstOf, followOf, placeOf};
+ghost use Rattle.order.specs.Steps.{atStart, lowestPiece, nextRun, nextPiece, firstOf, afterErase, afterWrite, behindLast, afterVerify, followOf, placeOf};
 ghost use Rattle.order.specs.declared.step.Step.{Step};
 use crate::step::Step;
 use basis::board::END;
 use basis::board::PAGES;
+use basis::kind::RunKind;
 use basis::units::Address;
 use basis::units::Page;
 use runs::pages::next_touched;
@@ -52,21 +53,21 @@ pub fn first(map: &[u8]) -> Step
     Step::Erase(next_touched(map, Page(0), Page(PAGES)))
 }
 
-pub fn follow(map: &[u8], step: Step) -> Following
+pub fn follow(map: &[u8], kind: RunKind, step: Step) -> Following
     requires { ⌜ (length (now map) ≡ mapSize) × (atStart pages (now map) step ≡ true) ⌝ }
-    ensures { λ r. ⌜ r ≡ followOf pages (now (map .entry)) step ⌝ }
+    ensures { λ r. ⌜ r ≡ followOf pages (now (map .entry)) kind step ⌝ }
 {
     match step {
         Step::Erase(page) => after_erase(map, page),
         Step::Write(address) => after_write(map, address),
-        Step::Verify(address) => after_verify(map, address),
+        Step::Verify(address) => after_verify(map, kind, address),
         Step::Run => Following::End,
     }
 }
 
 fn after_erase(map: &[u8], page: Page) -> Following
     requires { ⌜ (length (now map) ≡ mapSize) × (page .0 < pages) ⌝ }
-    ensures { λ r. ⌜ r ≡ followOf pages (now (map .entry)) (Step.Erase page) ⌝ }
+    ensures { λ r. ⌜ r ≡ afterErase pages (now (map .entry)) (page .0) ⌝ }
 {
     let next = next_run(map, page);
     if next.0 < PAGES {
@@ -77,7 +78,7 @@ fn after_erase(map: &[u8], page: Page) -> Following
 
 fn after_write(map: &[u8], address: Address) -> Following
     requires { ⌜ (length (now map) ≡ mapSize) × (address .0 < flashSize) ⌝ }
-    ensures { λ r. ⌜ r ≡ followOf pages (now (map .entry)) (Step.Write address) ⌝ }
+    ensures { λ r. ⌜ r ≡ afterWrite pages (now (map .entry)) (address .0) ⌝ }
 {
     let next = next_piece(map, address);
     if next.0 < END {
@@ -86,15 +87,26 @@ fn after_write(map: &[u8], address: Address) -> Following
     Following::Step(Step::Verify(first_piece(map)))
 }
 
-fn after_verify(map: &[u8], address: Address) -> Following
+fn after_verify(map: &[u8], kind: RunKind, address: Address) -> Following
     requires { ⌜ (length (now map) ≡ mapSize) × (address .0 < flashSize) ⌝ }
-    ensures { λ r. ⌜ r ≡ followOf pages (now (map .entry)) (Step.Verify address) ⌝ }
+    ensures { λ r. ⌜ r ≡ afterVerify pages (now (map .entry)) kind (address .0) ⌝ }
 {
     let next = next_piece(map, address);
     if next.0 < END {
         return Following::Step(Step::Verify(next));
     }
-    Following::Step(Step::Run)
+    behind_last(kind)
+}
+
+// R, or to hold nothing.
+fn behind_last(kind: RunKind) -> Following
+    ensures { λ r. ⌜ r ≡ behindLast kind ⌝ }
+{
+    match kind {
+        RunKind::Reset => Following::Step(Step::Run),
+        RunKind::Jump => Following::Step(Step::Run),
+        RunKind::Hold => Following::End,
+    }
 }
 
 fn first_piece(map: &[u8]) -> Address

@@ -9,7 +9,7 @@ ghost use Rattle.packet.specs.Packet.{packet, packetMost};
 ghost use Rattle.packet.specs.Table.{listed, inShape};
 ghost use Rattle.runs.specs.Pieces.{pieceStarts, runStarts};
 ghost use Rattle.order.specs.Steps.{atStart, packetOf};
-ghost use Rattle.order.specs.Plan.{carriesPiece, pieceBytes, runAddress, erasePacket, runPacket};
+ghost use Rattle.order.specs.Plan.{carriesPiece, pieceBytes, erasePacket, runPacket};
 use crate::step::Step;
 use basis::board::PAGES;
 use basis::kind::RunKind;
@@ -81,15 +81,11 @@ fn send_run(kind: RunKind, buffer: &mut [u8]) -> usize
         (r ≡ length (runPacket kind)) × (now (buffer .exit) ≡ overlay (runPacket kind) (now (buffer .entry)))
         ⌝ }
 {
-    put(buffer, RUN, run_address(kind), b"")
-}
-
-fn run_address(kind: RunKind) -> Address
-    ensures { λ r. ⌜ r .0 ≡ runAddress kind ⌝ }
-{
     match kind {
-        RunKind::Reset => Address(1),
-        RunKind::Jump => Address(0),
+        RunKind::Reset => put(buffer, RUN, Address(1), b""),
+        RunKind::Jump => put(buffer, RUN, Address(0), b""),
+        // Never asked: hold has no such step.
+        RunKind::Hold => 0,
     }
 }
 

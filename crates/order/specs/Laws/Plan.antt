@@ -1,4 +1,5 @@
--- Laws of the plan: it has e + 2w + 1 packets, and the k-th is the one that is out after k acknowledgements.
+-- Laws of the plan: it has as many packets as the total, and the k-th is the one that is out after k
+-- acknowledgements.
 use Prim.Native.Nat.{ℕ, zero, suc, _+_, _-_, _≤_, _<_}
 use mathlib.Core.Bool.{Bool}
 use mathlib.Core.List.{List, [], _∷_, _++_, map}
@@ -8,14 +9,16 @@ use borrow.Author.Tests.{eqb-true, eqb-false, ltb-true, ltb-false}
 use lib.Dec.{eqb, ltb}
 use lib.ListN.{length, getD, length-append, length-map, List·getD-append}
 use lib.Seq.{getD-append-seam, getD-append-add}
+use Rattle.basis.specs.Choice.{pick}
 use Rattle.basis.specs.Laws.Choice.{decide}
 use Rattle.basis.specs.Units.{startOf}
 use Rattle.basis.specs.declared.kind.RunKind.{RunKind}
 use Rattle.runs.specs.Laws.Runs.{count-zero, count-yes, count-no}
 use Rattle.runs.specs.Pieces.{pieceStarts, runStarts, runCount, pieceCount}
 use Rattle.runs.specs.Runs.{count, select}
+use Rattle.order.specs.Laws.Kinds.{r-most, r-sent}
 use Rattle.order.specs.Steps.{stepAt, packetAt}
-use Rattle.order.specs.Plan.{erasePacket, writePacket, verifyPacket, places, plan, total, beforeR, beforeVerify}
+use Rattle.order.specs.Plan.{sendsR, erasePacket, writePacket, verifyPacket, runPacket, places, plan, beforeVerify, beforeR, rCount, total}
 
 -- the places that pass are as many as are counted, and the k-th is the one of rank k
 places-length : (p : ℕ → Bool) (n : ℕ) → length (places p n) ≡ count p n
@@ -64,16 +67,27 @@ module _ {A : Type 0} where
       ap (λ (j : ℕ). getD (map f (places p n) ++ ys) j d) x
       ∙ getD-append-add (map f (places p n)) ys (k - count p n) d
 
+-- one R at the end, or none
+last-length : (kind : RunKind) → length (pick (sendsR kind) (runPacket kind ∷ []) []) ≡ rCount kind
+last-length RunKind.Reset = refl
+last-length RunKind.Jump = refl
+last-length RunKind.Hold = refl
+
 module _ (board : ℕ) (image m : List ℕ) (kind : RunKind) where
-  -- the plan has e + 2w + 1 packets
-  pub plan-length : length (plan board image m kind) ≡ total board m
+  -- the plan has e + 2w + 1 packets, and e + 2w to hold
+  pub plan-length : length (plan board image m kind) ≡ total board m kind
   unfolding plan
   plan-length =
       simp (length-append, length-map)
-      (omega (arith, places-length (runStarts board m) board, places-length (pieceStarts m) (startOf board)))
+      (omega (
+        arith,
+        places-length (runStarts board m) board,
+        places-length (pieceStarts m) (startOf board),
+        last-length kind,
+      ))
 
   -- the k-th, counted from 0, is out after k acknowledgements
-  pub plan-at : (k : ℕ) (d : List ℕ) → k < total board m
+  pub plan-at : (k : ℕ) (d : List ℕ) → k < total board m kind
       → getD (plan board image m kind) k d ≡ packetAt board image m kind k
   unfolding stepAt plan
   plan-at k d l =
@@ -93,6 +107,7 @@ module _ (board : ℕ) (image m : List ℕ) (kind : RunKind) where
       (k - beforeVerify board m) _ d (omega (arith, ltb-true k (beforeR board m) c))))
       (λ c. let kc : pieceCount board m ≤ k - beforeVerify board m = omega
       (arith, ltb-false k (beforeR board m) c) in
-      let z : k - beforeVerify board m - pieceCount board m ≡ 0 = omega arith in
+      let z : k - beforeVerify board m - pieceCount board m ≡ 0 = omega (arith, r-most kind) in
+      let t = r-sent kind (omega (arith, ltb-false k (beforeR board m) c)) in
       rw c (part-past (verifyPacket image m) (pieceStarts m) (startOf board) (k - beforeVerify board m) _ d kc
-      ∙ rw z)))))))
+      ∙ rw (z, t))))))))

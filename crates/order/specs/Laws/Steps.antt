@@ -9,6 +9,7 @@ use lib.Dec.{eqb, ltb}
 use lib.ListN.{length}
 use Rattle.basis.specs.Laws.Choice.{decide, both-true, true-false}
 use Rattle.basis.specs.Units.{startOf, mapBytes}
+use Rattle.basis.specs.declared.kind.RunKind.{RunKind}
 use Rattle.runs.specs.Laws.Files.{bytes-past, pages-past}
 use Rattle.runs.specs.Laws.Pieces.{starts-below, first-starts, first-rank, follow-starts, follow-rank}
 use Rattle.runs.specs.Laws.Runs.{count-mono, rank-below, select-at, select-kth}
@@ -16,9 +17,10 @@ use Rattle.runs.specs.Map.{named}
 use Rattle.runs.specs.Pages.{touched}
 use Rattle.runs.specs.Pieces.{pieceMost, pieceStarts, runStarts, runCount, pieceCount, namedCount}
 use Rattle.runs.specs.Runs.{count, starts, next, select, follow}
+use Rattle.order.specs.Laws.Kinds.{r-one, r-none, r-sent}
 use Rattle.order.specs.Laws.Starts.{some-page, run-below, piece-below, first-piece-below, first-run-below}
-use Rattle.order.specs.Steps.{eraseAt, writeAt, verifyAt, stepAt, followingAt, lowestPiece, nextRun, nextPiece, firstOf, followOf, atStart, ranked, standsAt}
-use Rattle.order.specs.Plan.{total, beforeR, beforeVerify}
+use Rattle.order.specs.Steps.{eraseAt, writeAt, verifyAt, stepAt, followingAt, lowestPiece, nextRun, nextPiece, firstOf, behindLast, followOf, atStart, ranked, standsAt}
+use Rattle.order.specs.Plan.{sendsR, total, beforeR, beforeVerify}
 use Rattle.order.specs.declared.cursor.Following.{Following}
 use Rattle.order.specs.declared.step.Step.{Step}
 
@@ -64,25 +66,33 @@ module _ (board : ℕ) (m : List ℕ) (long : length m ≡ mapBytes board) where
       let t = ranked-is (pieceStarts m) base a k h in
       omega (arith, rank-below (pieceStarts m) (startOf board) a (piece-below board m long a (t .0)) (t .0))
 
+-- R is out exactly after all else is acknowledged, where it is sent
+pub stands-r : (board : ℕ) (m : List ℕ) (kind : RunKind) (k : ℕ) → standsAt board m kind Step.Run k ≡ true
+    → (sendsR kind ≡ true) × (beforeR board m ≡ k)
+unfolding standsAt
+stands-r board m kind k h =
+    let b = both-true (sendsR kind) (eqb (beforeR board m) k) h in (b .0, eqb-true _ _ (b .1))
+
+module _ (board : ℕ) (m : List ℕ) (long : length m ≡ mapBytes board) (kind : RunKind) where
   -- fewer packets are acknowledged than there are
-  pub stands-below : (s : Step) (k : ℕ) → standsAt board m s k ≡ true → k < total board m
+  pub stands-below : (s : Step) (k : ℕ) → standsAt board m kind s k ≡ true → k < total board m kind
   unfolding standsAt
-  stands-below (Step.Erase p) k h = omega (arith, run-rank (p .0) k h)
-  stands-below (Step.Write a) k h = omega (arith, piece-rank (runCount board m) (a .0) k h)
-  stands-below (Step.Verify a) k h = omega (arith, piece-rank (beforeVerify board m) (a .0) k h)
-  stands-below Step.Run k h = omega (arith, eqb-true (beforeR board m) k h)
+  stands-below (Step.Erase p) k h = omega (arith, run-rank board m long (p .0) k h)
+  stands-below (Step.Write a) k h = omega (arith, piece-rank board m long (runCount board m) (a .0) k h)
+  stands-below (Step.Verify a) k h = omega (arith, piece-rank board m long (beforeVerify board m) (a .0) k h)
+  stands-below Step.Run k h =
+      let r = stands-r board m kind k h in omega (arith, r .1, r-one kind (r .0))
 
   -- the cursor stands at a start
-  pub stands-start : (s : Step) (k : ℕ) → standsAt board m s k ≡ true → atStart board m s ≡ true
+  pub stands-start : (s : Step) (k : ℕ) → standsAt board m kind s k ≡ true → atStart board m s ≡ true
   unfolding standsAt
   stands-start (Step.Erase p) k h = ranked-is (runStarts board m) 0 (p .0) k h .0
   stands-start (Step.Write a) k h = ranked-is (pieceStarts m) (runCount board m) (a .0) k h .0
   stands-start (Step.Verify a) k h = ranked-is (pieceStarts m) (beforeVerify board m) (a .0) k h .0
   stands-start Step.Run k h = refl
 
-module _ (board : ℕ) (m : List ℕ) (long : length m ≡ mapBytes board) where
   -- a step that stands after k acknowledgements is the one after k
-  pub stands-at : (s : Step) (k : ℕ) → standsAt board m s k ≡ true → s ≡ stepAt board m k
+  pub stands-at : (s : Step) (k : ℕ) → standsAt board m kind s k ≡ true → s ≡ stepAt board m k
   unfolding stepAt standsAt
   stands-at (Step.Erase p) k h =
       let t = ranked-is (runStarts board m) 0 (p .0) k h in
@@ -111,22 +121,17 @@ module _ (board : ℕ) (m : List ℕ) (long : length m ≡ mapBytes board) where
       (sym (select-at (pieceStarts m) (startOf board) (a .0) (piece-below board m long (a .0) (t .0)) (t .0))
       ∙ ap (λ (x : ℕ). select (pieceStarts m) x (startOf board)) c))
   stands-at Step.Run k h =
-      let e : beforeR board m ≡ k = eqb-true _ _ h in
+      let e : beforeR board m ≡ k = stands-r board m kind k h .1 in
       let d : runCount board m ≤ k = omega arith in
       let f : beforeVerify board m ≤ k = omega arith in
       let b : beforeR board m ≤ k = omega arith in
       rw (le-ltb _ _ d, le-ltb _ _ f, le-ltb _ _ b)
 
--- R is out exactly after all else is acknowledged
-pub stands-r : (board : ℕ) (m : List ℕ) (k : ℕ) → standsAt board m Step.Run k ≡ true → beforeR board m ≡ k
-unfolding standsAt
-stands-r board m k h = eqb-true _ _ h
-
 -- and the step after k stands after k
-pub at-stands : (board : ℕ) (m : List ℕ) (k : ℕ) → k < total board m
-    → standsAt board m (stepAt board m k) k ≡ true
+pub at-stands : (board : ℕ) (m : List ℕ) (kind : RunKind) (k : ℕ) → k < total board m kind
+    → standsAt board m kind (stepAt board m k) k ≡ true
 unfolding stepAt standsAt
-at-stands board m k l =
+at-stands board m kind k l =
     decide (ltb k (runCount board m))
     (λ d. let s = select-kth (runStarts board m) board k (ltb-true _ _ d) in
     rw d (ranked-by (runStarts board m) 0 _ k (s .passes) (omega (arith, s .rank))))
@@ -140,7 +145,9 @@ at-stands board m k l =
     let s = select-kth (pieceStarts m) (startOf board) (k - beforeVerify board m)
     (omega (arith, ltb-true k (beforeR board m) b)) in
     rw (d, f, b) (ranked-by (pieceStarts m) (beforeVerify board m) _ k (s .passes) (omega (arith, s .rank))))
-    (λ b. rw (d, f, b) (eq-eqb (beforeR board m) k (omega (arith, ltb-false k (beforeR board m) b))))))
+    (λ b. let g : beforeR board m ≤ k = ltb-false _ _ b in
+    let t = r-sent kind (omega arith) in
+    rw (d, f, b, t) (eq-eqb (beforeR board m) k (omega (arith, r-one kind t))))))
 
 -- ---- what is left after k acknowledgements
 
@@ -152,51 +159,53 @@ isStep : Following → Bool
 isStep (Following.Step s) = true
 isStep Following.End = false
 
-module _ (board : ℕ) (m : List ℕ) (k : ℕ) where
+module _ (board : ℕ) (m : List ℕ) (kind : RunKind) (k : ℕ) where
   -- the step then, while not all are acknowledged
-  pub left-step : (s : Step) → followingAt board m k ≡ Following.Step s
-      → (k < total board m) × (s ≡ stepAt board m k)
+  pub left-step : (s : Step) → followingAt board m kind k ≡ Following.Step s
+      → (k < total board m kind) × (s ≡ stepAt board m k)
   unfolding stepOr isStep
   left-step s e =
-      decide (ltb k (total board m))
+      decide (ltb k (total board m kind))
       (λ d. (ltb-true _ _ d, sym (ap (stepOr s) (rw d at e))))
       (λ d. absurd (true-false (sym (ap isStep (rw d at e)))))
 
   -- and else nothing
-  pub left-end : followingAt board m k ≡ Following.End → total board m ≤ k
+  pub left-end : followingAt board m kind k ≡ Following.End → total board m kind ≤ k
   unfolding isStep
   left-end e =
-      decide (ltb k (total board m))
+      decide (ltb k (total board m kind))
       (λ d. absurd (true-false (ap isStep (rw d at e)))) (λ d. ltb-false _ _ d)
 
 -- ---- from step to step
 
 -- what is left after k acknowledgements: a step that stands there, or nothing where all are acknowledged
-abbrev leftAt : ℕ → List ℕ → Following → ℕ → Bool
-leftAt board m (Following.Step s) k = standsAt board m s k
-leftAt board m Following.End k = eqb (total board m) k
+abbrev leftAt : ℕ → List ℕ → RunKind → Following → ℕ → Bool
+leftAt board m kind (Following.Step s) k = standsAt board m kind s k
+leftAt board m kind Following.End k = eqb (total board m kind) k
 
-left-at : (board : ℕ) (m : List ℕ) → length m ≡ mapBytes board → (f : Following) (k : ℕ)
-    → leftAt board m f k ≡ true → f ≡ followingAt board m k
-left-at board m long (Following.Step s) k h =
-    rw (lt-ltb k (total board m) (stands-below board m long s k h))
-    (ap Following.Step (stands-at board m long s k h))
-left-at board m long Following.End k h =
-    let l : total board m ≤ k = omega (arith, eqb-true (total board m) k h) in rw (le-ltb k (total board m) l)
+left-at : (board : ℕ) (m : List ℕ) → length m ≡ mapBytes board → (kind : RunKind) (f : Following) (k : ℕ)
+    → leftAt board m kind f k ≡ true → f ≡ followingAt board m kind k
+left-at board m long kind (Following.Step s) k h =
+    rw (lt-ltb k (total board m kind) (stands-below board m long kind s k h))
+    (ap Following.Step (stands-at board m long kind s k h))
+left-at board m long kind Following.End k h =
+    let l : total board m kind ≤ k = omega (arith, eqb-true (total board m kind) k h) in
+    rw (le-ltb k (total board m kind) l)
 
-module _ (board : ℕ) (m : List ℕ) (long : length m ≡ mapBytes board) (some : 0 < namedCount board m) where
+module _ (board : ℕ) (m : List ℕ) (long : length m ≡ mapBytes board) (some : 0 < namedCount board m)
+    (kind : RunKind) where
   first-piece-ranked : (base : ℕ) → ranked (pieceStarts m) base (lowestPiece board m) base ≡ true
   first-piece-ranked base =
       first-ranked (named m) pieceMost (startOf board) (bytes-past board m long) base
       (first-piece-below board m long some)
 
-  first-stands : standsAt board m (firstOf board m) 0 ≡ true
+  first-stands : standsAt board m kind (firstOf board m) 0 ≡ true
   unfolding standsAt
   first-stands =
       first-ranked (touched m) board board (pages-past board m long) 0 (first-run-below board m long some)
 
-  erase-stands : (q k : ℕ) → standsAt board m (eraseAt q) k ≡ true
-      → leftAt board m (followOf board m (eraseAt q)) (k + 1) ≡ true
+  erase-stands : (q k : ℕ) → standsAt board m kind (eraseAt q) k ≡ true
+      → leftAt board m kind (followOf board m kind (eraseAt q)) (k + 1) ≡ true
   unfolding followOf standsAt
   erase-stands q k h =
       decide (ltb (nextRun board m q) board)
@@ -210,8 +219,8 @@ module _ (board : ℕ) (m : List ℕ) (long : length m ≡ mapBytes board) (some
       ))
       (first-piece-ranked (runCount board m))))
 
-  write-stands : (a k : ℕ) → standsAt board m (writeAt a) k ≡ true
-      → leftAt board m (followOf board m (writeAt a)) (k + 1) ≡ true
+  write-stands : (a k : ℕ) → standsAt board m kind (writeAt a) k ≡ true
+      → leftAt board m kind (followOf board m kind (writeAt a)) (k + 1) ≡ true
   unfolding followOf standsAt
   write-stands a k h =
       decide (ltb (nextPiece board m a) (startOf board))
@@ -223,27 +232,36 @@ module _ (board : ℕ) (m : List ℕ) (long : length m ≡ mapBytes board) (some
       (omega arith) a k h (ltb-false _ _ d))
       (first-piece-ranked (beforeVerify board m))))
 
-  verify-stands : (a k : ℕ) → standsAt board m (verifyAt a) k ≡ true
-      → leftAt board m (followOf board m (verifyAt a)) (k + 1) ≡ true
+  -- behind the last V stands R, or nothing where it is not sent
+  behind-stands : (k : ℕ) → beforeR board m ≡ k → leftAt board m kind (behindLast kind) k ≡ true
+  unfolding standsAt
+  behind-stands k e =
+      decide (sendsR kind)
+      (λ t. rw (t, t) (eq-eqb (beforeR board m) k e))
+      (λ t. rw t (eq-eqb (total board m kind) k (omega (arith, r-none kind t))))
+
+  verify-stands : (a k : ℕ) → standsAt board m kind (verifyAt a) k ≡ true
+      → leftAt board m kind (followOf board m kind (verifyAt a)) (k + 1) ≡ true
   unfolding followOf standsAt
   verify-stands a k h =
       decide (ltb (nextPiece board m a) (startOf board))
       (λ d. rw d (follow-ranked (named m) pieceMost (startOf board) (bytes-past board m long)
       (beforeVerify board m) (omega arith) a k h (ltb-true _ _ d)))
-      (λ d. rw d (eq-eqb (beforeR board m) (k + 1)
-      (omega (
+      (λ d. let e : beforeR board m ≡ k + 1 = omega (
         arith,
         follow-last (named m) pieceMost (startOf board) (bytes-past board m long) (beforeVerify board m)
             (omega arith) a k h (ltb-false _ _ d),
-      ))))
+      ) in rw d (behind-stands (k + 1) e))
 
-  run-stands : (k : ℕ) → standsAt board m Step.Run k ≡ true
-      → leftAt board m (followOf board m Step.Run) (k + 1) ≡ true
+  run-stands : (k : ℕ) → standsAt board m kind Step.Run k ≡ true
+      → leftAt board m kind (followOf board m kind Step.Run) (k + 1) ≡ true
   unfolding followOf
-  run-stands k h = eq-eqb (total board m) (k + 1) (omega (arith, stands-r board m k h))
+  run-stands k h =
+      let r = stands-r board m kind k h in
+      eq-eqb (total board m kind) (k + 1) (omega (arith, r .1, r-one kind (r .0)))
 
-  follow-stands : (s : Step) (k : ℕ) → standsAt board m s k ≡ true
-      → leftAt board m (followOf board m s) (k + 1) ≡ true
+  follow-stands : (s : Step) (k : ℕ) → standsAt board m kind s k ≡ true
+      → leftAt board m kind (followOf board m kind s) (k + 1) ≡ true
   follow-stands (Step.Erase p) k h = erase-stands (p .0) k h
   follow-stands (Step.Write a) k h = write-stands (a .0) k h
   follow-stands (Step.Verify a) k h = verify-stands (a .0) k h
@@ -251,29 +269,30 @@ module _ (board : ℕ) (m : List ℕ) (long : length m ≡ mapBytes board) (some
 
   -- the first step has the first packet, and each leads to the next
   pub first-at : firstOf board m ≡ stepAt board m 0
-  first-at = stands-at board m long (firstOf board m) 0 first-stands
+  first-at = stands-at board m long kind (firstOf board m) 0 first-stands
 
-  pub follow-at : (k : ℕ) → k < total board m
-      → followOf board m (stepAt board m k) ≡ followingAt board m (k + 1)
+  pub follow-at : (k : ℕ) → k < total board m kind
+      → followOf board m kind (stepAt board m k) ≡ followingAt board m kind (k + 1)
   follow-at k l =
-      left-at board m long (followOf board m (stepAt board m k)) (k + 1)
-      (follow-stands (stepAt board m k) k (at-stands board m k l))
+      left-at board m long kind (followOf board m kind (stepAt board m k)) (k + 1)
+      (follow-stands (stepAt board m k) k (at-stands board m kind k l))
 
-  pub follow-next : (k : ℕ) → k + 1 < total board m
-      → followOf board m (stepAt board m k) ≡ Following.Step (stepAt board m (k + 1))
-  follow-next k l = follow-at k (omega arith) ∙ rw (lt-ltb (k + 1) (total board m) l)
+  pub follow-next : (k : ℕ) → k + 1 < total board m kind
+      → followOf board m kind (stepAt board m k) ≡ Following.Step (stepAt board m (k + 1))
+  follow-next k l = follow-at k (omega arith) ∙ rw (lt-ltb (k + 1) (total board m kind) l)
 
-  pub follow-end : (k : ℕ) → k + 1 ≡ total board m → followOf board m (stepAt board m k) ≡ Following.End
+  pub follow-end : (k : ℕ) → k + 1 ≡ total board m kind
+      → followOf board m kind (stepAt board m k) ≡ Following.End
   follow-end k e =
-      let l : total board m ≤ k + 1 = omega arith in
-      follow-at k (omega arith) ∙ rw (le-ltb (k + 1) (total board m) l)
+      let l : total board m kind ≤ k + 1 = omega arith in
+      follow-at k (omega arith) ∙ rw (le-ltb (k + 1) (total board m kind) l)
 
   -- a cursor that moves on stands at a start
   pub first-start : atStart board m (firstOf board m) ≡ true
-  first-start = stands-start board m long (firstOf board m) 0 first-stands
+  first-start = stands-start board m long kind (firstOf board m) 0 first-stands
 
-  pub follow-start : (s t : Step) (k : ℕ) → standsAt board m s k ≡ true
-      → followOf board m s ≡ Following.Step t → atStart board m t ≡ true
+  pub follow-start : (s t : Step) (k : ℕ) → standsAt board m kind s k ≡ true
+      → followOf board m kind s ≡ Following.Step t → atStart board m t ≡ true
   follow-start s t k h e =
-      stands-start board m long t (k + 1)
-      (sym (ap (λ (f : Following). leftAt board m f (k + 1)) e) ∙ follow-stands s k h)
+      stands-start board m long kind t (k + 1)
+      (sym (ap (λ (f : Following). leftAt board m kind f (k + 1)) e) ∙ follow-stands s k h)

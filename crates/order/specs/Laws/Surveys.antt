@@ -11,6 +11,7 @@ use lib.ListN.{length}
 use Rattle.basis.specs.Board.{pages, flashSize, mapSize}
 use Rattle.basis.specs.Laws.Choice.{decide, both-false}
 use Rattle.basis.specs.Units.{pageOf, startOf}
+use Rattle.basis.specs.declared.kind.RunKind.{RunKind}
 use Rattle.runs.specs.Laws.Files.{bytes-past, pages-past}
 use Rattle.runs.specs.Laws.Pieces.{starts-fail}
 use Rattle.runs.specs.Laws.Runs.{count-le}
@@ -56,31 +57,33 @@ told m a {f} e =
     }
 
 -- at a step's place it says whether the step stands in the file
-pub told-stands : (m : List ℕ) (s : Step) (k : ℕ) {f : Surveyed} → f ≡ surveyOf pages m (placeOf pages s)
-    → placeOf pages s < flashSize → standsBy f s k ≡ standsAt pages m s k
+pub told-stands : (m : List ℕ) (kind : RunKind) (s : Step) (k : ℕ) {f : Surveyed}
+    → f ≡ surveyOf pages m (placeOf pages s)
+    → placeOf pages s < flashSize → standsBy f kind s k ≡ standsAt pages m kind s k
 unfolding placeOf standsAt
-told-stands m (Step.Erase p) k e l =
+told-stands m kind (Step.Erase p) k e l =
     decide (leb pages (p .0))
     (λ d. absurd (omega (arith, rw d at l)))
     (λ d. let t = told m (startOf (p .0)) (rw d at e) in
     let q : pageOf (startOf (p .0)) ≡ p .0 = omega arith in
     rw (t .run, t .runs-below, q, zero-add))
-told-stands m (Step.Write a) k e l = let t = told m (a .0) e in rw (t .piece, t .runs, t .pieces-below)
-told-stands m (Step.Verify a) k e l =
+told-stands m kind (Step.Write a) k e l = let t = told m (a .0) e in rw (t .piece, t .runs, t .pieces-below)
+told-stands m kind (Step.Verify a) k e l =
     let t = told m (a .0) e in rw (t .piece, t .runs, t .pieces, t .pieces-below)
-told-stands m Step.Run k e l = let t = told m 0 e in rw (t .runs, t .pieces)
+told-stands m kind Step.Run k e l = let t = told m 0 e in rw (t .runs, t .pieces)
 
 -- and a step past the board stands nowhere
-pub past-stands : (m : List ℕ) → length m ≡ mapSize → (s : Step) (k : ℕ) → flashSize ≤ placeOf pages s
-    → standsAt pages m s k ≡ false
+pub past-stands : (m : List ℕ) → length m ≡ mapSize → (kind : RunKind) (s : Step) (k : ℕ)
+    → flashSize ≤ placeOf pages s
+    → standsAt pages m kind s k ≡ false
 unfolding placeOf standsAt
-past-stands m long (Step.Erase p) k l =
+past-stands m long kind (Step.Erase p) k l =
     decide (leb pages (p .0))
     (λ d. both-false _ _
     (starts-fail (touched m) pages (p .0) (pages-past pages m long (p .0) (leb-true _ _ d))))
     (λ d. absurd (omega (arith, leb-false pages (p .0) d, rw d at l)))
-past-stands m long (Step.Write a) k l =
+past-stands m long kind (Step.Write a) k l =
     both-false _ _ (starts-fail (named m) pieceMost (a .0) (bytes-past pages m long (a .0) l))
-past-stands m long (Step.Verify a) k l =
+past-stands m long kind (Step.Verify a) k l =
     both-false _ _ (starts-fail (named m) pieceMost (a .0) (bytes-past pages m long (a .0) l))
-past-stands m long Step.Run k l = absurd (omega arith)
+past-stands m long kind Step.Run k l = absurd (omega arith)

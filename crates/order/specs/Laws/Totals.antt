@@ -7,6 +7,7 @@ use native.Mathlib.Omega.{arith}
 use lib.ListN.{length}
 use Rattle.basis.specs.Laws.Choice.{decide, true-false}
 use Rattle.basis.specs.Units.{startOf, mapBytes}
+use Rattle.basis.specs.declared.kind.RunKind.{RunKind}
 use Rattle.runs.specs.Laws.Files.{bytes-past, pages-past}
 use Rattle.runs.specs.Laws.Pieces.{starts-inside, starts-off, off-more, first-starts}
 use Rattle.runs.specs.Laws.Runs.{count-zero, count-yes, count-no, count-le, rank-below}
@@ -14,9 +15,10 @@ use Rattle.runs.specs.Map.{named}
 use Rattle.runs.specs.Pages.{touched}
 use Rattle.runs.specs.Pieces.{pieceMost, pieceStarts, runStarts, pieceCount, namedCount}
 use Rattle.runs.specs.Runs.{count, starts}
+use Rattle.order.specs.Laws.Kinds.{r-most}
 use Rattle.order.specs.Laws.Starts.{runs-most, first-piece-below, first-run-below}
 use Rattle.order.specs.Steps.{lowestRun, lowestPiece}
-use Rattle.order.specs.Plan.{total}
+use Rattle.order.specs.Plan.{beforeR, total}
 
 -- of numbers that never pass side by side at most every second does
 sparse : (q : ℕ → Bool) → ((a : ℕ) → q a ≡ true → q (suc a) ≡ false) → (n : ℕ)
@@ -40,20 +42,20 @@ pub pieces-half : (board : ℕ) (m : List ℕ) → 2 * pieceCount board m ≤ st
 pieces-half board m =
     sparse (pieceStarts m) (starts-apart (named m) pieceMost (omega arith)) (startOf board) .0
 
-pub total-most : (board : ℕ) (m : List ℕ) → total board m ≤ board + startOf board + 2
-total-most board m = omega (arith, pieces-half board m, runs-most board m)
+pub total-most : (board : ℕ) (m : List ℕ) (kind : RunKind) → total board m kind ≤ board + startOf board + 2
+total-most board m kind = omega (arith, pieces-half board m, runs-most board m, r-most kind)
 
 -- two bytes hold the total of a board of up to 127 pages
-pub total-fits : (board : ℕ) (m : List ℕ) → board ≤ 127 → total board m < 2 ^ 16
-total-fits board m short = omega (arith, total-most board m)
+pub total-fits : (board : ℕ) (m : List ℕ) (kind : RunKind) → board ≤ 127 → total board m kind < 2 ^ 16
+total-fits board m kind short = omega (arith, total-most board m kind)
 
 pub named-fits : (board : ℕ) (m : List ℕ) → namedCount board m ≤ startOf board
 named-fits board m = count-le (named m) (startOf board)
 
--- a file with a named byte has a run and a piece, so four packets at least
-pub total-least : (board : ℕ) (m : List ℕ) → length m ≡ mapBytes board → 0 < namedCount board m
-    → 4 ≤ total board m
-total-least board m long some =
+-- a file with a named byte has a run and a piece, so three packets at least before R
+pub packets-least : (board : ℕ) (m : List ℕ) → length m ≡ mapBytes board → 0 < namedCount board m
+    → 3 ≤ beforeR board m
+packets-least board m long some =
     let a = first-piece-below board m long some in
     let q = first-run-below board m long some in
     let p = rank-below (pieceStarts m) (startOf board) (lowestPiece board m) a
@@ -61,3 +63,8 @@ total-least board m long some =
     let r = rank-below (runStarts board m) board (lowestRun board m) q
     (first-starts (touched m) board board (pages-past board m long) q) in
     omega arith
+
+-- so there is a first packet, whatever the run kind
+pub total-some : (board : ℕ) (m : List ℕ) → length m ≡ mapBytes board → 0 < namedCount board m
+    → (kind : RunKind) → 0 < total board m kind
+total-some board m long some kind = omega (arith, packets-least board m long some)

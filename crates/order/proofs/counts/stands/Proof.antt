@@ -15,7 +15,13 @@ returns-3 c =
     (c .ranked3 .ensures)
 
 returns-4 : tie.Need-returns-4
-returns-4 c = rw (c .before .enum-told4 .given .1, ← c .before-r .ensures)
+returns-4 c =
+    rw (
+      c .before .before .before .enum-told4 .given .1,
+      ← c .before .before .sends-r .ensures,
+      ← c .before .before-r .ensures,
+    )
+    (c .ranked4 .ensures)
 
 pub stands-spec : {M : Type 1} → statement M
 stands-spec =
@@ -31,6 +37,8 @@ stands-spec =
     (λ c. search needs)
     (λ c κs. search needs)
     (λ c. search needs)
+    (λ c κs. search needs)
+    (λ c κs. search needs)
     (λ c κs. search needs)
     returns
     returns-2

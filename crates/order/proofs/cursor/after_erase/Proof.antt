@@ -1,16 +1,13 @@
 -- `after_erase` meets its contract: the next run, or the first piece to write.
 use borrow.Author.Needs.{needs}
 use borrow.Author.Tests.{lt-ltb, le-ltb}
-use Rattle.order.specs.Steps.{followOf}
 use Rattle.order.proofs.cursor.after_erase.Statement.{statement}
 use Rattle.order.proofs.cursor.after_erase.Tie as tie
 
 returns : tie.Need-returns
-unfolding followOf
 returns c = simp (← c .before .before .next-run .ensures, lt-ltb _ _ (c .if1 .taken))
 
 returns-2 : tie.Need-returns-2
-unfolding followOf
 returns-2 c =
     simp (
       ← c .before .before .before .next-run .ensures,

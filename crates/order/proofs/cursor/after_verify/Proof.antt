@@ -1,17 +1,16 @@
--- `after_verify` meets its contract: the next piece, or R.
+-- `after_verify` meets its contract: the next piece, or what comes behind the last.
 use borrow.Author.Needs.{needs}
 use borrow.Author.Tests.{lt-ltb, le-ltb}
-use Rattle.order.specs.Steps.{followOf}
 use Rattle.order.proofs.cursor.after_verify.Statement.{statement}
 use Rattle.order.proofs.cursor.after_verify.Tie as tie
 
 returns : tie.Need-returns
-unfolding followOf
 returns c = simp (← c .before .before .next-piece .ensures, lt-ltb _ _ (c .if1 .taken))
 
 returns-2 : tie.Need-returns-2
-unfolding followOf
-returns-2 c = simp (← c .before .before .next-piece .ensures, le-ltb _ _ (c .if1 .left))
+returns-2 c =
+    rw (← c .before .before .before .next-piece .ensures, le-ltb _ _ (c .before .if1 .left))
+    (c .behind-last .ensures)
 
 pub after-verify-spec : {M : Type 1} → statement M
-after-verify-spec = tie.close (tie.spec (λ c κs. search needs) returns returns-2)
+after-verify-spec = tie.close (tie.spec (λ c κs. search needs) returns (λ c κs. search needs) returns-2)

@@ -7,6 +7,7 @@ use Rattle.basis.specs.Board.{pages, flashSize, mapSize}
 use Rattle.runs.specs.Pieces.{pieceStarts}
 use Rattle.order.specs.Laws.Starts.{run-below, piece-below}
 use Rattle.order.specs.Steps.{atStart, followOf}
+use Rattle.order.specs.declared.cursor.Following.{Following}
 use Rattle.order.specs.declared.step.Step.{Step}
 use Rattle.order.proofs.cursor.follow.Statement.{statement}
 use Rattle.order.proofs.cursor.follow.Tie as tie
@@ -34,27 +35,34 @@ after-write-requires c κs = piece (c .before .before .before .before) _ _ (c .b
 after-verify-requires : tie.Need-after-verify-requires
 after-verify-requires c κs = piece (c .before .before .before .before) _ _ (c .before .step3 .given .1) refl
 
+-- what follows, by the step that it is
+module _ (s : tie.Start) where
+  whatever : {t : Step} {f : Following} → s .args .step ≡ t
+      → f ≡ followOf pages (s .args .map .now) (s .args .kind) t
+      → f ≡ followOf pages (s .args .map .now) (s .args .kind) (s .args .step)
+  whatever q e = e ∙ sym (ap (followOf pages (s .args .map .now) (s .args .kind)) q)
+
 returns : tie.Need-returns
+unfolding followOf
 returns c =
-    c .after-erase .ensures
-    ∙ sym (ap (followOf pages (c .before .before .before .before .before .args .map .now))
-    (c .before .before .step .given .1))
+    whatever (c .before .before .before .before .before) (c .before .before .step .given .1)
+    (c .after-erase .ensures)
 
 returns-2 : tie.Need-returns-2
+unfolding followOf
 returns-2 c =
-    c .after-write .ensures
-    ∙ sym (ap (followOf pages (c .before .before .before .before .before .args .map .now))
-    (c .before .before .step2 .given .1))
+    whatever (c .before .before .before .before .before) (c .before .before .step2 .given .1)
+    (c .after-write .ensures)
 
 returns-3 : tie.Need-returns-3
+unfolding followOf
 returns-3 c =
-    c .after-verify .ensures
-    ∙ sym (ap (followOf pages (c .before .before .before .before .before .args .map .now))
-    (c .before .before .step3 .given .1))
+    whatever (c .before .before .before .before .before) (c .before .before .step3 .given .1)
+    (c .after-verify .ensures)
 
 returns-4 : tie.Need-returns-4
 unfolding followOf
-returns-4 c = sym (ap (followOf pages (c .before .before .before .args .map .now)) (c .enum-told .given .1))
+returns-4 c = whatever (c .before .before .before) (c .enum-told .given .1) refl
 
 pub follow-spec : {M : Type 1} → statement M
 follow-spec =

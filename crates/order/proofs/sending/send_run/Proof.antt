@@ -1,12 +1,33 @@
--- `send_run` meets its contract: R carries nothing.
+-- `send_run` meets its contract: R carries nothing, and to hold nothing is sent.
+use mathlib.Core.Path.{refl}
 use borrow.Author.Needs.{needs}
 use Rattle.order.proofs.sending.send_run.Statement.{statement}
 use Rattle.order.proofs.sending.send_run.Tie as tie
 
 returns : tie.Need-returns
-returns c = rw (← c .before .before .before .before .run-address .ensures) (c .before .before .put .ensures)
+returns c =
+    rw (c .before .before .before .before .before .enum-told .given .1) (c .before .before .put .ensures)
+
+returns-2 : tie.Need-returns-2
+returns-2 c =
+    rw (c .before .before .before .before .before .enum-told2 .given .1) (c .before .before .put2 .ensures)
+
+returns-3 : tie.Need-returns-3
+returns-3 c = rw (c .enum-told3 .given .1) (refl, refl)
 
 pub send-run-spec : {M : Type 1} → statement M
 send-run-spec =
     tie.close
-    (tie.spec (λ c κs. search needs) (λ c. search needs) (λ c κs. search needs) (λ c. search needs) returns)
+    (tie.spec
+    (λ c. search needs)
+    (λ c. search needs)
+    (λ c κs. search needs)
+    (λ c. search needs)
+    (λ c. search needs)
+    (λ c κs. search needs)
+    (λ c. search needs)
+    (λ c. search needs)
+    returns
+    (λ c. search needs)
+    returns-2
+    returns-3)
