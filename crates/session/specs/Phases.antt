@@ -5,7 +5,7 @@ use mathlib.Core.List.{List, []}
 use Rattle.basis.specs.declared.kind.RunKind.{RunKind}
 use Rattle.events.specs.Endings.{asked}
 use Rattle.events.specs.declared.ending.Awaited.{Awaited}
-use Rattle.order.specs.Steps.{packetOf, stepAt, firstOf, followOf, atStart, placeOf}
+use Rattle.order.specs.Steps.{packetOf, stepAt, followingAt, firstOf, followOf, atStart, placeOf}
 use Rattle.order.specs.declared.cursor.Following.{Following}
 use Rattle.session.specs.declared.phase.Phase.{Phase}
 
@@ -27,19 +27,20 @@ packetOut board image m kind Phase.Greeting = []
 packetOut board image m kind (Phase.Out s) = packetOf board image m kind s
 packetOut board image m kind (Phase.Ended o) = []
 
--- the phase after k acknowledgements: the k-th packet of the plan is out, counted from 0
-abbrev pub phaseAt : ℕ → List ℕ → ℕ → Phase
-phaseAt board m k = Phase.Out (stepAt board m k)
-
 -- what follows is sent; behind the last packet the session ends as was asked
 abbrev pub reachedOf : RunKind → Following → Phase
 reachedOf kind (Following.Step s) = Phase.Out s
 reachedOf kind Following.End = Phase.Ended (asked kind)
 
+-- the phase after k acknowledgements: the k-th packet of the plan is out, counted from 0, or the session has
+-- ended as was asked
+abbrev pub phaseAt : ℕ → List ℕ → RunKind → ℕ → Phase
+phaseAt board m kind k = reachedOf kind (followingAt board m kind k)
+
 -- the phase that follows when the answer is the right one
 abbrev pub afterOf : ℕ → List ℕ → RunKind → Phase → Phase
 afterOf board m kind Phase.Greeting = Phase.Out (firstOf board m)
-afterOf board m kind (Phase.Out s) = reachedOf kind (followOf board m s)
+afterOf board m kind (Phase.Out s) = reachedOf kind (followOf board m kind s)
 afterOf board m kind (Phase.Ended o) = Phase.Ended o
 
 -- the cursor stands where a run of pages or a piece starts

@@ -14,13 +14,13 @@ use Rattle.events.specs.Endings.{goesOn, acknowledges, endingOf, failing, endsA
 use Rattle.events.specs.declared.ending.Awaited.{Awaited}
 use Rattle.events.specs.declared.ending.Outcome.{Outcome}
 use Rattle.events.specs.declared.event.Event.{Event}
-use Rattle.order.specs.Plan.{total, beforeVerify}
+use Rattle.order.specs.Plan.{beforeVerify, beforeR, total}
 use Rattle.order.specs.Steps.{stepAt, standsAt, verifyAt}
 use Rattle.packet.specs.Packet.{packetMost}
 use Rattle.runs.specs.Map.{named}
 use Rattle.runs.specs.Pieces.{pieceStarts, namedCount, pieceLen}
 use Rattle.runs.specs.Runs.{count}
-use Rattle.session.specs.Phases.{ended, packetOut, phaseAt, afterOf, awaitsOf}
+use Rattle.session.specs.Phases.{ended, packetOut, afterOf, awaitsOf}
 use Rattle.session.specs.declared.phase.Phase.{Phase}
 use Rattle.session.specs.declared.session.Next.{Next}
 use Rattle.session.specs.declared.session.Session.{Session}
@@ -28,17 +28,23 @@ use Rattle.session.specs.declared.session.Session.{Session}
 -- a session over a file, in a phase and with so many packets acknowledged
 abbrev pub sessionWith : ℕ → List ℕ → RunKind → Phase → ℕ → Session
 sessionWith board m kind phase k =
-    record { kind = kind; phase = phase; acknowledged = k; total = total board m; named = namedCount board m }
+    record {
+      kind = kind;
+      phase = phase;
+      acknowledged = k;
+      total = total board m kind;
+      named = namedCount board m;
+    }
 
--- it waits for the greeting; or k packets are acknowledged; or all are
+-- it waits for the greeting; or k packets are acknowledged and the next is out; or it has ended as was asked
 abbrev pub atGreeting : ℕ → List ℕ → RunKind → Session
 atGreeting board m kind = sessionWith board m kind Phase.Greeting 0
 
 abbrev pub stateAt : ℕ → List ℕ → RunKind → ℕ → Session
-stateAt board m kind k = sessionWith board m kind (phaseAt board m k) k
+stateAt board m kind k = sessionWith board m kind (Phase.Out (stepAt board m k)) k
 
-abbrev pub valid : ℕ → List ℕ → RunKind → Session
-valid board m kind = sessionWith board m kind (Phase.Ended (asked kind)) (total board m)
+abbrev pub asAsked : ℕ → List ℕ → RunKind → Session
+asAsked board m kind = sessionWith board m kind (Phase.Ended (asked kind)) (total board m kind)
 
 -- a session, and the packet that it sends
 pub record Sent : Type 0 where
@@ -103,8 +109,8 @@ sentOf board image m s e =
 -- one that has ended is an ending that k acknowledgements allow
 abbrev pub cameAt : ℕ → List ℕ → RunKind → Phase → ℕ → Bool
 cameAt board m kind Phase.Greeting k = eqb k 0
-cameAt board m kind (Phase.Out s) k = standsAt board m s k
-cameAt board m kind (Phase.Ended o) k = endsAt (asked kind) (total board m) o k
+cameAt board m kind (Phase.Out s) k = standsAt board m kind s k
+cameAt board m kind (Phase.Ended o) k = endsAt (asked kind) (total board m kind) o k
 
 -- a start and events over the file lead to such a session:
 -- the file names a byte, the counts are the file's, and the phase is one to which they lead
@@ -112,7 +118,7 @@ unfoldable pub fitsOf : ℕ → List ℕ → Session → Bool
 fitsOf board m s =
     both (ltb 0 (namedCount board m))
     (both (eqb (s .named) (namedCount board m))
-    (both (eqb (s .total) (total board m))
+    (both (eqb (s .total) (total board m (s .kind)))
     (cameAt board m (s .kind) (s .phase) (s .acknowledged))))
 
 -- a step: 20, 44 after the end, 46 for a file that is not the session's, else the event is taken
@@ -154,23 +160,23 @@ pub record Loadable (board : ℕ) (image m : List ℕ) : Type 0 where
   pub some : 0 < namedCount board m
 
 -- what a start and events lead to:
--- it waits for the greeting, has k acknowledged, has failed with k acknowledged, or is valid
+-- it waits for the greeting, has k acknowledged, has failed with k acknowledged, or has ended as was asked
 pub data Came (board : ℕ) (m : List ℕ) (kind : RunKind) (s : Session) : Type 0 where
   waits : s ≡ atGreeting board m kind → Came board m kind s
-  stands : (k : ℕ) → k < total board m → s ≡ stateAt board m kind k → Came board m kind s
-  fails : (o : Outcome) (k : ℕ) → k < total board m → failing o k ≡ true
+  stands : (k : ℕ) → k < total board m kind → s ≡ stateAt board m kind k → Came board m kind s
+  fails : (o : Outcome) (k : ℕ) → k < total board m kind → failing o k ≡ true
       → s ≡ sessionWith board m kind (Phase.Ended o) k
       → Came board m kind s
-  ends : s ≡ valid board m kind → Came board m kind s
+  ends : s ≡ asAsked board m kind → Came board m kind s
 
--- the packet after j acknowledgements is the V of the piece at s, which holds the byte at a
-pub record Held (board : ℕ) (m : List ℕ) (j s a : ℕ) : Type 0 where
-  pub planned : j < total board m
+-- the packet after j acknowledgements is the V of the piece at s, which carries the byte at a
+pub record Carried (board : ℕ) (m : List ℕ) (j s a : ℕ) : Type 0 where
+  pub planned : j < beforeR board m
   pub step : stepAt board m j ≡ verifyAt s
   pub from : s ≤ a
   pub below : a < s + pieceLen m s
 
--- in this series of events the V of the piece that holds the byte at a was acknowledged:
+-- in this series of events the V of the piece with the byte at a was acknowledged:
 -- it was out, and ACK came
 pub record Acknowledged (board : ℕ) (m : List ℕ) (kind : RunKind) (es : List Event) (a : ℕ) : Type 0 where
   pub before : List Event
@@ -182,9 +188,9 @@ pub record Acknowledged (board : ℕ) (m : List ℕ) (kind : RunKind) (es : List
   pub below : a < piece + pieceLen m piece
 
 -- some series of events over the map's file leads to the session,
--- and in each that does the V that holds the byte was acknowledged
+-- and in each that does the V that carries the byte was acknowledged
 pub record Shown (board : ℕ) (m : List ℕ) (s : Session) (a : ℕ) : Type 0 where
   pub events : List Event
   pub lead-here : s ≡ series board m (atGreeting board m (s .kind)) events
-  pub held : (es : List Event) → s ≡ series board m (atGreeting board m (s .kind)) es
+  pub acknowledged : (es : List Event) → s ≡ series board m (atGreeting board m (s .kind)) es
       → Acknowledged board m (s .kind) es a

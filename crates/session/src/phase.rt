@@ -66,7 +66,7 @@ impl Phase {
     {
         match self {
             Phase::Greeting => Phase::Out(first(map)),
-            Phase::Out(step) => Phase::reached(kind, follow(map, step)),
+            Phase::Out(step) => Phase::reached(kind, follow(map, kind, step)),
             Phase::Ended(outcome) => Phase::Ended(outcome),
         }
     }

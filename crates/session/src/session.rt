@@ -103,7 +103,7 @@ impl Session {
             kind,
             phase: Phase::Greeting,
             acknowledged: 0,
-            total: total(all),
+            total: total(all, kind),
             named: all.named,
         };
         Stepped::Next(Next { session, len: 1 })
@@ -175,13 +175,14 @@ impl Session {
         if self.named != all.named {
             return false;
         }
-        if self.total != total(all) {
+        let kind = self.kind;
+        if self.total != total(all, kind) {
             return false;
         }
         let k = self.acknowledged;
         match phase {
             Phase::Greeting => k == 0,
-            Phase::Out(step) => stands(found, step, k),
+            Phase::Out(step) => stands(found, kind, step, k),
             Phase::Ended(outcome) => self.ends(outcome),
         }
     }

@@ -1,6 +1,6 @@
 -- 46 is exact: a session fits a file exactly where a start and events over that file lead to it.
 -- So `proved` says yes only where such events have acknowledged the V that holds the byte.
-use Prim.Native.Nat.{ℕ, zero, suc, _+_, _≤_, _<_}
+use Prim.Native.Nat.{ℕ, zero, suc, _+_, _-_, _≤_, _<_}
 use mathlib.Core.Bool.{true, false}
 use mathlib.Core.List.{List, [], _∷_, _++_}
 use mathlib.Core.Path.{_≡_, refl, sym, ap, subst, _∙_}
@@ -15,19 +15,21 @@ use Rattle.basis.specs.Refusals.{given}
 use Rattle.basis.specs.Units.{mapBytes}
 use Rattle.basis.specs.declared.kind.RunKind.{RunKind}
 use Rattle.events.specs.Endings.{failing, endsAt, asked}
-use Rattle.events.specs.Laws.Endings.{outcome-one, ends-by, fails-ends}
+use Rattle.events.specs.Laws.Endings.{outcome-one, ends-asked, ends-by, fails-ends}
 use Rattle.events.specs.Laws.Events.{ack-or, greeting-or}
 use Rattle.events.specs.declared.ending.Outcome.{Outcome}
 use Rattle.events.specs.declared.event.Event.{Event}
 use Rattle.order.specs.Laws.Steps.{stands-below, stands-at}
-use Rattle.order.specs.Plan.{total, beforeR}
+use Rattle.order.specs.Laws.Totals.{total-some}
+use Rattle.order.specs.Plan.{total}
+use Rattle.order.specs.Steps.{stepAt}
 use Rattle.runs.specs.Pieces.{namedCount}
 use Rattle.session.specs.Laws.Fits.{Fitting, fitting, fits-by}
-use Rattle.session.specs.Laws.Marks.{marked-held, proved-is}
-use Rattle.session.specs.Laws.Series.{came, acks-state, acks-valid, event-taken, series-nil, series-ack, series-last, series-first, series-fails, first-fails}
+use Rattle.session.specs.Laws.Marks.{marked-carried, proved-is}
+use Rattle.session.specs.Laws.Series.{came, acks-state, acks-asked, event-taken, series-nil, series-ack, series-last, series-first, series-fails, first-fails}
 use Rattle.session.specs.Laws.States.{ack-next, greeting-state, waiting-fits, state-fits}
 use Rattle.session.specs.Laws.Steps.{step-taken}
-use Rattle.session.specs.Phases.{ended, phaseAt}
+use Rattle.session.specs.Phases.{ended}
 use Rattle.session.specs.Session.{sessionWith, atGreeting, stateAt, rightSizes, tookOf, sentOf, cameAt, fitsOf, stepOf, series, marked, provedOf, Came, waits, stands, fails, ends, Acknowledged, Shown}
 use Rattle.session.specs.declared.phase.Phase.{Phase}
 use Rattle.session.specs.declared.session.Session.{Session}
@@ -43,7 +45,7 @@ series-append board m s (e ∷ es) ds = series-append board m _ es ds
 
 module _ (board : ℕ) (m : List ℕ) (long : length m ≡ mapBytes board) (some : 0 < namedCount board m)
     (kind : RunKind) where
-  pub ended-fits : (o : Outcome) (k : ℕ) → endsAt (asked kind) (total board m) o k ≡ true
+  pub ended-fits : (o : Outcome) (k : ℕ) → endsAt (asked kind) (total board m kind) o k ≡ true
       → fitsOf board m (sessionWith board m kind (Phase.Ended o) k) ≡ true
   ended-fits o k h =
       fits-by board m (sessionWith board m kind (Phase.Ended o) k)
@@ -53,9 +55,11 @@ module _ (board : ℕ) (m : List ℕ) (long : length m ≡ mapBytes board) (some
   came-fits s (waits e) = rw e (waiting-fits board m long some kind)
   came-fits s (stands k l e) = rw e (state-fits board m long some kind k l)
   came-fits s (fails o k l f e) =
-      rw e (ended-fits o k (fails-ends kind o (total board m) k l f))
+      rw e (ended-fits o k (fails-ends kind o k f (total board m kind) l))
   came-fits s (ends e) =
-      rw e (ended-fits Outcome.Valid (total board m) (eq-eqb (total board m) (total board m) refl))
+      rw e (ended-fits (asked kind) (total board m kind)
+      (ends-asked (asked kind) (asked kind) (total board m kind) (total board m kind) refl
+      ∙ eq-eqb (total board m kind) (total board m kind) refl))
 
   pub series-fits : (es : List Event) → fitsOf board m (series board m (atGreeting board m kind) es) ≡ true
   series-fits es = came-fits _ (came board m long some kind es)
@@ -102,12 +106,13 @@ fits-came board m long s h = (f .some, go (s .phase) refl)
         waits (counts Phase.Greeting 0 e (eqb-true k 0 (came-in Phase.Greeting e)))
     go (Phase.Out x) e =
         let t = came-in (Phase.Out x) e in
-        stands k (stands-below board m long x k t)
-        (counts (phaseAt board m k) k (e ∙ ap Phase.Out (stands-at board m long x k t)) refl)
+        stands k (stands-below board m long (s .kind) x k t)
+        (counts (Phase.Out (stepAt board m k)) k
+        (e ∙ ap Phase.Out (stands-at board m long (s .kind) x k t)) refl)
     go (Phase.Ended o) e =
-        ends-by (asked (s .kind)) o (total board m) k (came-in (Phase.Ended o) e)
-        (λ p q. ends (counts (Phase.Ended Outcome.Valid) (total board m)
-        (e ∙ ap Phase.Ended (outcome-one o Outcome.Valid p)) q))
+        ends-by (asked (s .kind)) o (total board m (s .kind)) k (came-in (Phase.Ended o) e)
+        (λ p q. ends (counts (Phase.Ended (asked (s .kind))) (total board m (s .kind))
+        (e ∙ ap Phase.Ended (outcome-one o (asked (s .kind)) p)) q))
         (λ l t. fails o k l t (counts (Phase.Ended o) k e refl))
 
 -- ---- the events
@@ -115,7 +120,7 @@ fits-came board m long s h = (f .some, go (s .phase) refl)
 module _ (board : ℕ) (m : List ℕ) (long : length m ≡ mapBytes board) (some : 0 < namedCount board m)
     (kind : RunKind) where
   -- the greeting, k acknowledgements and one event more
-  acks-then : (k : ℕ) (e : Event) (o : Outcome) → k < total board m
+  acks-then : (k : ℕ) (e : Event) (o : Outcome) → k < total board m kind
       → tookOf board m (stateAt board m kind k) e ≡ sessionWith board m kind (Phase.Ended o) k
       → (es : List Event)
       × (sessionWith board m kind (Phase.Ended o) k ≡ series board m (atGreeting board m kind) es)
@@ -127,11 +132,12 @@ module _ (board : ℕ) (m : List ℕ) (long : length m ≡ mapBytes board) (some
         ∙ series-nil board m _),
   )
 
-  failed-series : (o : Outcome) (k : ℕ) → k < total board m → failing o k ≡ true
+  failed-series : (o : Outcome) (k : ℕ) → k < total board m kind → failing o k ≡ true
       → (es : List Event)
       × (sessionWith board m kind (Phase.Ended o) k ≡ series board m (atGreeting board m kind) es)
   unfolding tookOf series
   failed-series Outcome.Valid k l f = absurd (true-false (sym f))
+  failed-series Outcome.Held k l f = absurd (true-false (sym f))
   failed-series Outcome.Silence k l f =
       acks-then k Event.Silence Outcome.Silence l (rw add-zero)
   failed-series Outcome.Bel k l f = acks-then k Event.Bel Outcome.Bel l (rw add-zero)
@@ -147,9 +153,10 @@ module _ (board : ℕ) (m : List ℕ) (long : length m ≡ mapBytes board) (some
       (Event.Greeting ∷ replicate k Event.Ack, e ∙ sym (acks-state board m long some kind k l))
   came-series s (fails o k l f e) = let r = failed-series o k l f in (r .0, e ∙ r .1)
   came-series s (ends e) =
-      let n : suc (beforeR board m) ≡ total board m = omega arith in (
-        Event.Greeting ∷ replicate (suc (beforeR board m)) Event.Ack,
-        e ∙ sym (acks-valid board m long some kind (beforeR board m) n),
+      let n : suc (total board m kind - 1) ≡ total board m kind = omega
+      (arith, total-some board m long some kind) in (
+        Event.Greeting ∷ replicate (suc (total board m kind - 1)) Event.Ack,
+        e ∙ sym (acks-asked board m long some kind (total board m kind - 1) n),
       )
 
   -- ---- of k acknowledgements each came while its packet was out
@@ -174,7 +181,8 @@ module _ (board : ℕ) (m : List ℕ) (long : length m ≡ mapBytes board) (some
   Counted : ℕ → List Event → ℕ → Type 0
   Counted k es j = j < series board m (stateAt board m kind k) es .acknowledged
 
-  cut-event : (k : ℕ) (e : Event) (es : List Event) (j : ℕ) → k < total board m → k ≤ j → Counted k (e ∷ es) j
+  cut-event : (k : ℕ) (e : Event) (es : List Event) (j : ℕ) → k < total board m kind → k ≤ j
+      → Counted k (e ∷ es) j
       → ((j ≡ k → ⊥) → Counted k (Event.Ack ∷ es) j → Cut (stateAt board m kind k) (Event.Ack ∷ es) j)
       → Cut (stateAt board m kind k) (e ∷ es) j
   unfolding Cut Counted
@@ -192,7 +200,7 @@ module _ (board : ℕ) (m : List ℕ) (long : length m ≡ mapBytes board) (some
       (λ q. let f = series-fails board m long some kind k e es q l in
       absurd (omega (arith, ap (λ (s : Session). s .acknowledged) (f .2))))
 
-  cut-on : (n k : ℕ) (es : List Event) (j : ℕ) → k + suc n ≡ total board m → k ≤ j → Counted k es j
+  cut-on : (n k : ℕ) (es : List Event) (j : ℕ) → k + suc n ≡ total board m kind → k ≤ j → Counted k es j
       → Cut (stateAt board m kind k) es j
   unfolding Counted
   cut-on n k [] j l a b =
@@ -224,7 +232,7 @@ module _ (board : ℕ) (m : List ℕ) (long : length m ≡ mapBytes board) (some
       (λ q. subst (λ (x : Event). Cut (atGreeting board m kind) (x ∷ es) j) (sym q)
       (later (atGreeting board m kind) (stateAt board m kind 0) Event.Greeting es j refl
       (greeting-state board m long some kind)
-      (cut-on (beforeR board m) 0 es j (omega arith) (omega arith)
+      (cut-on (total board m kind - 1) 0 es j (omega (arith, total-some board m long some kind)) (omega arith)
       (counted
       (subst (λ (x : Event). j < series board m (atGreeting board m kind) (x ∷ es) .acknowledged) q b)))))
       (λ q. let f = first-fails board m long some kind e es q in
@@ -240,7 +248,7 @@ module _ (board : ℕ) (m : List ℕ) (long : length m ≡ mapBytes board) (some
       → Acknowledged board m kind es a
   unfolding Cut
   series-acknowledged es a h =
-      let v = marked-held board m long _ a h in
+      let v = marked-carried board m long _ a h in
       let c = cut-at es (v .0) (v .2) in
       record {
         before = c .0;
@@ -273,7 +281,7 @@ proved-shown board m s a h =
     record {
       events = e .0;
       lead-here = e .1;
-      held = λ es d. series-acknowledged board m long (fitting board m s f .some) (s .kind) es a
+      acknowledged = λ es d. series-acknowledged board m long (fitting board m s f .some) (s .kind) es a
           (ap (λ (x : Session). marked board m (x .acknowledged) a) (sym d)
           ∙ given-one (sym (proved-is board m long s a f) ∙ h));
     }

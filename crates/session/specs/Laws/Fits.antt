@@ -27,7 +27,7 @@ use Rattle.session.specs.declared.session.Session.{Session}
 pub record Fitting (board : ℕ) (m : List ℕ) (s : Session) : Type 0 where
   pub some : 0 < namedCount board m
   pub named-is : s .named ≡ namedCount board m
-  pub total-is : s .total ≡ total board m
+  pub total-is : s .total ≡ total board m (s .kind)
   pub came-to : cameAt board m (s .kind) (s .phase) (s .acknowledged) ≡ true
 
 pub fitting : (board : ℕ) (m : List ℕ) (s : Session) → fitsOf board m s ≡ true → Fitting board m s
@@ -35,7 +35,7 @@ unfolding fitsOf
 fitting board m s h =
     let a = both-true (ltb 0 (namedCount board m)) _ h in
     let b = both-true (eqb (s .named) (namedCount board m)) _ (a .1) in
-    let d = both-true (eqb (s .total) (total board m)) _ (b .1) in
+    let d = both-true (eqb (s .total) (total board m (s .kind))) _ (b .1) in
     record {
       some = ltb-true _ _ (a .0);
       named-is = eqb-true _ _ (b .0);
@@ -49,32 +49,32 @@ fits-by board m s f =
     rw (
       lt-ltb 0 (namedCount board m) (f .some),
       eq-eqb (s .named) (namedCount board m) (f .named-is),
-      eq-eqb (s .total) (total board m) (f .total-is),
+      eq-eqb (s .total) (total board m (s .kind)) (f .total-is),
     ) (f .came-to)
 
 -- ---- the phases to which events lead
 
 module _ (board : ℕ) (m : List ℕ) (long : length m ≡ mapBytes board) (kind : RunKind) (k : ℕ) where
   -- no more packets are acknowledged than there are
-  pub came-most : (ph : Phase) → cameAt board m kind ph k ≡ true → k ≤ total board m
+  pub came-most : (ph : Phase) → cameAt board m kind ph k ≡ true → k ≤ total board m kind
   came-most Phase.Greeting h = omega (arith, eqb-true k 0 h)
-  came-most (Phase.Out s) h = omega (arith, stands-below board m long s k h)
+  came-most (Phase.Out s) h = omega (arith, stands-below board m long kind s k h)
   came-most (Phase.Ended o) h =
-      ends-by (asked kind) o (total board m) k h (λ p q. omega arith) (λ l f. omega arith)
+      ends-by (asked kind) o (total board m kind) k h (λ p q. omega arith) (λ l f. omega arith)
 
   -- the cursor stands at a start, and where it moves on it does so again
   pub came-start : (ph : Phase) → cameAt board m kind ph k ≡ true → onStart board m ph ≡ true
   came-start Phase.Greeting h = refl
-  came-start (Phase.Out s) h = stands-start board m long s k h
+  came-start (Phase.Out s) h = stands-start board m long kind s k h
   came-start (Phase.Ended o) h = refl
 
   after-start : 0 < namedCount board m → (ph : Phase) → cameAt board m kind ph k ≡ true
       → onStart board m (afterOf board m kind ph) ≡ true
-  after-start some Phase.Greeting h = first-start board m long some
-  after-start some (Phase.Out s) h = go (followOf board m s) refl
+  after-start some Phase.Greeting h = first-start board m long some kind
+  after-start some (Phase.Out s) h = go (followOf board m kind s) refl
     where
-      go : (f : Following) → followOf board m s ≡ f → onStart board m (reachedOf kind f) ≡ true
-      go (Following.Step t) e = follow-start board m long some s t k h e
+      go : (f : Following) → followOf board m kind s ≡ f → onStart board m (reachedOf kind f) ≡ true
+      go (Following.Step t) e = follow-start board m long some kind s t k h e
       go Following.End e = refl
   after-start some (Phase.Ended o) h = refl
 

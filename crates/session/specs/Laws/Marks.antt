@@ -1,4 +1,4 @@
--- Laws of marks: a byte is marked by the ACK to the V that holds
+-- Laws of marks: a byte is marked by the ACK to the V that carries
 -- it, and R is out only when all named bytes are.
 use Prim.Native.Nat.{ℕ, _+_, _≤_, _<_}
 use mathlib.Core.Bool.{true, not}
@@ -25,17 +25,19 @@ use Rattle.runs.specs.Map.{named}
 use Rattle.runs.specs.Pieces.{pieceMost, pieceStarts, pieceLen}
 use Rattle.runs.specs.Runs.{count, home}
 use Rattle.session.specs.Laws.Fits.{fitting}
-use Rattle.session.specs.Session.{cameAt, fitsOf, marked, provedOf, Held, markedFrom}
+use Rattle.session.specs.Session.{cameAt, fitsOf, marked, provedOf, Carried, markedFrom}
 use Rattle.session.specs.declared.phase.Phase.{Phase}
 use Rattle.session.specs.declared.session.Session.{Session}
 
+-- V has the same place whatever the run kind: these laws look at hold's plan, with which each other begins
 module _ (board : ℕ) (m : List ℕ) where
   -- the ACK to it marks the byte
-  pub held-marked : (j k s a : ℕ) → Held board m j s a → j < k → marked board m k a ≡ true
+  pub carried-marked : (j k s a : ℕ) → Carried board m j s a → j < k → marked board m k a ≡ true
   unfolding marked standsAt
-  held-marked j k s a h l =
+  carried-marked j k s a h l =
       let t = ranked-is (pieceStarts m) (beforeVerify board m) s j
-      (sym (ap (λ (x : Step). standsAt board m x j) (h .step)) ∙ at-stands board m j (h .planned)) in
+      (sym (ap (λ (x : Step). standsAt board m RunKind.Hold x j) (h .step))
+      ∙ at-stands board m RunKind.Hold j (omega (arith, h .planned))) in
       let r : markedFrom board m a ≤ k = omega
       (arith, rank-in (named m) pieceMost s a (t .0) (h .from) (h .below)) in
       both-second _ _ (piece-passes (named m) pieceMost s a (h .from) (h .below)) ∙ le-leb _ _ r
@@ -54,33 +56,34 @@ module _ (board : ℕ) (m : List ℕ) where
 
 module _ (board : ℕ) (m : List ℕ) (long : length m ≡ mapBytes board) where
   -- every named byte is in the piece of one V of the plan, behind every E and W
-  named-held : (a : ℕ) → named m a ≡ true
-      → (j : ℕ) × (s : ℕ) × (Held board m j s a)
+  named-carried : (a : ℕ) → named m a ≡ true
+      → (j : ℕ) × (s : ℕ) × (Carried board m j s a)
       × (j + 1 ≡ markedFrom board m a)
   unfolding standsAt
-  named-held a t =
+  named-carried a t =
       let i = in-piece (named m) pieceMost (omega arith) a t in
       let s : ℕ = home (named m) pieceMost a in
       let j : ℕ = beforeVerify board m + count (pieceStarts m) s in
-      let h : standsAt board m (verifyAt s) j ≡ true = ranked-by (pieceStarts m) (beforeVerify board m) s j
-      (i .0) refl in (
+      let h : standsAt board m RunKind.Hold (verifyAt s) j ≡ true = ranked-by (pieceStarts m)
+      (beforeVerify board m) s j (i .0) refl in (
         j,
         s,
         record {
-          planned = stands-below board m long (verifyAt s) j h;
-          step = sym (stands-at board m long (verifyAt s) j h);
+          planned = omega (arith, stands-below board m long RunKind.Hold (verifyAt s) j h);
+          step = sym (stands-at board m long RunKind.Hold (verifyAt s) j h);
           from = i .1;
           below = i .2;
         },
         omega (arith, rank-in (named m) pieceMost s a (i .0) (i .1) (i .2)),
       )
 
-  -- a marked byte was held by the V of an acknowledged packet
-  pub marked-held : (k a : ℕ) → marked board m k a ≡ true → (j : ℕ) × (s : ℕ) × (j < k) × (Held board m j s a)
+  -- a marked byte was carried by the V of an acknowledged packet
+  pub marked-carried : (k a : ℕ) → marked board m k a ≡ true
+      → (j : ℕ) × (s : ℕ) × (j < k) × (Carried board m j s a)
   unfolding marked
-  marked-held k a h =
+  marked-carried k a h =
       let b = both-true (named m a) _ h in
-      let v = named-held a (b .0) in
+      let v = named-carried a (b .0) in
       (v .0, v .1, omega (arith, v .3, leb-true (markedFrom board m a) k (b .1)), v .2)
 
   -- once every V is acknowledged every named byte is marked
@@ -101,23 +104,23 @@ module _ (board : ℕ) (m : List ℕ) (long : length m ≡ mapBytes board) where
       all-marked (s .acknowledged) a
       (omega (
         arith,
-        stands-r board m (s .acknowledged)
+        stands-r board m (s .kind) (s .acknowledged)
             (sym (ap (λ (ph : Phase). cameAt board m (s .kind) ph (s .acknowledged)) e)
-            ∙ fitting board m s h .came-to),
+            ∙ fitting board m s h .came-to) .1,
       ))
 
   -- in the plan's own terms
   pub named-verified : (image : List ℕ) (kind : RunKind) (a : ℕ) (d : List ℕ) → named m a ≡ true
-      → (j : ℕ) × (s : ℕ) × (j < total board m)
+      → (j : ℕ) × (s : ℕ) × (j < total board m kind)
       × (getD (plan board image m kind) j d ≡ verifyPacket image m s)
       × (s ≤ a) × (a < s + pieceLen m s)
   named-verified image kind a d t =
-      let v = named-held a t in
+      let v = named-carried a t in
       let h = v .2 in (
         v .0,
         v .1,
-        h .planned,
-        plan-at board image m kind (v .0) d (h .planned)
+        omega (arith, h .planned),
+        plan-at board image m kind (v .0) d (omega (arith, h .planned))
             ∙ ap (packetOf board image m kind) (h .step),
         h .from,
         h .below,
@@ -136,12 +139,12 @@ module _ (board : ℕ) (m : List ℕ) (long : length m ≡ mapBytes board) where
 
   -- one more acknowledgement marks the piece of its V, and nothing else
   pub marked-more : {R : Type 0} (k a : ℕ) → marked board m (k + 1) a ≡ true → (marked board m k a ≡ true → R)
-      → ((s : ℕ) → Held board m k s a → R) → R
+      → ((s : ℕ) → Carried board m k s a → R) → R
   marked-more {R} k a h old new =
-      let v = marked-held (k + 1) a h in
+      let v = marked-carried (k + 1) a h in
       decide (eqb (v .0) k)
-      (λ t. new (v .1) (subst (λ (j : ℕ). Held board m j (v .1) a) (eqb-true (v .0) k t) (v .3)))
-      (λ t. old (held-marked board m (v .0) k (v .1) a (v .3) (omega (arith, v .2, eqb-false (v .0) k t))))
+      (λ t. new (v .1) (subst (λ (j : ℕ). Carried board m j (v .1) a) (eqb-true (v .0) k t) (v .3)))
+      (λ t. old (carried-marked board m (v .0) k (v .1) a (v .3) (omega (arith, v .2, eqb-false (v .0) k t))))
 
   -- over its own file the session's `proved` says what is marked
   pub proved-is : (s : Session) (a : ℕ) → fitsOf board m s ≡ true

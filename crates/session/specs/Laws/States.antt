@@ -13,6 +13,7 @@ use Rattle.events.specs.Endings.{asked}
 use Rattle.events.specs.declared.event.Event.{Event}
 use Rattle.order.specs.Laws.Plan.{plan-at}
 use Rattle.order.specs.Laws.Steps.{at-stands, first-at, follow-next, follow-end}
+use Rattle.order.specs.Laws.Totals.{total-some}
 use Rattle.order.specs.Plan.{plan, total}
 use Rattle.order.specs.declared.cursor.Following.{Following}
 use Rattle.order.specs.declared.step.Step.{Step}
@@ -20,7 +21,7 @@ use Rattle.runs.specs.Pieces.{namedCount}
 use Rattle.session.specs.Laws.Fits.{fits-by}
 use Rattle.session.specs.Laws.Steps.{step-taken}
 use Rattle.session.specs.Phases.{packetOut, reachedOf}
-use Rattle.session.specs.Session.{sessionWith, atGreeting, stateAt, valid, Sent, rightSizes, tookOf, sentOf, fitsOf, stepOf}
+use Rattle.session.specs.Session.{sessionWith, atGreeting, stateAt, asAsked, Sent, rightSizes, tookOf, sentOf, fitsOf, stepOf}
 use Rattle.session.specs.declared.phase.Phase.{Phase}
 use Rattle.session.specs.declared.session.Session.{Session}
 
@@ -31,23 +32,24 @@ module _ (board : ℕ) (m : List ℕ) (long : length m ≡ mapBytes board) (some
   -- the greeting: the first packet is out
   pub greeting-state : tookOf board m (atGreeting board m kind) Event.Greeting ≡ stateAt board m kind 0
   unfolding tookOf
-  greeting-state = ap (λ (s : Step). sessionWith board m kind (Phase.Out s) 0) (first-at board m long some)
+  greeting-state =
+      ap (λ (s : Step). sessionWith board m kind (Phase.Out s) 0) (first-at board m long some kind)
 
   -- ACK: the state after k leads to the state after k + 1
-  pub ack-next : (k : ℕ) → k + 1 < total board m
+  pub ack-next : (k : ℕ) → k + 1 < total board m kind
       → tookOf board m (stateAt board m kind k) Event.Ack ≡ stateAt board m kind (k + 1)
   unfolding tookOf
   ack-next k l =
       ap (λ (f : Following). sessionWith board m kind (reachedOf kind f) (k + 1))
-      (follow-next board m long some k l)
+      (follow-next board m long some kind k l)
 
   -- ACK to the last packet ends as was asked
-  pub ack-last : (k : ℕ) → k + 1 ≡ total board m
-      → tookOf board m (stateAt board m kind k) Event.Ack ≡ valid board m kind
+  pub ack-last : (k : ℕ) → k + 1 ≡ total board m kind
+      → tookOf board m (stateAt board m kind k) Event.Ack ≡ asAsked board m kind
   unfolding tookOf
   ack-last k l =
       ap (λ (f : Following). sessionWith board m kind (reachedOf kind f) (k + 1))
-      (follow-end board m long some k l)
+      (follow-end board m long some kind k l)
       ∙ ap (sessionWith board m kind (Phase.Ended (asked kind))) l
 
   -- ---- these states fit the file
@@ -57,14 +59,14 @@ module _ (board : ℕ) (m : List ℕ) (long : length m ≡ mapBytes board) (some
       fits-by board m (atGreeting board m kind)
       (record { some = some; named-is = refl; total-is = refl; came-to = refl })
 
-  pub state-fits : (k : ℕ) → k < total board m → fitsOf board m (stateAt board m kind k) ≡ true
+  pub state-fits : (k : ℕ) → k < total board m kind → fitsOf board m (stateAt board m kind k) ≡ true
   state-fits k l =
       fits-by board m (stateAt board m kind k)
       (record {
         some = some;
         named-is = refl;
         total-is = refl;
-        came-to = at-stands board m k l;
+        came-to = at-stands board m kind k l;
       })
 
 -- ---- a step from a state
@@ -73,7 +75,7 @@ module _ (board : ℕ) (image m : List ℕ) (room : ℕ) (kind : RunKind)
     (right : rightSizes board (length image) (length m) room ≡ true) (long : length m ≡ mapBytes board)
     (some : 0 < namedCount board m) where
   -- no event is refused
-  pub step-state : (k : ℕ) (e : Event) → k < total board m
+  pub step-state : (k : ℕ) (e : Event) → k < total board m kind
       → stepOf board image m room (stateAt board m kind k) e
       ≡ given (sentOf board image m (stateAt board m kind k) e)
   step-state k e l =
@@ -81,7 +83,7 @@ module _ (board : ℕ) (image m : List ℕ) (room : ℕ) (kind : RunKind)
       (state-fits board m long some kind k l)
 
   -- the k-th state sends the k-th packet of the plan
-  packet-sent : (k : ℕ) → k < total board m → {s : Session} → s ≡ stateAt board m kind k
+  packet-sent : (k : ℕ) → k < total board m kind → {s : Session} → s ≡ stateAt board m kind k
       → _≡_ {A = Sent} (record { session = s; packet = packetOut board image m kind (s .phase) })
       (record { session = stateAt board m kind k; packet = getD (plan board image m kind) k [] })
   packet-sent k l e =
@@ -95,9 +97,9 @@ module _ (board : ℕ) (image m : List ℕ) (room : ℕ) (kind : RunKind)
   step-greeting =
       step-taken board image m room (atGreeting board m kind) Event.Greeting right refl
       (waiting-fits board m long some kind)
-      ∙ ap given (packet-sent 0 (omega arith) (greeting-state board m long some kind))
+      ∙ ap given (packet-sent 0 (total-some board m long some kind) (greeting-state board m long some kind))
 
-  pub step-ack : (k : ℕ) → k + 1 < total board m
+  pub step-ack : (k : ℕ) → k + 1 < total board m kind
       → stepOf board image m room (stateAt board m kind k) Event.Ack
       ≡ given (record {
         session = stateAt board m kind (k + 1);
@@ -107,9 +109,9 @@ module _ (board : ℕ) (image m : List ℕ) (room : ℕ) (kind : RunKind)
       step-state k Event.Ack (omega arith)
       ∙ ap given (packet-sent (k + 1) l (ack-next board m long some kind k l))
 
-  pub step-last : (k : ℕ) → k + 1 ≡ total board m
+  pub step-last : (k : ℕ) → k + 1 ≡ total board m kind
       → stepOf board image m room (stateAt board m kind k) Event.Ack
-      ≡ given (record { session = valid board m kind; packet = [] })
+      ≡ given (record { session = asAsked board m kind; packet = [] })
   step-last k l =
       step-state k Event.Ack (omega arith)
       ∙ ap (λ (s : Session). given (record { session = s; packet = packetOut board image m kind (s .phase) }))

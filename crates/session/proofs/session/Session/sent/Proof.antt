@@ -22,7 +22,7 @@ took-requires c κs = let s = c .before .before .before in
       omega (
         arith,
         came-most pages m (s .pre .1) (x .kind) (x .acknowledged) (x .phase) (f .came-to),
-        total-most pages m,
+        total-most pages m (x .kind),
       ),
     )
 

@@ -10,7 +10,7 @@ use lib.ListN.{length}
 use lib.Seq.{set-split}
 use Rattle.basis.specs.Board.{flashSize, mapSize, openingByte, pages}
 use Rattle.basis.specs.declared.kind.RunKind.{RunKind}
-use Rattle.order.specs.Plan.{total}
+use Rattle.order.specs.Plan.{rCount, total}
 use Rattle.packet.specs.Packet.{packetMost}
 use Rattle.runs.specs.Survey.{surveyOf}
 use Rattle.runs.specs.declared.survey.Surveyed.{Surveyed}
@@ -24,12 +24,12 @@ use Rattle.session.proofs.session.Session.start.Tie as tie
 
 -- what a start makes of a survey is the session that waits
 opened : (m : List ℕ) (kind : RunKind) {f : Surveyed} {n : ℕ} → f ≡ surveyOf pages m 0
-    → n ≡ f .all .runs + 2 * f .all .pieces + 1
+    → n ≡ f .all .runs + 2 * f .all .pieces + rCount kind
     → record { kind = kind; phase = Phase.Greeting; acknowledged = 0; total = n; named = f .all .named }
     ≡ atGreeting pages m kind
 opened m kind {f} {n} e g =
     let t = told m 0 e in
-    let p : n ≡ total pages m = omega (arith, t .runs, t .pieces) in
+    let p : n ≡ total pages m kind = omega (arith, t .runs, t .pieces) in
     let q = t .bytes in
     λ i. record { kind = kind; phase = Phase.Greeting; acknowledged = 0; total = p i; named = q i }
 
