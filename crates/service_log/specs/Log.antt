@@ -9,7 +9,8 @@ use Rattle.basis.specs.Choice.{pick, both, either}
 use Rattle.basis.specs.Lists.{pairAt}
 use Rattle.basis.specs.Refusals.{Answer, given, _when_, first}
 use Rattle.basis.specs.Units.{startOf}
-use Rattle.events.specs.Endings.{paperOutcome}
+use Rattle.basis.specs.declared.kind.RunKind.{RunKind}
+use Rattle.events.specs.Endings.{paperOutcome, endingFor}
 use Rattle.session.specs.Phases.{ended}
 use Rattle.session.specs.declared.phase.Phase.{Phase}
 use Rattle.session.specs.declared.session.Session.{Session}
@@ -26,29 +27,38 @@ recordLength = 8
 abbrev pub recordVersion : ℕ
 recordVersion = 1
 
--- 0 valid, else 40 to 43
-abbrev pub known : ℕ → Bool
-known o = either (eqb o 0) (both (leb 40 o) (leb o 43))
+-- outcome 0 valid, 1 verified and held
+abbrev pub good : ℕ → Bool
+good o = leb o 1
 
--- a false record, of outcome o, with k of t packets acknowledged and n bytes: outcome unknown, total under 4,
--- bytes 0 or above the board's (63,488), acknowledged above total, outcome 0 unless acknowledged equals total
--- and the reverse (the `pick`), outcome 42 with any acknowledged
+-- else 40 to 43
+abbrev pub known : ℕ → Bool
+known o = either (good o) (both (leb 40 o) (leb o 43))
+
+-- a total under 3, or a total of 3 with outcome 0
+abbrev pub few : ℕ → ℕ → Bool
+few o t = either (ltb t 3) (both (eqb o 0) (eqb t 3))
+
+-- a false record, of outcome o, with k of t packets acknowledged and n bytes: outcome unknown, total too
+-- small, bytes 0 or above the board's (63,488), acknowledged above total, outcome 0 or 1 unless acknowledged
+-- equals total and the reverse (the `pick`), outcome 42 with any acknowledged
 unfoldable pub isFalseOf : ℕ → ℕ → ℕ → ℕ → ℕ → Bool
 isFalseOf board o k t n =
     either (not (known o))
-    (either (ltb t 4)
+    (either (few o t)
     (either (eqb n 0)
     (either (ltb (startOf board) n)
     (either (ltb t k)
-    (pick (eqb o 0) (not (eqb k t))
+    (pick (good o) (not (eqb k t))
     (either (eqb k t)
     (both (eqb o 42) (ltb 0 k))))))))
 
--- how a session ended: 0 valid, 40 to 43; 45, which no record holds, for one that is unfinished
-abbrev pub loggedOutcomeOf : Phase → ℕ
-loggedOutcomeOf Phase.Greeting = 45
-loggedOutcomeOf (Phase.Out s) = 45
-loggedOutcomeOf (Phase.Ended o) = paperOutcome o
+-- how a session ended: 0 valid, 1 verified and held, 40 to 43; 45, which no record has, for one that is
+-- unfinished, or whose ending is not its run kind's
+abbrev pub loggedOutcomeOf : RunKind → Phase → ℕ
+loggedOutcomeOf kind Phase.Greeting = 45
+loggedOutcomeOf kind (Phase.Out s) = 45
+loggedOutcomeOf kind (Phase.Ended o) = pick (endingFor kind o) (paperOutcome o) 45
 
 abbrev pub twoBytes : ℕ → Bool
 twoBytes x = ltb x 65536
@@ -63,15 +73,16 @@ recordBytes o k t n =
     ∷ k / 256 % 256 ∷ k % 256 ∷ t / 256 % 256 ∷ t % 256 ∷ n / 256 % 256 ∷ n % 256 ∷ []
 
 -- writing a session into a buffer of so many bytes: 45 for one that is
--- unfinished, or whose counts do not fit, or would read as 53; then 20
+-- unfinished, or whose counts do not fit, or would read as 53, as does an ending that no session of its run
+-- kind has; then 20
 unfoldable pub writeOf : ℕ → ℕ → Session → Answer (List ℕ)
 writeOf board room s =
     first
     (45 when not (ended (s .phase))
     ∷ 45 when not (fitTwo (s .acknowledged) (s .total) (s .named))
-    ∷ 45 when isFalseOf board (loggedOutcomeOf (s .phase)) (s .acknowledged) (s .total) (s .named)
+    ∷ 45 when isFalseOf board (loggedOutcomeOf (s .kind) (s .phase)) (s .acknowledged) (s .total) (s .named)
     ∷ 20 when ltb room recordSize ∷ [])
-    (given (recordBytes (loggedOutcomeOf (s .phase)) (s .acknowledged) (s .total) (s .named)))
+    (given (recordBytes (loggedOutcomeOf (s .kind) (s .phase)) (s .acknowledged) (s .total) (s .named)))
 
 -- what an input says
 abbrev pub recordAt : List ℕ → Record

@@ -1,7 +1,7 @@
 // What no record may say: the writer refuses it of a session, the reader of its input.
 ghost use mathlib.Core.Path.{_≡_};
 ghost use Rattle.basis.specs.Board.{pages};
-ghost use Rattle.service_log.specs.Log.{known, isFalseOf};
+ghost use Rattle.service_log.specs.Log.{known, few, isFalseOf};
 use basis::board::END;
 
 pub fn is_false(outcome: u8, acknowledged: u32, total: u32, bytes: u32) -> bool
@@ -10,7 +10,7 @@ pub fn is_false(outcome: u8, acknowledged: u32, total: u32, bytes: u32) -> bool
     if !is_known(outcome) {
         return true;
     }
-    if total < 4 {
+    if is_few(outcome, total) {
         return true;
     }
     if bytes == 0 {
@@ -22,7 +22,7 @@ pub fn is_false(outcome: u8, acknowledged: u32, total: u32, bytes: u32) -> bool
     if total < acknowledged {
         return true;
     }
-    if outcome == 0 {
+    if outcome <= 1 {
         return acknowledged != total;
     }
     if acknowledged == total {
@@ -37,11 +37,21 @@ pub fn is_false(outcome: u8, acknowledged: u32, total: u32, bytes: u32) -> bool
 fn is_known(outcome: u8) -> bool
     ensures { λ r. ⌜ r ≡ known outcome ⌝ }
 {
-    if outcome == 0 {
+    if outcome <= 1 {
         return true;
     }
     if outcome < 40 {
         return false;
     }
     outcome <= 43
+}
+
+// One E, one W, one V; where the outcome is valid R too.
+fn is_few(outcome: u8, total: u32) -> bool
+    ensures { λ r. ⌜ r ≡ few outcome total ⌝ }
+{
+    if total < 3 {
+        return true;
+    }
+    outcome == 0 && total == 3
 }

@@ -5,12 +5,15 @@ ghost use Rattle.basis.specs.Board.{pages};
 ghost use Rattle.basis.specs.Lists.{overlay};
 ghost use Rattle.basis.specs.Refusals.{counted, written};
 ghost use Rattle.service_log.specs.Log.{loggedOutcomeOf, fitTwo, writeOf};
+ghost use Rattle.session.specs.declared.phase.Phase.{Phase};
 ghost use Rattle.service_log.specs.Paper.{paperUnwritten, paperWritten};
 use crate::read::LENGTH;
 use crate::read::RECORD;
 use crate::read::VERSION;
 use crate::truth::is_false;
 use basis::buffers::write as put;
+use basis::kind::RunKind;
+use events::ending::Outcome;
 use session::phase::Phase;
 use session::session::Session;
 
@@ -22,7 +25,7 @@ pub enum Written {
 
 // Why a session is not written.
 pub enum Unwritten {
-    // The session is unfinished, or its counts make no record.
+    // The session is unfinished or its ending not its run kind's, or its counts make no record.
     Unfit,
     // The buffer is shorter than a record.
     NoRoom,
@@ -49,7 +52,8 @@ pub fn write(session: Session, buffer: &mut [u8]) -> Written
     if !phase.ended() {
         return Written::Refused(Unwritten::Unfit);
     }
-    let outcome = logged_outcome(phase);
+    let kind = session.kind;
+    let outcome = logged_outcome(kind, phase);
     let acknowledged = session.acknowledged;
     let total = session.total;
     let bytes = session.named;
@@ -78,15 +82,24 @@ pub fn write(session: Session, buffer: &mut [u8]) -> Written
     Written::Record(RECORD)
 }
 
-// The outcome's number; 45, which no record holds, where there is none yet.
-pub fn logged_outcome(phase: Phase) -> u8
-    ensures { λ r. ⌜ r ≡ loggedOutcomeOf phase ⌝ }
+// The outcome's number; 45, which no record has, where there is none yet, and for another run kind's ending.
+pub fn logged_outcome(kind: RunKind, phase: Phase) -> u8
+    ensures { λ r. ⌜ r ≡ loggedOutcomeOf kind phase ⌝ }
 {
     match phase {
         Phase::Greeting => 45,
         Phase::Out(_) => 45,
-        Phase::Ended(outcome) => outcome.number(),
+        Phase::Ended(outcome) => own_number(kind, outcome),
     }
+}
+
+fn own_number(kind: RunKind, outcome: Outcome) -> u8
+    ensures { λ r. ⌜ r ≡ loggedOutcomeOf kind (Phase.Ended outcome) ⌝ }
+{
+    if outcome.suits(kind) {
+        return outcome.number();
+    }
+    45
 }
 
 // Whether the counts fit two bytes each.

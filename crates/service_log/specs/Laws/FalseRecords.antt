@@ -2,10 +2,10 @@
 use Prim.Native.Nat.{ℕ, _≤_, _<_}
 use mathlib.Core.Bool.{true, false, not}
 use mathlib.Core.Path.{_≡_}
-use borrow.Author.Tests.{eq-eqb, ne-eqb, lt-ltb, le-ltb}
+use borrow.Author.Tests.{eq-eqb, ne-eqb, lt-ltb, le-ltb, le-leb, lt-leb}
 use lib.Dec.{eqb, ltb}
 use Rattle.basis.specs.Units.{startOf}
-use Rattle.service_log.specs.Log.{known, isFalseOf}
+use Rattle.service_log.specs.Log.{known, few, isFalseOf}
 
 module _ (board : ℕ) (o k t n : ℕ) where
   pub false-unknown : known o ≡ false → true ≡ isFalseOf board o k t n
@@ -13,49 +13,49 @@ module _ (board : ℕ) (o k t n : ℕ) where
   false-unknown e = rw e
 
   module _ (p₁ : known o ≡ true) where
-    pub false-few : t < 4 → true ≡ isFalseOf board o k t n
+    pub false-few : few o t ≡ true → true ≡ isFalseOf board o k t n
     unfolding isFalseOf
-    false-few l = rw (p₁, lt-ltb t 4 l)
+    false-few e = rw (p₁, e)
 
-    module _ (p₂ : 4 ≤ t) where
+    module _ (p₂ : few o t ≡ false) where
       pub false-empty : n ≡ 0 → true ≡ isFalseOf board o k t n
       unfolding isFalseOf
-      false-empty e = rw (p₁, le-ltb t 4 p₂, eq-eqb n 0 e)
+      false-empty e = rw (p₁, p₂, eq-eqb n 0 e)
 
       module _ (p₃ : n ≡ 0 → ⊥) where
         pub false-many : startOf board < n → true ≡ isFalseOf board o k t n
         unfolding isFalseOf
-        false-many l = rw (p₁, le-ltb t 4 p₂, ne-eqb n 0 p₃, lt-ltb (startOf board) n l)
+        false-many l = rw (p₁, p₂, ne-eqb n 0 p₃, lt-ltb (startOf board) n l)
 
         module _ (p₄ : n ≤ startOf board) where
           pub false-above : t < k → true ≡ isFalseOf board o k t n
           unfolding isFalseOf
-          false-above l = rw (p₁, le-ltb t 4 p₂, ne-eqb n 0 p₃, le-ltb (startOf board) n p₄, lt-ltb t k l)
+          false-above l = rw (p₁, p₂, ne-eqb n 0 p₃, le-ltb (startOf board) n p₄, lt-ltb t k l)
 
           module _ (p₅ : k ≤ t) where
-            pub false-valid : o ≡ 0 → not (eqb k t) ≡ isFalseOf board o k t n
+            pub false-good : o ≤ 1 → not (eqb k t) ≡ isFalseOf board o k t n
             unfolding isFalseOf
-            false-valid e =
+            false-good l =
                 rw (
                   p₁,
-                  le-ltb t 4 p₂,
+                  p₂,
                   ne-eqb n 0 p₃,
                   le-ltb (startOf board) n p₄,
                   le-ltb t k p₅,
-                  eq-eqb o 0 e,
+                  le-leb o 1 l,
                 )
 
-            module _ (p₆ : o ≡ 0 → ⊥) where
+            module _ (p₆ : 1 < o) where
               pub false-whole : k ≡ t → true ≡ isFalseOf board o k t n
               unfolding isFalseOf
               false-whole e =
                   rw (
                     p₁,
-                    le-ltb t 4 p₂,
+                    p₂,
                     ne-eqb n 0 p₃,
                     le-ltb (startOf board) n p₄,
                     le-ltb t k p₅,
-                    ne-eqb o 0 p₆,
+                    lt-leb o 1 p₆,
                     eq-eqb k t e,
                   )
 
@@ -65,11 +65,11 @@ module _ (board : ℕ) (o k t n : ℕ) where
                 true-greeted e =
                     rw (
                       p₁,
-                      le-ltb t 4 p₂,
+                      p₂,
                       ne-eqb n 0 p₃,
                       le-ltb (startOf board) n p₄,
                       le-ltb t k p₅,
-                      ne-eqb o 0 p₆,
+                      lt-leb o 1 p₆,
                       ne-eqb k t p₇,
                       ne-eqb o 42 e,
                     )
@@ -79,11 +79,11 @@ module _ (board : ℕ) (o k t n : ℕ) where
                 false-ungreeted e =
                     rw (
                       p₁,
-                      le-ltb t 4 p₂,
+                      p₂,
                       ne-eqb n 0 p₃,
                       le-ltb (startOf board) n p₄,
                       le-ltb t k p₅,
-                      ne-eqb o 0 p₆,
+                      lt-leb o 1 p₆,
                       ne-eqb k t p₇,
                       eq-eqb o 42 e,
                     )

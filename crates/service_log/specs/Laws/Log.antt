@@ -26,7 +26,7 @@ module _ (board : ℕ) (room : ℕ) (s : Session) where
     write-wide e = skip 45 _ _ _ (ap not e₁) ∙ stop 45 _ _ _ (ap not e)
 
     module _ (e₂ : fitTwo (s .acknowledged) (s .total) (s .named) ≡ true) (o : ℕ)
-        (is : o ≡ loggedOutcomeOf (s .phase)) where
+        (is : o ≡ loggedOutcomeOf (s .kind) (s .phase)) where
       pub write-false : isFalseOf board o (s .acknowledged) (s .total) (s .named) ≡ true
           → writeOf board room s ≡ refused 45
       unfolding writeOf
