@@ -54,7 +54,7 @@ module _ (image m : List ℕ) (kind : RunKind) (l : Loader) (losses : ℕ → Lo
   pub flash-refused : (length f ≡ flashSize → ⊥) → Rehearses whole f (refused 20) f
   unfolding rehearseOf
   flash-refused n =
-      rw (stop 20 _ _ (given (loadAt pages image m kind l losses f (total pages m + 1))) (ap not wrong))
+      rw (stop 20 _ _ (given (loadAt pages image m kind l losses f (total pages m kind + 1))) (ap not wrong))
       (record { result-is = refl; flash-is = refl })
     where
       wrong : both (eqb (length f) flashSize) (rightSizes pages (length image) (length m) packetMost) ≡ false
@@ -67,7 +67,7 @@ module _ (image m : List ℕ) (kind : RunKind) (l : Loader) (losses : ℕ → Lo
     refused-too e = rw (eq-eqb (length f) flashSize size) (alike _ _ _ e)
 
     given-too : {s : Sent} → started pages image m packetMost kind ≡ given s
-        → whole ≡ given (loadAt pages image m kind l losses f (total pages m + 1))
+        → whole ≡ given (loadAt pages image m kind l losses f (total pages m kind + 1))
     unfolding rehearseOf started
     given-too e = rw (eq-eqb (length f) flashSize size) (through _ _ _ e)
 
@@ -85,12 +85,13 @@ module _ (image m : List ℕ) (kind : RunKind) (l : Loader) (losses : ℕ → Lo
 
     pub driven : {room : ℕ} {y : Next} → room ≡ packetMost → Starts pages image m room kind y
         → (r : Load) (flash : List ℕ) (x : Moment) → x ≡ begun pages m kind l f
-        → (let z = momentAt pages image m losses x (total pages m + 1) in
+        → (let z = momentAt pages image m losses x (total pages m (x .session .kind) + 1) in
         (r .loader ≡ z .loader) × (r .session ≡ z .session) × (flash ≡ z .flash))
         → Rehearses whole f (given r) flash
     driven full s r flash x b z =
         let w = given-too (ap (λ (r : ℕ). started pages image m r kind) (sym full) ∙ s .started-is) in
-        let e = ap (λ (y : Moment). momentAt pages image m losses y (total pages m + 1)) b in
+        let e = ap
+        (λ (y : Moment). momentAt pages image m losses y (total pages m (y .session .kind) + 1)) b in
         record {
           result-is = (λ i. given (record { loader = z .0 i; session = z .1 i }))
               ∙ ap (λ (y : Moment). loaded (given y)) e

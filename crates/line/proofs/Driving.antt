@@ -51,10 +51,11 @@ module _ (image m : List ℕ) (o : Loss) (link : Link) (before old : List ℕ)
 -- ---- turns
 
 module _ (image m : List ℕ) (losses : ℕ → Loss) (start : Moment) where
-  pub done : (i : ℕ) (x : Moment) → x ≡ momentAt pages image m losses start i → i ≤ total pages m + 1
-      → ended (x .session .phase) ≡ true → momentAt pages image m losses start (total pages m + 1) ≡ x
-  done i x e b t =
-      stays pages image m losses start i (total pages m + 1) b
+  pub done : (kind : RunKind) (i : ℕ) (x : Moment) → x ≡ momentAt pages image m losses start i
+      → i ≤ total pages m kind + 1
+      → ended (x .session .phase) ≡ true → momentAt pages image m losses start (total pages m kind + 1) ≡ x
+  done kind i x e b t =
+      stays pages image m losses start i (total pages m kind + 1) b
       (sym (ap (λ (y : Moment). ended (y .session .phase)) e) ∙ t) ∙ sym e
 
   pub again : (i : ℕ) (x : Moment) (o : Loss) → x ≡ momentAt pages image m losses start i
@@ -70,7 +71,7 @@ module _ (image m : List ℕ) (losses : ℕ → Loss) (start : Moment) where
 module _ (image m before : List ℕ) (file : Loadable pages image m) (bytes : Bytes image) (kind : RunKind)
     (l : Loader) (size : length before ≡ flashSize) (losses : ℕ → Loss) where
   pub not-past : (start : Moment) → start ≡ begun pages m kind l before → (i : ℕ) (x : Moment)
-      → x ≡ momentAt pages image m losses start i → ended (x .session .phase) ≡ false → i ≤ total pages m
+      → x ≡ momentAt pages image m losses start i → ended (x .session .phase) ≡ false → i ≤ total pages m kind
   not-past start fresh i x e t =
       going pages (omega arith) image m before file bytes kind l size losses i
       (sym (ap (λ (y : Moment). ended (y .session .phase)) (e ∙ since)) ∙ t)

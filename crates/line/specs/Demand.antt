@@ -7,6 +7,8 @@ use lib.ListN.{getD}
 use Rattle.basis.specs.Bits.{bit}
 use Rattle.basis.specs.Refusals.{given}
 use Rattle.basis.specs.Units.{pageOf, pageGroupOf}
+use Rattle.basis.specs.declared.kind.RunKind.{RunKind}
+use Rattle.events.specs.Endings.{asked}
 use Rattle.events.specs.declared.ending.Outcome.{Outcome}
 use Rattle.line.specs.Line.{Moment}
 use Rattle.loader.specs.declared.state.Loader.{Loader}
@@ -38,18 +40,29 @@ Untouched m before flash = (a : ℕ) → touched m (pageOf a) ≡ false → Stan
 abbrev pub RunOut : Moment → Type 0
 RunOut x = command (x .wire) ≡ runByte
 
--- the session has ended valid
+-- the session has ended valid; or verified and held; or as asked: held to hold, valid to reset or to jump
 abbrev pub Valid : Session → Type 0
 Valid s = s .phase ≡ Phase.Ended Outcome.Valid
 
--- the moment is safe, where flash was `before` at the start
-pub record Safe (board : ℕ) (image m before : List ℕ) (x : Moment) : Type 0 where
+abbrev pub Held : Session → Type 0
+Held s = s .phase ≡ Phase.Ended Outcome.Held
+
+abbrev pub AsAsked : RunKind → Session → Type 0
+AsAsked kind s = s .phase ≡ Phase.Ended (asked kind)
+
+-- the moment is safe, where flash was `before` at the start, and start was told the run kind
+pub record Safe (board : ℕ) (image m before : List ℕ) (kind : RunKind) (x : Moment) : Type 0 where
   -- each byte marked proved stands in flash as in the file, pages the file does not touch are as before
   pub proved-stands : (a : ℕ) → Proved board m (x .session) a → Stands (x .flash) image a
   pub untouched-stays : Untouched m before (x .flash)
-  -- no run packet goes out and no session ends valid until every file byte is proved
+  -- no run packet goes out and no session ends valid or held until every file byte is proved
   pub run-proved : RunOut x → AllProved board m (x .session)
   pub valid-proved : Valid (x .session) → AllProved board m (x .session)
+  pub held-proved : Held (x .session) → AllProved board m (x .session)
+  -- to hold no run packet goes out at all, and the session is not valid; no other is held
+  pub hold-still : kind ≡ RunKind.Hold → RunOut x → ⊥
+  pub hold-invalid : kind ≡ RunKind.Hold → Valid (x .session) → ⊥
+  pub held-hold : Held (x .session) → kind ≡ RunKind.Hold
 
 -- no touched page lies in a protected group, and reading is not protected
 pub record Free (m : List ℕ) (l : Loader) : Type 0 where

@@ -105,14 +105,15 @@ lossOf b = pick (eqb b 0) Loss.Whole (pick (eqb b 1) Loss.Lost Loss.Unanswered)
 abbrev pub lossAt : List ℕ → ℕ → Loss
 lossAt s i = lossOf (getD s i 0)
 
--- a rehearsal: 20, 32 for an empty map, else what stands after e + 2w + 2 exchanges
+-- a rehearsal: 20, 32 for an empty map, else what stands after one exchange for the opening byte and one for
+-- each packet
 unfoldable pub rehearseOf : ℕ → List ℕ → List ℕ → RunKind → Loader → (ℕ → Loss) → List ℕ → Answer Moment
 rehearseOf board image m kind l losses f =
     first
     (20 when
     not (both (eqb (length f) (startOf board)) (rightSizes board (length image) (length m) packetMost))
     ∷ 32 when eqb (namedCount board m) 0 ∷ [])
-    (given (loadAt board image m kind l losses f (total board m + 1)))
+    (given (loadAt board image m kind l losses f (total board m kind + 1)))
 
 -- ---- what the functions are lent, and what they show
 

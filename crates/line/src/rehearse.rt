@@ -124,7 +124,7 @@ fn drive(
     ensures { λ r. ⌜
         (let start = momentOn first (now (flash .entry)) (now (packet .entry)) in
         let x = momentAt pages (now (image .entry)) (now (map .entry)) (lossAt (now (losses .entry))) start
-        (total pages (now (map .entry)) + 1) in
+        (total pages (now (map .entry)) (first .session .kind) + 1) in
         (r .loader ≡ x .loader) × (r .session ≡ x .session) × (now (flash .exit) ≡ x .flash))
         ⌝ }
 {

@@ -10,7 +10,7 @@ use Rattle.basis.specs.Choice.{pick}
 use Rattle.basis.specs.Laws.Choice.{true-false}
 use Rattle.basis.specs.Refusals.{Answer, refused, given, bare}
 use Rattle.basis.specs.declared.kind.RunKind.{RunKind}
-use Rattle.events.specs.Endings.{failing}
+use Rattle.events.specs.Endings.{asked, failing}
 use Rattle.events.specs.Events.{isAck, isGreeting}
 use Rattle.events.specs.Laws.Events.{ack-heard, bel-heard, silence-heard}
 use Rattle.events.specs.declared.ending.Outcome.{Outcome}
@@ -96,7 +96,7 @@ module _ (board : ℕ) (image m : List ℕ) (file : Loadable board image m) (kin
   right-sizes = rw (eq-eqb _ _ (file .right), eq-eqb _ _ (file .long))
 
   -- a packet
-  module _ (o : Loss) (e : Effect) (k : ℕ) (l : k < total board m) where
+  module _ (o : Loss) (e : Effect) (k : ℕ) (l : k < total board m kind) where
     abbrev here : Moment
     here = standing board image m kind e k
 
@@ -112,16 +112,16 @@ module _ (board : ℕ) (image m : List ℕ) (file : Loadable board image m) (kin
         ap (stepsOn (between board o here))
         (step-state board image m packetMost kind right-sizes (file .long) (file .some) k heard l)
 
-    pub on-ack : k + 1 < total board m → heard ≡ Event.Ack
+    pub on-ack : k + 1 < total board m kind → heard ≡ Event.Ack
         → exchangeOf board image m o here
         ≡ standing board image m kind (served board image m kind o e k) (k + 1)
     on-ack n h =
         taken ∙ ap (λ (v : Event). next (tookOf board m (stateAt board m kind k) v)) h
         ∙ ap next (ack-next board m (file .long) (file .some) kind k n)
 
-    pub on-last : k + 1 ≡ total board m → heard ≡ Event.Ack
+    pub on-last : k + 1 ≡ total board m kind → heard ≡ Event.Ack
         → exchangeOf board image m o here
-        ≡ over board m kind (served board image m kind o e k) Outcome.Valid (total board m)
+        ≡ over board m kind (served board image m kind o e k) (asked kind) (total board m kind)
     on-last n h =
         taken ∙ ap (λ (v : Event). next (tookOf board m (stateAt board m kind k) v)) h
         ∙ ap next (ack-last board m (file .long) (file .some) kind k n)

@@ -31,7 +31,7 @@ use Rattle.loader.specs.declared.state.Condition.the-variants.{Left}
 use Rattle.loader.specs.declared.state.Loader.{Loader}
 use Rattle.order.specs.Laws.Out.{Ranked, Out, erases, writes, verifies, runs}
 use Rattle.order.specs.Laws.Starts.{run-below, piece-carried}
-use Rattle.order.specs.Plan.{erasePacket, writePacket, pieceBytes, runAddress, beforeVerify, beforeR}
+use Rattle.order.specs.Plan.{erasePacket, writePacket, pieceBytes, beforeVerify, beforeR}
 use Rattle.order.specs.Steps.{packetOf, packetAt}
 use Rattle.packet.specs.Laws.Turn.{restored-turned, undone}
 use Rattle.packet.specs.Turn.{turnedOf, restoredOf}
@@ -235,7 +235,7 @@ module _ (board : ℕ) (few : board ≤ 255) (image m : List ℕ) (file : Loadab
         blank = λ a n d e. absurd (omega (arith, ranks a n .1));
       }
 
-  pub lets : Out board m k → (e : Effect) × Lets board image m l (packetAt board image m kind k) f k e
+  pub lets : Out board m kind k → (e : Effect) × Lets board image m l (packetAt board image m kind k) f k e
   lets (erases q e r b) = (
     record { loader = l; flash = erasedRun board f m q },
     erase-lets q r b (ap (packetOf board image m kind) e),
@@ -257,17 +257,12 @@ module _ (board : ℕ) (few : board ≤ 255) (image m : List ℕ) (file : Loadab
       loader-is = λ z. refl;
     },
   )
-  lets (runs e t) = (
+  lets (runs e t s) = let r = takes-run board few image m file l serves f (h .size) kind s in (
     record { loader = withCondition l Left; flash = f },
     record {
-      let-is = ap (λ (x : Step). loaderTakes board l (packetOf board image m kind x) f) e
-          ∙ takes-run board few image m file l serves f (h .size) kind
-          ∙ ap (keeping f) (run-passes l (runAddress kind) (serves .sequence-is) (low kind));
+      let-is = ap (λ (x : Step). loaderTakes board l (packetOf board image m kind x) f) e ∙ r .2
+          ∙ ap (keeping f) (run-passes l (r .0) (serves .sequence-is) (r .1));
       grows = late-grows (omega arith);
       loader-is = λ z. absurd (omega arith);
     },
   )
-    where
-      low : (kind : RunKind) → runAddress kind ≤ 1
-      low RunKind.Reset = omega arith
-      low RunKind.Jump = omega arith

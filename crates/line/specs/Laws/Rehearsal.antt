@@ -13,7 +13,8 @@ use Rattle.basis.specs.Lists.{Bytes}
 use Rattle.basis.specs.Refusals.{Answer, refused, given}
 use Rattle.basis.specs.Units.{startOf}
 use Rattle.basis.specs.declared.kind.RunKind.{RunKind}
-use Rattle.line.specs.Demand.{Stands, Untouched, Valid, Safe}
+use Rattle.events.specs.declared.ending.Outcome.{Outcome}
+use Rattle.line.specs.Demand.{AllProved, Stands, Untouched, Valid, Held, Safe}
 use Rattle.line.specs.Laws.Demand.{safe, finite}
 use Rattle.line.specs.Line.{Moment, loadAt, rehearseOf, loaded, leftFlash, Rehearses}
 use Rattle.line.specs.declared.exchange.Loss.{Loss}
@@ -26,6 +27,7 @@ use Rattle.runs.specs.Pieces.{namedCount}
 use Rattle.session.specs.Laws.Steps.{sizes-right}
 use Rattle.session.specs.Phases.{ended}
 use Rattle.session.specs.Session.{Loadable}
+use Rattle.session.specs.declared.phase.Phase.{Phase}
 use Rattle.session.specs.declared.session.Session.{Session}
 
 module _ (board : ℕ) (few : board ≤ 255) (image m : List ℕ) (kind : RunKind) (l : Loader) (losses : ℕ → Loss)
@@ -37,7 +39,7 @@ module _ (board : ℕ) (few : board ≤ 255) (image m : List ℕ) (kind : RunKin
   record Given (x : Moment) : Type 0 where
     pub file : Loadable board image m
     pub flash-size : length before ≡ startOf board
-    pub moment-is : x ≡ loadAt board image m kind l losses before (total board m + 1)
+    pub moment-is : x ≡ loadAt board image m kind l losses before (total board m kind + 1)
 
   given-is : (x : Moment) → whole ≡ given x → Given x
   unfolding rehearseOf
@@ -54,10 +56,10 @@ module _ (board : ℕ) (few : board ≤ 255) (image m : List ℕ) (kind : RunKin
       }
 
   module _ (bytes : Bytes image) (x : Moment) (g : Given x) where
-    given-safe : Safe board image m before x
+    given-safe : Safe board image m before kind x
     given-safe =
-        subst (Safe board image m before) (sym (g .moment-is))
-        (safe board few image m before (g .file) bytes kind l (g .flash-size) losses (total board m + 1))
+        subst (Safe board image m before kind) (sym (g .moment-is))
+        (safe board few image m before (g .file) bytes kind l (g .flash-size) losses (total board m kind + 1))
 
     given-ended : ended (x .session .phase) ≡ true
     given-ended =
@@ -92,10 +94,29 @@ module _ (board : ℕ) (few : board ≤ 255) (image m : List ℕ) (kind : RunKin
           let o = last-moment in
           ap (λ (s : Session). ended (s .phase)) (o .3) ∙ given-ended bytes (o .0) (o .1)
 
-      -- and where it says valid, every named byte of flash is as in the file
-      pub valid-stands : Valid (y .session) → (a : ℕ) → named m a ≡ true → Stands flash image a
-      valid-stands t a n =
+      -- and where it says valid or held, every named byte of flash is as in the file
+      AllStand : Type 0
+      AllStand = (a : ℕ) → named m a ≡ true → Stands flash image a
+
+      proved-stand : (let o = last-moment in AllProved board m (o .0 .session)) → AllStand
+      unfolding AllStand
+      proved-stand p a n =
           let o = last-moment in
-          let s = given-safe bytes (o .0) (o .1) in
           ap (λ (f : List ℕ). getD f a 0) (o .2)
-          ∙ s .proved-stands a (s .valid-proved (sym (ap (λ (x : Session). x .phase) (o .3)) ∙ t) a n)
+          ∙ given-safe bytes (o .0) (o .1) .proved-stands a (p a n)
+
+      here : (u : Outcome) → y .session .phase ≡ Phase.Ended u
+          → let o = last-moment in o .0 .session .phase ≡ Phase.Ended u
+      here u t = let o = last-moment in sym (ap (λ (x : Session). x .phase) (o .3)) ∙ t
+
+      pub valid-stands : Valid (y .session) → (a : ℕ) → named m a ≡ true → Stands flash image a
+      unfolding AllStand
+      valid-stands t =
+          let o = last-moment in
+          proved-stand (given-safe bytes (o .0) (o .1) .valid-proved (here Outcome.Valid t))
+
+      pub held-stands : Held (y .session) → (a : ℕ) → named m a ≡ true → Stands flash image a
+      unfolding AllStand
+      held-stands t =
+          let o = last-moment in
+          proved-stand (given-safe bytes (o .0) (o .1) .held-proved (here Outcome.Held t))

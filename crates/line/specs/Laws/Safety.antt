@@ -28,7 +28,7 @@ use Rattle.loader.specs.State.{resetOf, withCondition}
 use Rattle.loader.specs.declared.state.Condition.the-variants.{Serving}
 use Rattle.loader.specs.declared.state.Loader.{Loader}
 use Rattle.order.specs.Laws.Starts.{run-below, piece-below, piece-carried}
-use Rattle.order.specs.Plan.{pieceBytes, erasePacket, writePacket, verifyPacket, runPacket, runAddress}
+use Rattle.order.specs.Plan.{pieceBytes, erasePacket, writePacket, verifyPacket, runPacket, sendsR}
 use Rattle.packet.specs.Laws.Turn.{restored-turned, undone}
 use Rattle.packet.specs.Turn.{turnedOf, restoredOf}
 use Rattle.runs.specs.Laws.Pages.{piece-touched}
@@ -129,12 +129,19 @@ module _ (board : ℕ) (few : board ≤ 255) (image m : List ℕ) (file : Loadab
         sent-verify board l f answerMost size (omega arith) (serves .condition-is) s (omega (arith, p .0))
         piece (p .1) (p .2)
 
-  pub takes-run : (kind : RunKind)
-      → loaderTakes board l (runPacket kind) f ≡ keeping f (running l (runAddress kind))
-  takes-run RunKind.Reset =
-      sent-run board l f answerMost size (omega arith) (serves .condition-is) 1 (omega arith)
-  takes-run RunKind.Jump =
-      sent-run board l f answerMost size (omega arith) (serves .condition-is) 0 (omega arith)
+  pub takes-run : (kind : RunKind) → sendsR kind ≡ true
+      → (a : ℕ) × (a ≤ 1) × (loaderTakes board l (runPacket kind) f ≡ keeping f (running l a))
+  takes-run RunKind.Reset t = (
+    1,
+    omega arith,
+    sent-run board l f answerMost size (omega arith) (serves .condition-is) 1 (omega arith),
+  )
+  takes-run RunKind.Jump t = (
+    0,
+    omega arith,
+    sent-run board l f answerMost size (omega arith) (serves .condition-is) 0 (omega arith),
+  )
+  takes-run RunKind.Hold t = absurd (true-false (sym t))
 
   -- an accepted V says that flash has its piece as the file has it
   pub verified : Bytes image → (s : ℕ) → pieceStarts m s ≡ true → (e : Effect)

@@ -16,7 +16,7 @@ use Rattle.basis.specs.Units.{startOf, mapBytes}
 use Rattle.basis.specs.declared.kind.RunKind.{RunKind}
 use Rattle.events.specs.Endings.{endsAt, asked}
 use Rattle.events.specs.Events.{isAck}
-use Rattle.events.specs.Laws.Endings.{fails-ends}
+use Rattle.events.specs.Laws.Endings.{ends-asked, fails-ends}
 use Rattle.events.specs.Laws.Events.{greeting-heard, ack-or}
 use Rattle.events.specs.declared.ending.Outcome.{Outcome}
 use Rattle.events.specs.declared.event.Event.{Event}
@@ -32,8 +32,10 @@ use Rattle.loader.specs.Laws.Host.{kept}
 use Rattle.loader.specs.State.{resetOf}
 use Rattle.loader.specs.Take.{answerBytes}
 use Rattle.loader.specs.declared.state.Loader.{Loader}
+use Rattle.order.specs.Laws.Kinds.{r-most}
 use Rattle.order.specs.Laws.Out.{Out, erases, writes, verifies, runs, out-after}
 use Rattle.order.specs.Laws.Starts.{piece-carried}
+use Rattle.order.specs.Laws.Totals.{total-some}
 use Rattle.order.specs.Plan.{total, pieceBytes, verifyPacket, beforeVerify, beforeR}
 use Rattle.order.specs.Steps.{packetOf, verifyAt, placeOf, packetAt}
 use Rattle.packet.specs.Turn.{turnedOf}
@@ -54,10 +56,10 @@ module _ (board : ℕ) (image m before : List ℕ) where
   -- session has ended
   pub data Stage (kind : RunKind) (l : Loader) (n : ℕ) (x : Moment) : Type 0 where
     starts : n ≡ 0 → x ≡ begun board m kind l before → Stage kind l n x
-    stands : (e : Effect) (k : ℕ) → n ≡ k + 1 → k < total board m → e .loader ≡ serving l → Holds k (e .flash)
-        → x ≡ standing board image m kind e k → Stage kind l n x
+    stands : (e : Effect) (k : ℕ) → n ≡ k + 1 → k < total board m kind → e .loader ≡ serving l
+        → Holds k (e .flash) → x ≡ standing board image m kind e k → Stage kind l n x
     ends : (e : Effect) (u : Outcome) (k : ℕ) → Holds k (e .flash)
-        → endsAt (asked kind) (total board m) u k ≡ true → x ≡ over board m kind e u k → Stage kind l n x
+        → endsAt (asked kind) (total board m kind) u k ≡ true → x ≡ over board m kind e u k → Stage kind l n x
 
 -- ---- before the first V
 
@@ -97,7 +99,7 @@ module _ (board : ℕ) (few : board ≤ 255) (image m before : List ℕ) (file :
   abbrev arriving : Effect
   arriving = effectAfter l f (loaderTakes board l (packetAt board image m kind k) f)
 
-  arrived : Out board m k → Holds board image m before k (arriving .flash)
+  arrived : Out board m kind k → Holds board image m before k (arriving .flash)
   arrived (erases q e r b) =
       rw (e, takes-erase board few image m file l serves f (h .size) q (r .begins))
       (either-way (λ (x : Effect). Holds board image m before k (x .flash)) l f _ _ h
@@ -114,23 +116,23 @@ module _ (board : ℕ) (few : board ≤ 255) (image m before : List ℕ) (file :
       (h .untouched))))
   arrived (verifies a j e r t b) =
       rw (e, takes-verify board few image m file l serves f (h .size) a (r .begins), kept l f _) h
-  arrived (runs e t) =
-      rw (e, takes-run board few image m file l serves f (h .size) kind, kept l f (running l _)) h
+  arrived (runs e t s) =
+      rw (e, takes-run board few image m file l serves f (h .size) kind s .2, kept l f (running l _)) h
 
-  pub served-holds : k < total board m
+  pub served-holds : k < total board m kind
       → Holds board image m before k (delivered board o l (packetAt board image m kind k) f .flash)
   served-holds b =
       served-by board (λ (x : Effect). Holds board image m before k (x .flash)) o l
       (packetAt board image m kind k) f h
-      (arrived (out-after board m (file .long) k b))
+      (arrived (out-after board m (file .long) kind k b))
 
   -- until R it keeps the loader too
-  served-loader : k < beforeR board m → Out board m k
+  served-loader : k < beforeR board m → Out board m kind k
       → delivered board o l (packetAt board image m kind k) f .loader ≡ l
   served-loader b t =
       served-by board (λ (x : Effect). x .loader ≡ l) o l (packetAt board image m kind k) f refl (go t)
     where
-      go : Out board m k → arriving .loader ≡ l
+      go : Out board m kind k → arriving .loader ≡ l
       go (erases q e r b) =
           rw (e, takes-erase board few image m file l serves f (h .size) q (r .begins))
           (either-way (λ (x : Effect). x .loader ≡ l) l f _ _ refl refl)
@@ -140,13 +142,13 @@ module _ (board : ℕ) (few : board ≤ 255) (image m before : List ℕ) (file :
       go (verifies a j e r t b) =
           rw (e, takes-verify board few image m file l serves f (h .size) a (r .begins))
           (sym (judged-does l f _ refl .loader-is))
-      go (runs e t) = absurd (omega arith)
+      go (runs e t s) = absurd (omega arith)
 
   -- an ACK marks the bytes that an accepted V has shown to stand
-  acked-holds : Bytes image → k < total board m → (e : Effect)
+  acked-holds : Bytes image → k < total board m kind → (e : Effect)
       → loaderTakes board l (packetAt board image m kind k) f ≡ given e
       → Holds board image m before (k + 1) (delivered board o l (packetAt board image m kind k) f .flash)
-  acked-holds bytes b e q = go (out-after board m (file .long) k b)
+  acked-holds bytes b e q = go (out-after board m (file .long) kind k b)
     where
       g : List ℕ
       g = delivered board o l (packetAt board image m kind k) f .flash
@@ -154,7 +156,7 @@ module _ (board : ℕ) (few : board ≤ 255) (image m before : List ℕ) (file :
       hg : Holds board image m before k g
       hg = served-holds b
 
-      go : Out board m k → Holds board image m before (k + 1) g
+      go : Out board m kind k → Holds board image m before (k + 1) g
       go (erases p t r c) = early board image m before (file .long) (omega arith) (hg .size) (hg .untouched)
       go (writes s j t r u c) =
           early board image m before (file .long) (omega arith) (hg .size) (hg .untouched)
@@ -178,7 +180,7 @@ module _ (board : ℕ) (few : board ≤ 255) (image m before : List ℕ) (file :
               served-by board (λ (x : Effect). x .flash ≡ f) o l (packetAt board image m kind k) f refl
               (rw (t, takes-verify board few image m file l serves f (h .size) s (r .begins))
               (kept l f (first (verifyRows board l s (map turnedOf (pieceBytes image m s)) f) (given l))))
-      go (runs t u) =
+      go (runs t u s) =
           record {
             size = hg .size;
             untouched = hg .untouched;
@@ -198,18 +200,22 @@ module _ (board : ℕ) (few : board ≤ 255) (image m before : List ℕ) (file :
   abbrev start : Moment
   start = begun board m kind l before
 
+  -- there is a first packet
+  planned : 0 < total board m kind
+  planned = total-some board m (file .long) (file .some) kind
+
   silent-stage : (o : Loss) → eventFrom (reply board o start) ≡ Event.Silence
       → At 1 (exchangeOf board image m o start)
   silent-stage o h =
       let s = on-silence board image m file kind o l before h in
       ends (opened board o l before) (s .0) 0
       (opening-holds board image m before (file .long) _ (first-flash board o l before size) size)
-      (fails-ends kind (s .0) (total board m) 0 (omega arith) (s .1)) (s .2)
+      (fails-ends kind (s .0) 0 (s .1) (total board m kind) planned) (s .2)
 
   first-stage : (o : Loss) → At 1 (exchangeOf board image m o start)
   first-stage Loss.Whole =
       let g = board-greets board l before size in
-      stands (opened board Loss.Whole l before) 0 refl (omega arith)
+      stands (opened board Loss.Whole l before) 0 refl planned
       (ap (λ (x : Answer Effect). effectAfter (resetOf l) before x .loader) g)
       (opening-holds board image m before (file .long) _ (first-flash board Loss.Whole l before size) size)
       (on-greeting board image m file kind Loss.Whole l before
@@ -217,8 +223,8 @@ module _ (board : ℕ) (few : board ≤ 255) (image m before : List ℕ) (file :
   first-stage Loss.Lost = silent-stage Loss.Lost (silence-is [] refl)
   first-stage Loss.Unanswered = silent-stage Loss.Unanswered (silence-is [] refl)
 
-  -- ACK goes on or ends valid, all else ends
-  next-stage : (o : Loss) (e : Effect) (k : ℕ) → k < total board m → e .loader ≡ serving l
+  -- ACK goes on or ends as was asked, all else ends
+  next-stage : (o : Loss) (e : Effect) (k : ℕ) → k < total board m kind → e .loader ≡ serving l
       → Holds board image m before k (e .flash)
       → At (suc (k + 1)) (exchangeOf board image m o (standing board image m kind e k))
   next-stage o e k b s h = ack-or (eventFrom (reply board o here)) on-it off-it
@@ -235,7 +241,7 @@ module _ (board : ℕ) (few : board ≤ 255) (image m before : List ℕ) (file :
           let r = on-else board image m file kind o e k b t in
           ends _ (r .0) k
           (served-holds board few image m before file kind (e .loader) serves o (e .flash) k h b)
-          (fails-ends kind (r .0) (total board m) k b (r .1)) (r .2)
+          (fails-ends kind (r .0) k (r .1) (total board m kind) b) (r .2)
 
       on-it : eventFrom (reply board o here) ≡ Event.Ack → At (suc (k + 1)) (exchangeOf board image m o here)
       on-it t =
@@ -245,16 +251,19 @@ module _ (board : ℕ) (few : board ≤ 255) (image m before : List ℕ) (file :
           let g = acked-holds board few image m before file kind (e .loader) serves o (e .flash) k h bytes b
           (c .1) (c .2) in
           let x = served board image m kind o e k in
-          decide (ltb (k + 1) (total board m))
-          (λ d. let n = ltb-true (k + 1) (total board m) d in
+          decide (ltb (k + 1) (total board m kind))
+          (λ d. let n = ltb-true (k + 1) (total board m kind) d in
           stands x (k + 1) (omega arith) n
-          (served-loader board few image m before file kind (e .loader) serves o (e .flash) k h (omega arith)
-          (out-after board m (file .long) k b) ∙ s) g
+          (served-loader board few image m before file kind (e .loader) serves o (e .flash) k h
+          (omega (arith, r-most kind)) (out-after board m (file .long) kind k b) ∙ s) g
           (on-ack board image m file kind o e k b n t))
-          (λ d. let n : k + 1 ≡ total board m = omega (arith, ltb-false (k + 1) (total board m) d) in
-          ends x Outcome.Valid (total board m)
+          (λ d. let n : k + 1 ≡ total board m kind = omega
+          (arith, ltb-false (k + 1) (total board m kind) d) in
+          ends x (asked kind) (total board m kind)
           (subst (λ (j : ℕ). Holds board image m before j (x .flash)) n g)
-          (eq-eqb (total board m) (total board m) refl) (on-last board image m file kind o e k b n t))
+          (ends-asked (asked kind) (asked kind) (total board m kind) (total board m kind) refl
+          ∙ eq-eqb (total board m kind) (total board m kind) refl)
+          (on-last board image m file kind o e k b n t))
 
   -- after any number of exchanges
   pub stage : (losses : ℕ → Loss) (n : ℕ) → At n (loadAt board image m kind l losses before n)

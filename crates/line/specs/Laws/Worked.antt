@@ -14,8 +14,8 @@ use Rattle.basis.specs.Laws.Choice.{decide}
 use Rattle.basis.specs.Lists.{Bytes}
 use Rattle.basis.specs.Units.{pageGroupOf}
 use Rattle.basis.specs.declared.kind.RunKind.{RunKind}
-use Rattle.line.specs.Demand.{Stands, Valid}
-use Rattle.line.specs.Laws.Demand.{valid}
+use Rattle.line.specs.Demand.{Stands, AsAsked}
+use Rattle.line.specs.Laws.Demand.{as-asked}
 use Rattle.line.specs.Line.{loadAt}
 use Rattle.line.specs.declared.exchange.Loss.{Loss}
 use Rattle.loader.specs.State.{factoryOf}
@@ -60,12 +60,13 @@ image-bytes k =
 no-group : (g : ℕ) → bit 0 g ≡ false
 no-group g = simp zero-div
 
-pub worked : let x = loadAt pages image map RunKind.Reset factoryOf (λ i. Loss.Whole) flash
-    (total pages map + 1) in
-    (Valid (x .session)) × (Stands (x .flash) image 0x200)
-worked =
-    let v = valid pages (omega arith) image map flash file image-bytes
-    RunKind.Reset factoryOf (length-replicate {A = ℕ} flashSize 0x00) (λ i. Loss.Whole) (λ n. refl)
-    (record { unprotected = λ q t. no-group (pageGroupOf q); readable = refl }) (total pages map + 1)
+-- with every run kind it ends as asked
+pub worked : (kind : RunKind) → (let x = loadAt pages image map kind factoryOf (λ i. Loss.Whole) flash
+    (total pages map kind + 1) in
+    (AsAsked kind (x .session)) × (Stands (x .flash) image 0x200))
+worked kind =
+    let v = as-asked pages (omega arith) image map flash file image-bytes
+    kind factoryOf (length-replicate {A = ℕ} flashSize 0x00) (λ i. Loss.Whole) (λ n. refl)
+    (record { unprotected = λ q t. no-group (pageGroupOf q); readable = refl }) (total pages map kind + 1)
     (omega arith) in
     (v .0, v .1 0x200 one-named)

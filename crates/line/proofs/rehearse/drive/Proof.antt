@@ -18,12 +18,14 @@ use Rattle.packet.specs.Packet.{packetMost}
 
 abbrev Inv-loop : tie.InvT-loop
 Inv-loop losses image map flash₀ packet₀ answer₀ link₀ i₀ flash packet answer link i =
-    (Lent pages image map flash packet answer) × (link .len ≤ packetMost) × (i ≤ total pages map + 1)
+    (Lent pages image map flash packet answer) × (link .len ≤ packetMost)
+    × (i ≤ total pages map (link₀ .session .kind) + 1)
     × (momentOn link flash packet ≡ momentAt pages image map (lossAt losses)
     (momentOn link₀ flash₀ packet₀) i)
 
 abbrev μ-loop : tie.MeasureT-loop
-μ-loop losses image map flash₀ packet₀ answer₀ link₀ i₀ flash packet answer link i = total pages map + 2 - i
+μ-loop losses image map flash₀ packet₀ answer₀ link₀ i₀ flash packet answer link i =
+    total pages map (link₀ .session .kind) + 2 - i
 
 -- the entry, as the loop looks back to it
 abbrev entry : tie.At-loop Inv-loop μ-loop → tie.Start Inv-loop μ-loop
@@ -34,7 +36,8 @@ open-yet : (c : tie.Then1 Inv-loop μ-loop) → ended (c .before .before .loop .
 open-yet c = not-true _ (sym (c .before .is-open .ensures) ∙ c .if1 .taken)
 
 early : (c : tie.Then1 Inv-loop μ-loop)
-    → let l = c .before .before in l .loop .i ≤ total pages (entry l .args .map .now)
+    → (let l = c .before .before in
+    let a = entry l .args in l .loop .i ≤ total pages (a .map .now) (a .first .session .kind))
 early c =
     let l = c .before .before in
     let s = entry l in
@@ -67,7 +70,8 @@ turn-at c = exchange-at c .before .before .before .before .before
 add-i : tie.Need-add-i Inv-loop μ-loop
 add-i c =
     let t = turn-at c in
-    omega (arith, early t, total-most pages (entry (t .before .before) .args .map .now))
+    let a = entry (t .before .before) .args in
+    omega (arith, early t, total-most pages (a .map .now) (a .first .session .kind))
 
 loop-less : tie.Need-loop-less Inv-loop μ-loop
 loop-less c =
@@ -108,8 +112,8 @@ returns c =
     let a = entry (c .before .before) .args in
     let l = c .before .before .loop in
     let t = not-false _ (sym (c .before .is-open .ensures) ∙ c .if1 .left) in
-    let e = done (a .image .now) (a .map .now) (lossAt (a .losses .now)) _ (l .i) _ (l .inv .3) (l .inv .2)
-    t in (
+    let e = done (a .image .now) (a .map .now) (lossAt (a .losses .now)) _ (a .first .session .kind) (l .i) _
+    (l .inv .3) (l .inv .2) t in (
       sym (ap (λ (x : Moment). x .loader) e),
       sym (ap (λ (x : Moment). x .session) e),
       sym (ap (λ (x : Moment). x .flash) e),
