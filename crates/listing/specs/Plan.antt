@@ -18,10 +18,10 @@ unfoldable pub stepLines : ℕ → List (List ℕ) → List ℕ
 stepLines n [] = []
 stepLines n (p ∷ ps) = stepLine (n + 1) p ++ stepLines (n + 1) ps
 
--- what the plan program prints of a file
+-- what the plan program prints of a file: it asks for a reset, so the plan has R
 unfoldable pub planText : ℕ → List ℕ → List ℕ → List ℕ
 planText board image m =
-    headLine ++ (stepLines 0 (plan board image m RunKind.Reset) ++ totalLine (total board m))
+    headLine ++ (stepLines 0 (plan board image m RunKind.Reset) ++ totalLine (total board m RunKind.Reset))
 
 -- ---- a listing
 
@@ -31,13 +31,14 @@ resetPacketAt board image m n = packetAt board image m RunKind.Reset n
 
 -- so many packets are listed
 abbrev pub listingAt : ℕ → List ℕ → ℕ → Listing
-listingAt board m n = record { next = followingAt board m n; listed = n; total = total board m }
+listingAt board m n =
+    record { next = followingAt board m RunKind.Reset n; listed = n; total = total board m RunKind.Reset }
 
 -- a listing of this file
 pub record Listed (board : ℕ) (image m : List ℕ) (l : Listing) : Type 0 where
   pub file : Loadable board image m
   pub stands : l ≡ listingAt board m (l .listed)
-  pub within : l .listed ≤ total board m
+  pub within : l .listed ≤ total board m RunKind.Reset
 
 -- refused as the session's start is, else nothing is listed
 abbrev pub listingBy : ℕ → List ℕ → Answer Sent → Answer Listing

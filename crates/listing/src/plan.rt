@@ -81,7 +81,7 @@ impl Listing {
     fn opening(map: &[u8], session: Session) -> Listing
         requires { ⌜
             (length (now map) ≡ mapSize) × (0 < namedCount pages (now map))
-            × (session .total ≡ total pages (now map))
+            × (session .total ≡ total pages (now map) RunKind.Reset)
             ⌝ }
         ensures { λ r. ⌜ r ≡ listingAt pages (now (map .entry)) 0 ⌝ }
     {
@@ -160,7 +160,7 @@ impl Listing {
         let n = send(image, map, RunKind::Reset, step, packet);
         let end = step_line(buffer, at, listed as u64, &packet[..n]);
         let listing = Listing {
-            next: follow(map, step),
+            next: follow(map, RunKind::Reset, step),
             listed,
             total: self.total,
         };

@@ -32,44 +32,46 @@ use Rattle.listing.specs.declared.plan.Listing.{Listing}
 
 -- nothing is listed: the first packet is next
 pub listing-first : (board : ℕ) (m : List ℕ) → length m ≡ mapBytes board → 0 < namedCount board m
-    → (f : Following) (k : ℕ) → f ≡ Following.Step (firstOf board m) → k ≡ total board m
+    → (f : Following) (k : ℕ) → f ≡ Following.Step (firstOf board m) → k ≡ total board m RunKind.Reset
     → record { next = f; listed = 0; total = k } ≡ listingAt board m 0
 listing-first board m long some f k e g =
-    let h : f ≡ Following.Step (stepAt board m 0) = e ∙ ap Following.Step (first-at board m long some) in
-    let some-packet : 0 < total board m = omega arith in
-    rw (h, g, lt-ltb 0 (total board m) some-packet)
+    let h : f ≡ Following.Step (stepAt board m 0) = e
+    ∙ ap Following.Step (first-at board m long some RunKind.Reset) in
+    let some-packet : 0 < total board m RunKind.Reset = omega arith in
+    rw (h, g, lt-ltb 0 (total board m RunKind.Reset) some-packet)
 
 -- ---- a listing of a file
 
 module _ (board : ℕ) (image m : List ℕ) (l : Listing) (h : Listed board image m l) where
-  listed-total : l .total ≡ total board m
+  listed-total : l .total ≡ total board m RunKind.Reset
   listed-total = ap (λ (x : Listing). x .total) (h .stands)
 
-  listed-left-is : l .next ≡ followingAt board m (l .listed)
+  listed-left-is : l .next ≡ followingAt board m RunKind.Reset (l .listed)
   listed-left-is = ap (λ (x : Listing). x .next) (h .stands)
 
   module _ (s : Step) (next-is : l .next ≡ Following.Step s) where
-    listed-below : l .listed < total board m
-    listed-below = left-step board m (l .listed) s (sym listed-left-is ∙ next-is) .0
+    listed-below : l .listed < total board m RunKind.Reset
+    listed-below = left-step board m RunKind.Reset (l .listed) s (sym listed-left-is ∙ next-is) .0
 
     pub listed-more : l .listed < l .total
     listed-more = omega (arith, listed-total, listed-below)
 
     -- its step is that of the next packet
     pub listed-step : s ≡ stepAt board m (l .listed)
-    listed-step = left-step board m (l .listed) s (sym listed-left-is ∙ next-is) .1
+    listed-step = left-step board m RunKind.Reset (l .listed) s (sym listed-left-is ∙ next-is) .1
 
     pub listed-start : atStart board m s ≡ true
     listed-start =
         ap (atStart board m) listed-step
-        ∙ stands-start board m (h .file .long) (stepAt board m (l .listed)) (l .listed)
-        (at-stands board m (l .listed) listed-below)
+        ∙ stands-start board m (h .file .long) RunKind.Reset (stepAt board m (l .listed)) (l .listed)
+        (at-stands board m RunKind.Reset (l .listed) listed-below)
 
-    pub listed-next : (f : Following) → f ≡ followOf board m s
+    pub listed-next : (f : Following) → f ≡ followOf board m RunKind.Reset s
         → record { next = f; listed = l .listed + 1; total = l .total } ≡ listingAt board m (l .listed + 1)
     listed-next f e =
-        let g : f ≡ followingAt board m (l .listed + 1) = e ∙ ap (followOf board m) listed-step
-        ∙ follow-at board m (h .file .long) (h .file .some) (l .listed) listed-below in
+        let g : f ≡ followingAt board m RunKind.Reset (l .listed + 1) = e
+        ∙ ap (followOf board m RunKind.Reset) listed-step
+        ∙ follow-at board m (h .file .long) (h .file .some) RunKind.Reset (l .listed) listed-below in
         λ i. record { next = g i; listed = l .listed + 1; total = listed-total i }
 
     pub next-listed : (x : Listing) → x ≡ listingAt board m (l .listed + 1) → Listed board image m x
@@ -98,7 +100,7 @@ module _ (board : ℕ) (image m : List ℕ) (l : Listing) (h : Listed board imag
       let k : length (plan board image m RunKind.Reset) ≤ l .listed = omega (
         arith,
         plan-length board image m RunKind.Reset,
-        left-end board m (l .listed) (sym listed-left-is ∙ e),
+        left-end board m RunKind.Reset (l .listed) (sym listed-left-is ∙ e),
       ) in
       drop-of-length-le (plan board image m RunKind.Reset) k
 
@@ -107,7 +109,7 @@ module _ (board : ℕ) (image m : List ℕ) (l : Listing) (h : Listed board imag
 -- what a session's start that is not refused shows: the file can be loaded, and nothing is listed
 pub begins : (board : ℕ) (image m : List ℕ) (room : ℕ) (x : Next)
     → given x ≡ measured (started board image m room RunKind.Reset)
-    → (Loadable board image m) × (x .session .total ≡ total board m)
+    → (Loadable board image m) × (x .session .total ≡ total board m RunKind.Reset)
     × (listingBy board m (started board image m room RunKind.Reset) ≡ given (listingAt board m 0))
 begins board image m room x e =
     let s = starting board image m room RunKind.Reset x e in
@@ -201,12 +203,13 @@ sheets-text (suc k) room n ps h l =
 -- head line, sheets and total line are the plan's text
 pub plan-sheets : (board : ℕ) (image m : List ℕ) (room : ℕ) → longestLine ≤ room
     → headLine ++
-    (sheets (total board m) room 0 (plan board image m RunKind.Reset) ++ totalLine (total board m))
+    (sheets (total board m RunKind.Reset) room 0 (plan board image m RunKind.Reset)
+    ++ totalLine (total board m RunKind.Reset))
     ≡ planText board image m
 unfolding planText
 plan-sheets board image m room h =
-    ap (λ (s : List ℕ). headLine ++ (s ++ totalLine (total board m)))
-    (sheets-text (total board m) room 0 (plan board image m RunKind.Reset) h
+    ap (λ (s : List ℕ). headLine ++ (s ++ totalLine (total board m RunKind.Reset)))
+    (sheets-text (total board m RunKind.Reset) room 0 (plan board image m RunKind.Reset) h
     (omega (arith, plan-length board image m RunKind.Reset)))
 
 -- ---- a listing goes on
@@ -217,7 +220,7 @@ module _ (board : ℕ) (image m : List ℕ) (l : Listing) (h : Listed board imag
   abbrev rest : List (List ℕ)
   rest = drop (l .listed) (plan board image m RunKind.Reset)
 
-  rest-length : l .listed + length rest ≡ total board m
+  rest-length : l .listed + length rest ≡ total board m RunKind.Reset
   rest-length =
       omega (
         arith,

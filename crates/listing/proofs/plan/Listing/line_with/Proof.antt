@@ -52,7 +52,7 @@ module _ (image m : List ℕ) (l : Listing) (h : Listed pages image m l) (s : St
       → (e ≡ at + length (stepLine (l .listed + 1) (take k x)))
       × (b ≡ copyOf buffer at (stepLine (l .listed + 1) (take k x)))
       × (length (stepLine (l .listed + 1) (take k x)) ≤ 2 * length (take k x) + 24)
-      → next ≡ followOf pages m s
+      → next ≡ followOf pages m RunKind.Reset s
       → (record { next = next; listed = l .listed + 1; total = l .total } ≡ listingAt pages m (l .listed + 1))
       × (e ≡ at + length (stepLine (l .listed + 1) (resetPacketAt pages image m (l .listed))))
       × (b ≡ copyOf buffer at (stepLine (l .listed + 1) (resetPacketAt pages image m (l .listed))))
