@@ -1,7 +1,9 @@
-/* Loads a hex file as a host does: load FILE.hex. The board is a loader in this process; over a serial line `exchange`
+/* Loads a hex file as a host does: load FILE.hex [hold | reset | jump]. Without a run kind it holds: the file is
+ * written and verified, and nothing is started. The board is a loader in this process; over a serial line `exchange`
  * sends the packet and waits for the answer. Writes the service log's record to standard output. */
 #include "gremolunde.h"
 #include <stdio.h>
+#include <string.h>
 
 static uint8_t image[GREMOLUNDE_IMAGE], map[GREMOLUNDE_MAP], flash[GREMOLUNDE_FLASH];
 static uint8_t packet[GREMOLUNDE_PACKET], answer[GREMOLUNDE_ANSWER], record[GREMOLUNDE_LOG];
@@ -47,6 +49,19 @@ static uint32_t read_file(FILE *file) {
     return read.number != 0 ? read.number : gremolunde_hex_close(read.reader).number;
 }
 
+/* The run kind that a word asks for, or 0 for a word that is none. */
+static int run_kind(const char *word, uint32_t *run) {
+    static const char *const kinds[] = {"reset", "jump", "hold"};
+    static const uint32_t values[] = {GREMOLUNDE_RESET, GREMOLUNDE_JUMP, GREMOLUNDE_HOLD};
+    for (size_t i = 0; i < sizeof kinds / sizeof *kinds; ++i) {
+        if (strcmp(word, kinds[i]) == 0) {
+            *run = values[i];
+            return 1;
+        }
+    }
+    return 0;
+}
+
 /* Sends the packet; gives the length of the answer, 0 for silence. */
 static size_t exchange(size_t length) {
     gremolunde_taken taken =
@@ -56,12 +71,13 @@ static size_t exchange(size_t length) {
 }
 
 int main(int count, char **words) {
-    FILE *file = count == 2 ? fopen(words[1], "rb") : NULL;
+    uint32_t number, run = GREMOLUNDE_HOLD;
+    int told = count == 2 || (count == 3 && run_kind(words[2], &run));
+    FILE *file = told ? fopen(words[1], "rb") : NULL;
     gremolunde_session_stepped now;
     gremolunde_length log;
-    uint32_t number;
     if (file == NULL) {
-        fprintf(stderr, "usage: load FILE.hex\n");
+        fprintf(stderr, "usage: load FILE.hex [hold | reset | jump]\n");
         return 2;
     }
     number = read_file(file);
@@ -69,7 +85,7 @@ int main(int count, char **words) {
         return say("the file is refused", number);
     }
     board = gremolunde_loader_new();
-    now = gremolunde_session_start(GREMOLUNDE_RESET, image, sizeof image, map, sizeof map, packet, sizeof packet);
+    now = gremolunde_session_start(run, image, sizeof image, map, sizeof map, packet, sizeof packet);
     while (now.length > 0) {
         size_t length = exchange(now.length);
         now = gremolunde_session_step(now.session, length == 0, answer, length, image, sizeof image, map, sizeof map,
@@ -80,5 +96,5 @@ int main(int count, char **words) {
         return say("no record", log.number);
     }
     number = gremolunde_session_outcome(now.session);
-    return number == 0 ? 0 : say("not valid", number);
+    return number <= 1 ? 0 : say("neither valid nor held", number);
 }

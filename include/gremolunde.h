@@ -29,7 +29,7 @@ extern "C" {
 #endif
 
 /* Rises when a struct changes, or what a number in one means. */
-#define GREMOLUNDE_VERSION 2
+#define GREMOLUNDE_VERSION 3
 
 /* The sizes that the paper asks for, in bytes: flash, image and map exactly so, the others at least so. */
 #define GREMOLUNDE_FLASH 63488
@@ -65,24 +65,28 @@ enum {
     GREMOLUNDE_ERASE = 1,    /* the answer to E at `page`, its first */
     GREMOLUNDE_WRITE = 2,    /* the answer to W at `address` */
     GREMOLUNDE_VERIFY = 3,   /* the answer to V at `address` */
-    GREMOLUNDE_RUN = 4,      /* the answer to R */
-    GREMOLUNDE_ENDED = 5     /* nothing; `outcome` is 0 valid, or 40 to 43 */
+    GREMOLUNDE_RUN = 4,      /* the answer to R; not with GREMOLUNDE_HOLD */
+    GREMOLUNDE_ENDED = 5     /* nothing; `outcome` is 0 valid, 1 verified and held, or 40 to 43 */
 };
 
-/* The run kind: how the board goes on after the last packet. */
-enum { GREMOLUNDE_RESET = 0, GREMOLUNDE_JUMP = 1 };
+/* The run kind: what the board does after the last V. With GREMOLUNDE_HOLD no R is sent and nothing is started; it is
+ * the default, so any value that is not listed holds. Reset and jump must be asked for: a run kind left at 0 asks for
+ * a reset. */
+enum { GREMOLUNDE_RESET = 0, GREMOLUNDE_JUMP = 1, GREMOLUNDE_HOLD = 2 };
 
 /* A session, without its file. One with a phase or an outcome that is not listed, or with anything but 0 in a field
  * that its phase does not use, came from no start: a step gives 46 and so does asking what is proved; its outcome and
- * its log record are 45. */
+ * its log record are 45. One that has ended otherwise than its run kind can (held with GREMOLUNDE_RESET or
+ * GREMOLUNDE_JUMP, valid with GREMOLUNDE_HOLD) came from none either: asking what is proved gives 46, its outcome and
+ * its log record are 45, and a step is 44. */
 typedef struct gremolunde_session {
-    uint32_t run;          /* GREMOLUNDE_RESET or GREMOLUNDE_JUMP; any other value is the default, reset */
+    uint32_t run;          /* GREMOLUNDE_RESET, GREMOLUNDE_JUMP or GREMOLUNDE_HOLD; any other value is hold */
     uint32_t phase;        /* GREMOLUNDE_GREETING to GREMOLUNDE_ENDED */
     uint32_t page;         /* of GREMOLUNDE_ERASE, else 0 */
     uint32_t address;      /* of GREMOLUNDE_WRITE and GREMOLUNDE_VERIFY, else 0 */
     uint32_t outcome;      /* of GREMOLUNDE_ENDED, else 0 */
     uint32_t acknowledged; /* packets acknowledged */
-    uint32_t total;        /* packets of the file */
+    uint32_t total;        /* packets of the file, with R where the run kind sends it */
     uint32_t named;        /* named bytes of the file */
 } gremolunde_session;
 
@@ -196,13 +200,15 @@ gremolunde_hex_written gremolunde_hex_write(const uint8_t *image, size_t image_l
                                             size_t map_length, uint32_t from, uint8_t *buffer,
                                             size_t buffer_length);
 
-/* Starts a session: writes the single byte 08. 20 wrong sizes, 32 nothing named; the session is then all 0. */
+/* Starts a session of a run kind: writes the single byte 08. 20 wrong sizes, 32 nothing named; the session is then
+ * all 0. */
 gremolunde_session_stepped gremolunde_session_start(uint32_t run, const uint8_t *image, size_t image_length,
                                                     const uint8_t *map, size_t map_length, uint8_t *buffer,
                                                     size_t buffer_length);
 
 /* Takes one event: an answer, or silence where the flag `silent` is set, whatever the answer. 20 wrong sizes, 44 after
- * the end, 46 not this file's session. The endings 40 to 43 are no refusals: see gremolunde_session_outcome. */
+ * the end, 46 not this file's session. The endings 0, 1 and 40 to 43 are no refusals: see gremolunde_session_outcome.
+ * With GREMOLUNDE_HOLD the ACK to the last V ends with 1, else the ACK to R with 0. */
 gremolunde_session_stepped gremolunde_session_step(gremolunde_session session, uint8_t silent,
                                                    const uint8_t *answer, size_t answer_length,
                                                    const uint8_t *image, size_t image_length, const uint8_t *map,
@@ -215,20 +221,21 @@ gremolunde_session_stepped gremolunde_session_step(gremolunde_session session, u
 gremolunde_session_mark gremolunde_session_proved(gremolunde_session session, const uint8_t *map, size_t map_length,
                                                   uint32_t address);
 
-/* How a session ended: 0 valid, 40 silence, 41 BEL, 42 no greeting, 43 other bytes or none; 45 unfinished. */
+/* How a session ended: 0 valid, 1 verified and held, 40 silence, 41 BEL, 42 no greeting, 43 other bytes or none; 45
+ * unfinished, or ended otherwise than its run kind can. */
 uint32_t gremolunde_session_outcome(gremolunde_session session);
 
-/* Writes the log record of a session that has ended. 45 unfinished or counts that make no record, 20 buffer under
- * 10. */
+/* Writes the log record of a session that has ended. 45 unfinished, ended otherwise than its run kind can or counts
+ * that make no record, 20 buffer under 10. */
 gremolunde_length gremolunde_log_write(gremolunde_session session, uint8_t *buffer, size_t buffer_length);
 
 /* Reads a log record. 50 to 53. */
 gremolunde_log gremolunde_log_read(const uint8_t *input, size_t input_length);
 
-/* Rehearses a whole load of the file into the flash: the loader is reset, a session started, and exchange follows
- * exchange until the session has ended. Each byte of `losses` tells what befalls one exchange: 0 nothing, 1 the packet
- * is lost, any other value the answer is lost; past their end nothing is lost. 20 wrong sizes, 32 nothing named; the
- * session is then all 0. */
+/* Rehearses a whole load of the file into the flash: the loader is reset, a session of the run kind started, and
+ * exchange follows exchange until the session has ended. Each byte of `losses` tells what befalls one exchange: 0
+ * nothing, 1 the packet is lost, any other value the answer is lost; past their end nothing is lost. 20 wrong sizes,
+ * 32 nothing named; the session is then all 0. */
 gremolunde_rehearsal gremolunde_rehearse(uint32_t run, gremolunde_loader loader, const uint8_t *losses,
                                          size_t losses_length, const uint8_t *image, size_t image_length,
                                          const uint8_t *map, size_t map_length, uint8_t *flash,

@@ -70,15 +70,19 @@ hexShown h =
 
 -- the run kind of a number that is not listed
 abbrev pub defaultRun : RunKind
-defaultRun = RunKind.Reset
+defaultRun = RunKind.Hold
 
--- a run kind: 0 resets, 1 jumps, all else is the default
+-- a run kind: 0 reset, 1 jump, 2 hold, all else is the default
 abbrev pub runMeant : ℕ → RunKind
-runMeant n = pick (eqb n 0) RunKind.Reset (pick (eqb n 1) RunKind.Jump defaultRun)
+runMeant n =
+    pick (eqb n 0) RunKind.Reset
+    (pick (eqb n 1) RunKind.Jump
+    (pick (eqb n 2) RunKind.Hold defaultRun))
 
 abbrev pub runShown : RunKind → ℕ
 runShown RunKind.Reset = 0
 runShown RunKind.Jump = 1
+runShown RunKind.Hold = 2
 
 -- a phase that no file has: its page lies past every board
 abbrev pub nowhere : Phase
@@ -92,10 +96,11 @@ without field phase = pick (eqb field 0) phase nowhere
 abbrev pub endMeant : ℕ → Phase
 endMeant o =
     pick (eqb o 0) (Phase.Ended Outcome.Valid)
+    (pick (eqb o 1) (Phase.Ended Outcome.Held)
     (pick (eqb o 40) (Phase.Ended Outcome.Silence)
     (pick (eqb o 41) (Phase.Ended Outcome.Bel)
     (pick (eqb o 42) (Phase.Ended Outcome.NoGreeting)
-    (pick (eqb o 43) (Phase.Ended Outcome.Other) nowhere))))
+    (pick (eqb o 43) (Phase.Ended Outcome.Other) nowhere)))))
 
 -- 0 the greeting, 1 E at a page, 2 and 3 W and V at an address, 4 R, 5 an end by its
 -- outcome; all else is nowhere

@@ -140,12 +140,13 @@ fn mark_answer(answer: Mark) -> SessionMark
     }
 }
 
-// 0 valid, 40 to 43, or 45 where the session is unfinished.
+// 0 valid, 1 verified and held, 40 to 43; 45 where the session is unfinished or its ending not its run kind's.
 #[no_mangle]
 pub extern "C" fn gremolunde_session_outcome(session: SessionState) -> u32
-    ensures { λ r. ⌜ r ≡ loggedOutcomeOf (sessionMeant session .phase) ⌝ }
+    ensures { λ r. ⌜ r ≡ loggedOutcomeOf (sessionMeant session .kind) (sessionMeant session .phase) ⌝ }
 {
     let meant = session_meant(session);
+    let kind = meant.kind;
     let phase = meant.phase;
-    logged_outcome(phase) as u32
+    logged_outcome(kind, phase) as u32
 }

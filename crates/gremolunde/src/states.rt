@@ -35,7 +35,7 @@ pub struct HexState {
     pub taken: u8,
 }
 
-// `run` is the run kind: 0 resets, 1 jumps, all else is the default, reset. `phase` is 0 for the greeting,
+// `run` is the run kind: 0 reset, 1 jump, 2 hold, all else is the default, hold. `phase` is 0 for the greeting,
 // 1 to 4 for E, W, V and R, 5 for an end; E uses `page`, W and V `address`, an end `outcome`.
 #[repr(C)]
 pub struct SessionState {
@@ -143,13 +143,15 @@ pub fn session_meant(state: SessionState) -> Session
     }
 }
 
+// What is not known starts nothing.
 pub fn run_meant(run: u32) -> RunKind
     ensures { λ r. ⌜ r ≡ runMeant run ⌝ }
 {
     match run {
         0 => RunKind::Reset,
         1 => RunKind::Jump,
-        _ => RunKind::Reset,
+        2 => RunKind::Hold,
+        _ => RunKind::Hold,
     }
 }
 
@@ -190,6 +192,7 @@ fn end_meant(outcome: u32) -> Phase
 {
     match outcome {
         0 => Phase::Ended(Outcome::Valid),
+        1 => Phase::Ended(Outcome::Held),
         40 => Phase::Ended(Outcome::Silence),
         41 => Phase::Ended(Outcome::Bel),
         42 => Phase::Ended(Outcome::NoGreeting),
@@ -229,6 +232,7 @@ fn run_shown(kind: RunKind) -> u32
     match kind {
         RunKind::Reset => 0,
         RunKind::Jump => 1,
+        RunKind::Hold => 2,
     }
 }
 

@@ -46,6 +46,7 @@ hex-back h =
 run-back : (k : RunKind) → runMeant (runShown k) ≡ k
 run-back RunKind.Reset = refl
 run-back RunKind.Jump = refl
+run-back RunKind.Hold = refl
 
 phase-back : (p : Phase) → phaseMeant (phaseShown p) (pageShown p) (addressShown p) (outcomeShown p) ≡ p
 phase-back Phase.Greeting = refl
@@ -54,6 +55,7 @@ phase-back (Phase.Out (Step.Write a)) = refl
 phase-back (Phase.Out (Step.Verify a)) = refl
 phase-back (Phase.Out Step.Run) = refl
 phase-back (Phase.Ended Outcome.Valid) = refl
+phase-back (Phase.Ended Outcome.Held) = refl
 phase-back (Phase.Ended Outcome.Silence) = refl
 phase-back (Phase.Ended Outcome.Bel) = refl
 phase-back (Phase.Ended Outcome.NoGreeting) = refl

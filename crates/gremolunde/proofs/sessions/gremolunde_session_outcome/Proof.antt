@@ -10,7 +10,7 @@ use Rattle.gremolunde.proofs.sessions.gremolunde_session_outcome.Tie as
 returns : tie.Need-returns
 returns c =
     c .logged-outcome .ensures
-    ∙ ap (λ (s : Session). loggedOutcomeOf (s .phase)) (c .before .session-meant .ensures)
+    ∙ ap (λ (s : Session). loggedOutcomeOf (s .kind) (s .phase)) (c .before .session-meant .ensures)
 
 pub gremolunde-session-outcome-spec : {M : Type 1} → statement M
 gremolunde-session-outcome-spec =

@@ -21,10 +21,14 @@ returns-5 : tie.Need-returns-5
 returns-5 c = rw (c .match .keys5) refl
 
 returns-6 : tie.Need-returns-6
-returns-6 c =
+returns-6 c = rw (c .match .keys6) refl
+
+returns-7 : tie.Need-returns-7
+returns-7 c =
     let r = c .before .match .rest in
     simp (
       c .nowhere .ensures,
+      ne-eqb _ _ (r .0 .0 .0 .0 .0 .1),
       ne-eqb _ _ (r .0 .0 .0 .0 .1),
       ne-eqb _ _ (r .0 .0 .0 .1),
       ne-eqb _ _ (r .0 .0 .1),
@@ -34,4 +38,5 @@ returns-6 c =
 
 pub end-meant-spec : {M : Type 1} → statement M
 end-meant-spec =
-    tie.close (tie.spec (λ c κs. search needs) returns returns-2 returns-3 returns-4 returns-5 returns-6)
+    tie.close
+    (tie.spec (λ c κs. search needs) returns returns-2 returns-3 returns-4 returns-5 returns-6 returns-7)

@@ -11,7 +11,12 @@ returns-2 : tie.Need-returns-2
 returns-2 c = rw (c .match .keys2) refl
 
 returns-3 : tie.Need-returns-3
-returns-3 c = let r = c .match .rest in simp (ne-eqb _ _ (r .0 .1), ne-eqb _ _ (r .1))
+returns-3 c = rw (c .match .keys3) refl
+
+returns-4 : tie.Need-returns-4
+returns-4 c =
+    let r = c .match .rest in
+    simp (ne-eqb _ _ (r .0 .0 .1), ne-eqb _ _ (r .0 .1), ne-eqb _ _ (r .1))
 
 pub run-meant-spec : {M : Type 1} → statement M
-run-meant-spec = tie.close (tie.spec returns returns-2 returns-3)
+run-meant-spec = tie.close (tie.spec returns returns-2 returns-3 returns-4)
