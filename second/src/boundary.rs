@@ -227,6 +227,7 @@ impl From<Session> for SessionRecord {
             run: match session.run {
                 Run::Reset => 0,
                 Run::Jump => 1,
+                Run::Hold => 2,
             },
             acknowledged: session.acknowledged,
             total: session.total,
@@ -256,6 +257,7 @@ pub fn run(number: u32) -> Run {
     match number {
         0 => Run::Reset,
         1 => Run::Jump,
+        2 => Run::Hold,
         _ => Run::default(),
     }
 }
@@ -306,7 +308,7 @@ mod tests {
             (4, 0, 0, 40),
             (5, 1, 0, 40),
             (5, 0, 1, 40),
-            (5, 0, 0, 1),
+            (5, 0, 0, 2),
             (5, 0, 0, 39),
             (5, 0, 0, 44),
             (5, 0, 0, 256),
@@ -337,14 +339,30 @@ mod tests {
             (3, 0, 7, 0),
             (4, 0, 0, 0),
             (5, 0, 0, 0),
+            (5, 0, 0, 1),
             (5, 0, 0, 43),
         ] {
-            let record = waiting_for(phase, page, address, outcome);
-            assert_eq!(SessionRecord::from(record.meaning()), record);
+            for run in 0..3 {
+                let record = SessionRecord {
+                    run,
+                    ..waiting_for(phase, page, address, outcome)
+                };
+                assert_eq!(SessionRecord::from(record.meaning()), record);
+            }
         }
-        assert_eq!(
-            [0, 1, 2, u32::MAX].map(run),
-            [Run::Reset, Run::Jump, Run::Reset, Run::Reset]
-        );
+    }
+
+    /// A record that is handed back gives hold its own number.
+    #[test]
+    fn a_run_kind_without_a_number_is_hold() {
+        assert_eq!([0, 1, 2].map(run), [Run::Reset, Run::Jump, Run::Hold]);
+        for number in [3, 255, 256, u32::MAX] {
+            assert_eq!(run(number), Run::Hold);
+            let record = SessionRecord {
+                run: number,
+                ..waiting_for(0, 0, 0, 0)
+            };
+            assert_eq!(SessionRecord::from(record.meaning()).run, 2);
+        }
     }
 }

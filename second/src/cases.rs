@@ -425,10 +425,8 @@ impl Desk {
     fn outcome(&mut self) -> Option<Answer> {
         let session = self.session?.meaning();
         self.buffers.call(&[], &[], &[])?;
-        Some(Answer::of(match session.phase {
-            Phase::Ended(outcome) => Ok(vec![ended(outcome)]),
-            _ => Err(Refusal::NoLog),
-        }))
+        let outcome = session.outcome().ok_or(Refusal::NoLog);
+        Some(Answer::of(outcome.map(|outcome| vec![ended(outcome)])))
     }
 
     fn write_log(&mut self) -> Option<Answer> {

@@ -95,7 +95,8 @@ fn at_closing(refusal: impl Into<HexRefusal>) -> Refused {
 fn steps(image: &[u8], map: &[u8]) -> Result<String, Refusal> {
     let mut packet = [0; LONGEST];
     let mut listing = String::from("STEP KIND PACKET\n");
-    let (session, _) = Session::start(Run::default(), image, map, &mut packet)?;
+    // the plan asks for a reset and so lists R as well
+    let (session, _) = Session::start(Run::Reset, image, map, &mut packet)?;
     let greeted = Event::Answer(GREETING);
     let (mut session, mut length) = session.step(greeted, image, map, &mut packet)?;
     let mut number = 1;

@@ -1,14 +1,14 @@
 //! The service log record.
 
 use crate::refusal::Refusal;
-use crate::session::{Outcome, Phase, Session};
+use crate::session::{Outcome, Session};
 use crate::units::FLASH_END;
 
 pub const RECORD: usize = 10;
 const LENGTH: u16 = 8;
 const VERSION: u8 = 1;
-/// One E, one W, one V and one R.
-const SMALLEST_TOTAL: u16 = 4;
+/// One E, one W and one V.
+const SMALLEST_TOTAL: u16 = 3;
 
 #[derive(Clone, Copy, Debug, PartialEq, Eq)]
 pub struct Entry {
@@ -24,11 +24,8 @@ impl Entry {
     }
 
     fn of(session: &Session) -> Option<Entry> {
-        let Phase::Ended(outcome) = session.phase else {
-            return None;
-        };
         let entry = Entry {
-            outcome,
+            outcome: session.outcome()?,
             acknowledged: session.acknowledged.try_into().ok()?,
             total: session.total.try_into().ok()?,
             named: session.named.try_into().ok()?,
@@ -38,11 +35,16 @@ impl Entry {
 
     /// Whether a load can have ended so.
     fn is_true(&self) -> bool {
-        self.total >= SMALLEST_TOTAL
+        self.total >= self.smallest_total()
             && (1..=FLASH_END).contains(&u32::from(self.named))
             && self.acknowledged <= self.total
-            && (self.outcome == Outcome::Valid) == (self.acknowledged == self.total)
+            && self.outcome.is_as_asked() == (self.acknowledged == self.total)
             && (self.outcome != Outcome::WrongGreeting || self.acknowledged == 0)
+    }
+
+    /// Valid is the answer to an R, which is one packet more.
+    fn smallest_total(&self) -> u16 {
+        SMALLEST_TOTAL + u16::from(self.outcome == Outcome::Valid)
     }
 }
 

@@ -29,8 +29,9 @@ impl Survey {
         self.pages.runs()
     }
 
-    pub fn total(&self) -> u32 {
-        self.erases() + 2 * self.pieces + 1
+    /// Every E, W and V.
+    pub fn loading(&self) -> u32 {
+        self.erases() + 2 * self.pieces
     }
 }
 

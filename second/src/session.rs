@@ -12,19 +12,50 @@ use crate::units::{ByteAddress, Page};
 /// The greeting's first bytes, which must be exact; so must its last two.
 const GREETING_FIXED: usize = 15;
 
+/// What the board is told once every byte is proved.
 #[derive(Clone, Copy, Debug, Default, PartialEq, Eq)]
 pub enum Run {
-    #[default]
     Reset,
     Jump,
+    /// Nothing, so that no board starts unless asked to.
+    #[default]
+    Hold,
 }
 
 impl Run {
-    fn address(self) -> u32 {
+    /// The address that R carries; hold has no R.
+    fn address(self) -> Option<u32> {
         match self {
-            Run::Reset => 1,
-            Run::Jump => 0,
+            Run::Reset => Some(1),
+            Run::Jump => Some(0),
+            Run::Hold => None,
         }
+    }
+
+    fn sends_r(self) -> bool {
+        self.address().is_some()
+    }
+
+    /// The one ending with every packet acknowledged.
+    fn asked_end(self) -> Outcome {
+        match self {
+            Run::Reset | Run::Jump => Outcome::Valid,
+            Run::Hold => Outcome::Held,
+        }
+    }
+
+    /// The phase that the last V's ACK leads to.
+    fn once_proved(self) -> Phase {
+        if self.sends_r() {
+            Phase::Run
+        } else {
+            Phase::Ended(self.asked_end())
+        }
+    }
+
+    /// Whether a session of this kind ever ends so.
+    fn ends_with(self, outcome: Outcome) -> bool {
+        !outcome.is_as_asked() || outcome == self.asked_end()
     }
 }
 
@@ -32,6 +63,8 @@ impl Run {
 #[repr(u8)]
 pub enum Outcome {
     Valid = 0,
+    /// Verified and held.
+    Held = 1,
     Silent = 40,
     Refused = 41,
     WrongGreeting = 42,
@@ -39,8 +72,9 @@ pub enum Outcome {
 }
 
 impl Outcome {
-    const ALL: [Outcome; 5] = [
+    const ALL: [Outcome; 6] = [
         Outcome::Valid,
+        Outcome::Held,
         Outcome::Silent,
         Outcome::Refused,
         Outcome::WrongGreeting,
@@ -54,6 +88,11 @@ impl Outcome {
     pub fn from_number(number: u8) -> Option<Outcome> {
         let mut all = Outcome::ALL.into_iter();
         all.find(|outcome| outcome.number() == number)
+    }
+
+    /// Valid, or held as asked.
+    pub fn is_as_asked(self) -> bool {
+        matches!(self, Outcome::Valid | Outcome::Held)
     }
 }
 
@@ -131,7 +170,7 @@ impl Session {
             run,
             phase: Phase::Greeting,
             acknowledged: 0,
-            total: survey.total(),
+            total: survey.total(run),
             named: survey.named,
         };
         (survey.named > 0).then_some(session)
@@ -160,6 +199,15 @@ impl Session {
         }
     }
 
+    /// How it ended; none while it is open, or after an end that is another run
+    /// kind's.
+    pub fn outcome(&self) -> Option<Outcome> {
+        match self.phase {
+            Phase::Ended(outcome) if self.run.ends_with(outcome) => Some(outcome),
+            _ => None,
+        }
+    }
+
     /// Whether a byte is marked: the V that holds it is among the packets
     /// acknowledged. The lent map must lead to this session; two maps that both
     /// do are not told apart.
@@ -176,13 +224,14 @@ impl Session {
         Ok(held.is_some_and(|sent| sent.acknowledged < self.acknowledged))
     }
 
-    /// From this start on, each state that expected answers lead to, the valid
-    /// end last.
+    /// From this start on, each state that expected answers lead to, the end
+    /// that was asked for last.
     fn walk<'a>(self, map: Map<'a>, survey: &Survey) -> impl Iterator<Item = Session> + 'a {
         let erases = survey.pages.run_starts().map(Phase::Erase);
         let writes = map.piece_starts().map(Phase::Write);
         let verifies = map.piece_starts().map(Phase::Verify);
-        let last = [Phase::Run, Phase::Ended(Outcome::Valid)];
+        let run = self.run.sends_r().then_some(Phase::Run);
+        let last = run.into_iter().chain([Phase::Ended(self.run.asked_end())]);
         let phases = erases.chain(writes).chain(verifies).chain(last);
         let mut session = self;
         let answered = phases.map(move |phase| {
@@ -226,10 +275,10 @@ impl Session {
 
     /// Whether a start over such a file and acknowledgements lead here.
     fn belongs_to(&self, survey: &Survey) -> bool {
-        self.total == survey.total()
+        self.total == survey.total(self.run)
             && self.named == survey.named
             && survey.named > 0
-            && survey.sent_before(self.phase) == Some(self.acknowledged)
+            && survey.sent_before(self.phase, self.run) == Some(self.acknowledged)
     }
 
     fn hear(&self, event: Event) -> Heard {
@@ -246,7 +295,7 @@ impl Session {
     }
 
     fn go_on(self, file: &File, buffer: &mut [u8]) -> Result<(Session, usize), Refusal> {
-        let phase = file.survey.after(self.phase);
+        let phase = file.survey.after(self.phase, self.run);
         let length = file.packet(phase, self.run, buffer)?;
         Ok((self.answered(phase), length))
     }
@@ -270,22 +319,27 @@ impl Session {
 }
 
 impl Survey {
+    /// All packets of a session over the file.
+    pub fn total(&self, run: Run) -> u32 {
+        self.loading() + u32::from(run.sends_r())
+    }
+
     /// How many packets go before the one a phase waits on, if it is one of
-    /// the file's.
-    fn sent_before(&self, phase: Phase) -> Option<u32> {
+    /// the session's.
+    fn sent_before(&self, phase: Phase, run: Run) -> Option<u32> {
         let piece = self.sought.index;
         match phase {
             Phase::Greeting => Some(0),
             Phase::Erase(first) => self.pages.run_index(first),
             Phase::Write(_) => piece.map(|index| self.erases() + index),
             Phase::Verify(_) => piece.map(|index| self.erases() + self.pieces + index),
-            Phase::Run => Some(self.total() - 1),
+            Phase::Run => run.sends_r().then(|| self.loading()),
             Phase::Ended(_) => None,
         }
     }
 
     /// The phase that an expected answer leads to.
-    fn after(&self, phase: Phase) -> Phase {
+    fn after(&self, phase: Phase, run: Run) -> Phase {
         let (first, next) = (ByteAddress(self.first), self.sought.next.map(ByteAddress));
         match phase {
             Phase::Greeting => Phase::Erase(self.pages.first()),
@@ -294,7 +348,7 @@ impl Survey {
                 None => Phase::Write(first),
             },
             Phase::Write(_) => next.map_or(Phase::Verify(first), Phase::Write),
-            Phase::Verify(_) => next.map_or(Phase::Run, Phase::Verify),
+            Phase::Verify(_) => next.map_or(run.once_proved(), Phase::Verify),
             Phase::Run => Phase::Ended(Outcome::Valid),
             Phase::Ended(outcome) => Phase::Ended(outcome),
         }
@@ -317,7 +371,10 @@ impl<'a> File<'a> {
             }
             Phase::Write(start) => self.piece(Command::Write, start, buffer),
             Phase::Verify(start) => self.piece(Command::Verify, start, buffer),
-            Phase::Run => packet::build(buffer, Command::Run.byte(), run.address(), &[]),
+            Phase::Run => match run.address() {
+                Some(address) => packet::build(buffer, Command::Run.byte(), address, &[]),
+                None => Ok(0),
+            },
             Phase::Greeting | Phase::Ended(_) => Ok(0),
         }
     }

@@ -1,5 +1,6 @@
 //! The paper's printed cases and limits.
 
+use second::cases;
 use second::hex::{self, HexRefusal, Reader};
 use second::line::{rehearse, Exchange};
 use second::listing;
@@ -839,6 +840,19 @@ fn written_file_reads_back() {
 
 const ACK: Event = Event::Answer(&[0x06]);
 
+const RUNS: [Run; 3] = [Run::Reset, Run::Jump, Run::Hold];
+
+/// Events that end a session wherever it waits for the answer to a packet.
+const UNEXPECTED: [(Event, Outcome); 7] = [
+    (Event::Silence, Outcome::Silent),
+    (Event::Answer(&[0x07]), Outcome::Refused),
+    (Event::Answer(&[]), Outcome::WrongAnswer),
+    (Event::Answer(&[0x06, 0x06]), Outcome::WrongAnswer),
+    (Event::Answer(&[0x07, 0x07]), Outcome::WrongAnswer),
+    (Event::Answer(&[0x08]), Outcome::WrongAnswer),
+    (Event::Answer(GREETING), Outcome::WrongAnswer),
+];
+
 fn plan_file() -> Reading {
     Reading::of(&[":020200001234B6", ":00000001FF"])
 }
@@ -898,36 +912,126 @@ fn greeting_is_exact_where_the_paper_says() {
 #[test]
 fn endings_while_packets_are_sent() {
     let reading = plan_file();
-    let session = greeted(&reading, Run::Reset);
-    for (event, outcome) in [
-        (Event::Silence, Outcome::Silent),
-        (Event::Answer(&[0x07]), Outcome::Refused),
-        (Event::Answer(&[]), Outcome::WrongAnswer),
-        (Event::Answer(&[0x06, 0x06]), Outcome::WrongAnswer),
-        (Event::Answer(&[0x07, 0x07]), Outcome::WrongAnswer),
-        (Event::Answer(&[0x08]), Outcome::WrongAnswer),
-    ] {
-        assert_eq!(reading.ending(session, event), Phase::Ended(outcome));
+    for run in RUNS {
+        let session = greeted(&reading, run);
+        for (event, outcome) in UNEXPECTED {
+            assert_eq!(reading.ending(session, event), Phase::Ended(outcome));
+        }
     }
 }
 
 #[test]
-fn jump_session_runs_at_0() {
+fn reset_and_jump_end_valid_after_r() {
     let reading = plan_file();
-    let mut session = greeted(&reading, Run::Jump);
-    let mut last = Vec::new();
-    for _ in 0..3 {
-        assert_eq!(reading.mark(session, 0x200), Ok(false));
-        (session, last) = reading.step(session, ACK).unwrap();
+    for (run, address) in [(Run::Reset, 1), (Run::Jump, 0)] {
+        let mut session = greeted(&reading, run);
+        let mut last = Vec::new();
+        for _ in 0..3 {
+            assert_eq!(reading.mark(session, 0x200), Ok(false));
+            (session, last) = reading.step(session, ACK).unwrap();
+        }
+        assert_eq!(last, built(Command::Run, address, &[]));
+        assert_eq!(reading.mark(session, 0x201), Ok(true));
+        assert_eq!(reading.mark(session, 0x202), Ok(false));
+        assert_eq!(reading.ending(session, ACK), Phase::Ended(Outcome::Valid));
+        for (event, outcome) in UNEXPECTED {
+            assert_eq!(reading.ending(session, event), Phase::Ended(outcome));
+        }
     }
-    assert_eq!(last, built(Command::Run, 0, &[]));
-    assert_eq!(reading.mark(session, 0x201), Ok(true));
-    assert_eq!(reading.mark(session, 0x202), Ok(false));
-    assert_eq!(reading.ending(session, ACK), Phase::Ended(Outcome::Valid));
-    assert_eq!(
-        reading.ending(session, Event::Silence),
-        Phase::Ended(Outcome::Silent)
-    );
+}
+
+#[test]
+fn hold_is_the_default() {
+    assert_eq!(Run::default(), Run::Hold);
+    let total = |run| plan_file().session(run).total;
+    assert_eq!(total(Run::default()), 3);
+    assert_eq!([Run::Reset, Run::Jump].map(total), [4, 4]);
+}
+
+/// What is written at the greeting and at each ACK; nothing at the end.
+fn packets(reading: &Reading, run: Run) -> Vec<Vec<u8>> {
+    let greeting = Event::Answer(GREETING);
+    let (mut session, first) = reading.step(reading.session(run), greeting).unwrap();
+    let mut packets = vec![first];
+    while is_open(&session) {
+        let (next, packet) = reading.step(session, ACK).unwrap();
+        packets.push(packet);
+        session = next;
+    }
+    packets
+}
+
+#[test]
+fn packets_of_the_plan_under_each_run_kind() {
+    let loading = [
+        "070E06450000020001B2",
+        "070E07570000020012345A",
+        "070E07560000020090A170",
+    ];
+    for (run, r) in [
+        (Run::Reset, Some("070E055200000001A8")),
+        (Run::Jump, Some("070E055200000000A9")),
+        (Run::Hold, None),
+    ] {
+        let sent = packets(&plan_file(), run);
+        let digits: Vec<String> = sent.iter().map(|sent| listing::hex_digits(sent)).collect();
+        let expected: Vec<&str> = loading.into_iter().chain(r).chain([""]).collect();
+        assert_eq!(digits, expected);
+    }
+}
+
+#[test]
+fn hold_session_is_e_and_2w_packets() {
+    let reading = three_pieces();
+    assert_eq!(reading.session(Run::Hold).total, 2 + 2 * 3);
+    let expected = [
+        built(Command::Erase, 0x0000, &[2]),
+        built(Command::Erase, 0xF000, &[1]),
+        built(Command::Write, 0x1FF, &[0; 250]),
+        built(Command::Write, 0x2F9, &[0; 5]),
+        built(Command::Write, 0xF000, &[0]),
+        built(Command::Verify, 0x1FF, &[0; 250]),
+        built(Command::Verify, 0x2F9, &[0; 5]),
+        built(Command::Verify, 0xF000, &[0]),
+        vec![],
+    ];
+    assert_eq!(packets(&reading, Run::Hold), expected);
+}
+
+#[test]
+fn hold_session_of_the_full_file() {
+    let reading = full_file();
+    assert_eq!(reading.session(Run::Hold).total, 1 + 2 * 254);
+    let mut sent = packets(&reading, Run::Hold);
+    assert_eq!(sent.pop(), Some(vec![]));
+    let commands: Vec<u8> = sent.iter().map(|packet| packet[3]).collect();
+    assert_eq!(commands, [&[b'E'][..], &[b'W'; 254], &[b'V'; 254]].concat());
+    assert_eq!(most_pieces().session(Run::Hold).total, 1 + 2 * 31_744);
+}
+
+#[test]
+fn hold_session_ends_with_the_last_v() {
+    for reading in [plan_file(), three_pieces(), full_file()] {
+        let states = whole_session(&reading, Run::Hold);
+        let [.., last, end] = states[..] else {
+            panic!("a session has several states");
+        };
+        assert!(matches!(last.phase, Phase::Verify(_)));
+        assert_eq!(last.acknowledged, last.total - 1);
+        let held = Session {
+            phase: Phase::Ended(Outcome::Held),
+            acknowledged: last.total,
+            ..last
+        };
+        assert_eq!(end, held);
+        for (event, outcome) in UNEXPECTED {
+            let ended = Session {
+                phase: Phase::Ended(outcome),
+                ..last
+            };
+            assert_eq!(reading.step(last, event), Ok((ended, vec![])));
+        }
+    }
 }
 
 #[test]
@@ -1000,8 +1104,8 @@ fn three_pieces() -> Reading {
     Reading::of(&[&format!(":FF01FF00{zeros}01"), ":01F00000000F"])
 }
 
-/// Bytes around these pieces, each with the number of the V that holds it: the nine
-/// packets are two E, three W, the V numbers 6 to 8, and R.
+/// Bytes around these pieces, each with the number of the V that holds it: the
+/// packets are two E, three W, the V numbers 6 to 8, and R if asked for.
 const HELD_BY: [(u32, Option<u32>); 12] = [
     (0, None),
     (0x1FE, None),
@@ -1036,8 +1140,8 @@ fn most_pieces() -> Reading {
 }
 
 /// The start and every state that expected answers lead to, the end last.
-fn whole_session(reading: &Reading) -> Vec<Session> {
-    let mut states = vec![reading.session(Run::Reset), greeted(reading, Run::Reset)];
+fn whole_session(reading: &Reading, run: Run) -> Vec<Session> {
+    let mut states = vec![reading.session(run), greeted(reading, run)];
     while let Some(last) = states.last().copied() {
         match last.phase {
             Phase::Ended(_) => break,
@@ -1047,11 +1151,23 @@ fn whole_session(reading: &Reading) -> Vec<Session> {
     states
 }
 
-/// How the whole session of a file ends.
-fn valid_end(reading: &Reading) -> Session {
-    let end = whole_session(reading).pop().unwrap();
-    assert_eq!(end.phase, Phase::Ended(Outcome::Valid));
+/// How a whole session of each kind ends.
+fn asked_end(run: Run) -> Outcome {
+    match run {
+        Run::Reset | Run::Jump => Outcome::Valid,
+        Run::Hold => Outcome::Held,
+    }
+}
+
+/// The last state of a file's whole session.
+fn whole_end(reading: &Reading, run: Run) -> Session {
+    let end = whole_session(reading, run).pop().unwrap();
+    assert_eq!(end.phase, Phase::Ended(asked_end(run)));
     end
+}
+
+fn is_open(session: &Session) -> bool {
+    !matches!(session.phase, Phase::Ended(_))
 }
 
 fn check_marks(reading: &Reading, session: Session) {
@@ -1064,17 +1180,18 @@ fn check_marks(reading: &Reading, session: Session) {
 #[test]
 fn marks_stand_in_every_state_and_after_every_ending() {
     let reading = three_pieces();
-    let states = whole_session(&reading);
-    assert_eq!(states.len(), 1 + 9 + 1);
-    for state in states {
-        check_marks(&reading, state);
-        if state.phase == Phase::Ended(Outcome::Valid) {
-            continue;
+    for (run, packets) in [(Run::Reset, 9), (Run::Jump, 9), (Run::Hold, 8)] {
+        let states = whole_session(&reading, run);
+        assert_eq!(states.len(), 1 + packets + 1);
+        for state in &states {
+            check_marks(&reading, *state);
         }
-        for event in [Event::Silence, Event::Answer(&[7]), Event::Answer(&[])] {
-            let (ended, _) = reading.step(state, event).unwrap();
-            assert!(matches!(ended.phase, Phase::Ended(_)));
-            check_marks(&reading, ended);
+        for state in states.into_iter().filter(is_open) {
+            for event in [Event::Silence, Event::Answer(&[7]), Event::Answer(&[])] {
+                let (ended, _) = reading.step(state, event).unwrap();
+                assert!(!is_open(&ended));
+                check_marks(&reading, ended);
+            }
         }
     }
 }
@@ -1082,32 +1199,39 @@ fn marks_stand_in_every_state_and_after_every_ending() {
 #[test]
 fn marks_are_refused_over_a_foreign_map() {
     let (large, small) = (full_file(), plan_file());
-    let ended = valid_end(&large);
-    for address in [0x200, 0x201, 0, 0xF800] {
-        assert_eq!(small.mark(ended, address), Err(46));
-    }
-    assert_eq!(large.mark(ended, 0xF7FF), Ok(true));
-    for state in whole_session(&small) {
-        assert_eq!(large.mark(state, 0x200), Err(46));
-        assert_eq!(three_pieces().mark(state, 0x200), Err(46));
+    for run in RUNS {
+        let ended = whole_end(&large, run);
+        for address in [0x200, 0x201, 0, 0xF800] {
+            assert_eq!(small.mark(ended, address), Err(46));
+        }
+        assert_eq!(large.mark(ended, 0xF7FF), Ok(true));
+        for state in whole_session(&small, run) {
+            assert_eq!(large.mark(state, 0x200), Err(46));
+            assert_eq!(three_pieces().mark(state, 0x200), Err(46));
+        }
     }
 }
 
-/// What an empty file would lead to if a start did not refuse it: R alone.
+/// What an empty file would lead to if a start did not refuse it: R alone, or
+/// no packet at all.
 fn sessions_over_nothing() -> Vec<Session> {
-    let over_nothing = |(phase, acknowledged)| Session {
-        run: Run::Reset,
+    let over_nothing = |(run, phase, total, acknowledged)| Session {
+        run,
         phase,
         acknowledged,
-        total: 1,
+        total,
         named: 0,
     };
     [
-        (Phase::Greeting, 0),
-        (Phase::Run, 0),
-        (Phase::Ended(Outcome::Valid), 1),
-        (Phase::Ended(Outcome::Silent), 0),
-        (Phase::Ended(Outcome::WrongGreeting), 0),
+        (Run::Reset, Phase::Greeting, 1, 0),
+        (Run::Reset, Phase::Run, 1, 0),
+        (Run::Reset, Phase::Ended(Outcome::Valid), 1, 1),
+        (Run::Reset, Phase::Ended(Outcome::Silent), 1, 0),
+        (Run::Reset, Phase::Ended(Outcome::WrongGreeting), 1, 0),
+        (Run::Hold, Phase::Greeting, 0, 0),
+        (Run::Hold, Phase::Ended(Outcome::Held), 0, 0),
+        (Run::Hold, Phase::Ended(Outcome::Silent), 0, 0),
+        (Run::Hold, Phase::Ended(Outcome::WrongGreeting), 0, 0),
     ]
     .map(over_nothing)
     .to_vec()
@@ -1118,8 +1242,10 @@ fn marks_are_refused_20_then_46() {
     let (reading, empty) = (plan_file(), Reading::new());
     let mut longer = reading.map.clone();
     longer.push(0);
-    let own = whole_session(&reading);
-    for session in own.into_iter().chain(sessions_over_nothing()) {
+    let own = RUNS
+        .into_iter()
+        .flat_map(|run| whole_session(&reading, run));
+    for session in own.chain(sessions_over_nothing()) {
         for wrong in [&[][..], &reading.map[1..], &empty.map[1..], &longer] {
             assert_eq!(session.proved(wrong, 0x200), Err(Refusal::Size));
         }
@@ -1128,44 +1254,58 @@ fn marks_are_refused_20_then_46() {
     for session in sessions_over_nothing() {
         assert_eq!(reading.mark(session, 0x200), Err(46));
     }
+    for session in sessions_over_nothing().into_iter().filter(is_open) {
+        assert_eq!(empty.step(session, ACK), Err(46));
+    }
+}
+
+/// The ends that events bring to a session, and those that none does.
+fn check_ends(reading: &Reading, run: Run) {
+    let start = reading.session(run);
+    let total = start.total;
+    let counts = (0..12).chain(total - 2..total + 2).chain([u32::MAX]);
+    for acknowledged in counts {
+        let all = acknowledged == total;
+        for (outcome, comes) in [
+            (Outcome::Valid, all && run != Run::Hold),
+            (Outcome::Held, all && run == Run::Hold),
+            (Outcome::Silent, acknowledged < total),
+            (Outcome::Refused, acknowledged < total),
+            (Outcome::WrongGreeting, acknowledged == 0),
+            (Outcome::WrongAnswer, acknowledged < total),
+        ] {
+            let ended = Session {
+                phase: Phase::Ended(outcome),
+                acknowledged,
+                ..start
+            };
+            let told = reading.mark(ended, 0).map(|_| ());
+            assert_eq!(told, if comes { Ok(()) } else { Err(46) }, "{ended:?}");
+        }
+    }
 }
 
 #[test]
 fn marks_are_refused_of_an_end_that_no_event_brings() {
     for reading in [plan_file(), three_pieces(), full_file(), most_pieces()] {
-        let start = reading.session(Run::Reset);
-        let total = start.total;
-        let counts = (0..12).chain(total - 2..total + 2).chain([u32::MAX]);
-        for acknowledged in counts {
-            for (outcome, comes) in [
-                (Outcome::Valid, acknowledged == total),
-                (Outcome::Silent, acknowledged < total),
-                (Outcome::Refused, acknowledged < total),
-                (Outcome::WrongGreeting, acknowledged == 0),
-                (Outcome::WrongAnswer, acknowledged < total),
-            ] {
-                let ended = Session {
-                    phase: Phase::Ended(outcome),
-                    acknowledged,
-                    ..start
-                };
-                let told = reading.mark(ended, 0).map(|_| ());
-                assert_eq!(told, if comes { Ok(()) } else { Err(46) }, "{ended:?}");
-            }
+        for run in RUNS {
+            check_ends(&reading, run);
         }
     }
+}
+
+/// A whole session, and what a silence makes of each of its open states.
+fn states(reading: &Reading, run: Run) -> Vec<Session> {
+    let mut states = whole_session(reading, run);
+    let open = states.clone().into_iter().filter(is_open);
+    states.extend(open.map(|state| reading.step(state, Event::Silence).unwrap().0));
+    states
 }
 
 #[test]
 fn marks_are_refused_where_a_count_is_not_the_files() {
     let reading = three_pieces();
-    let mut states = whole_session(&reading);
-    for state in states.clone() {
-        if state.phase != Phase::Ended(Outcome::Valid) {
-            states.push(reading.step(state, Event::Silence).unwrap().0);
-        }
-    }
-    for state in states {
+    for state in RUNS.into_iter().flat_map(|run| states(&reading, run)) {
         let changes: [fn(&mut Session); 6] = [
             |s| s.total += 1,
             |s| s.total -= 1,
@@ -1182,7 +1322,75 @@ fn marks_are_refused_where_a_count_is_not_the_files() {
     }
 }
 
-/// The packets of `three_pieces`, each with how many go before it.
+#[test]
+fn sessions_changed_to_or_from_hold_are_refused() {
+    for reading in [plan_file(), three_pieces()] {
+        for (run, other) in [
+            (Run::Reset, Run::Hold),
+            (Run::Jump, Run::Hold),
+            (Run::Hold, Run::Reset),
+            (Run::Hold, Run::Jump),
+        ] {
+            for state in states(&reading, run) {
+                let changed = Session {
+                    run: other,
+                    ..state
+                };
+                assert_eq!(reading.mark(changed, 0x200), Err(46), "{changed:?}");
+                let number = if is_open(&state) { 46 } else { 44 };
+                assert_eq!(reading.step(changed, ACK), Err(number), "{changed:?}");
+            }
+        }
+    }
+}
+
+#[test]
+fn hold_session_never_waits_for_the_answer_to_r() {
+    let reading = plan_file();
+    for (acknowledged, total) in [(2, 3), (3, 3), (3, 4), (4, 4)] {
+        let session = Session {
+            phase: Phase::Run,
+            acknowledged,
+            total,
+            ..reading.session(Run::Hold)
+        };
+        for event in [ACK, Event::Silence] {
+            assert_eq!(reading.step(session, event), Err(46));
+        }
+        assert_eq!(reading.mark(session, 0x200), Err(46));
+        assert_eq!(log::write(&session, &mut [0; 10]), Err(Refusal::NoLog));
+    }
+}
+
+/// Hold that ended 0, or reset or jump that ended 1, all acknowledged.
+#[test]
+fn an_end_that_is_another_run_kinds_is_none() {
+    for reading in [plan_file(), three_pieces()] {
+        for (run, other) in [
+            (Run::Reset, Outcome::Held),
+            (Run::Jump, Outcome::Held),
+            (Run::Hold, Outcome::Valid),
+        ] {
+            let end = whole_end(&reading, run);
+            assert_eq!(end.outcome(), Some(asked_end(run)));
+            let mixed = Session {
+                phase: Phase::Ended(other),
+                ..end
+            };
+            assert_eq!(mixed.outcome(), None);
+            assert_eq!(reading.mark(mixed, 0x200), Err(46));
+            for event in [ACK, Event::Silence] {
+                assert_eq!(reading.step(mixed, event), Err(44));
+            }
+            let mut buffer = [0xAA; 10];
+            assert_eq!(log::write(&mixed, &mut buffer), Err(Refusal::NoLog));
+            assert_eq!(buffer, [0xAA; 10]);
+        }
+    }
+}
+
+/// The packets of `three_pieces`, each with how many go before it; the last is
+/// not sent by hold.
 const SENT: [(Phase, u32); 9] = [
     (Phase::Erase(Page(0)), 0),
     (Phase::Erase(Page(120)), 1),
@@ -1212,18 +1420,20 @@ fn open_phases() -> Vec<Phase> {
 #[test]
 fn marks_are_refused_of_open_sessions_where_steps_are() {
     let reading = three_pieces();
-    let start = reading.session(Run::Jump);
-    for phase in open_phases() {
-        for acknowledged in (0..11).chain([u32::MAX]) {
-            let session = Session {
-                phase,
-                acknowledged,
-                ..start
-            };
-            let comes = session == start || SENT.contains(&(phase, acknowledged));
-            let expected = if comes { Ok(()) } else { Err(46) };
-            assert_eq!(reading.mark(session, 0).map(|_| ()), expected);
-            assert_eq!(reading.step(session, ACK).map(|_| ()), expected);
+    for (run, sent) in [(Run::Jump, &SENT[..]), (Run::Hold, &SENT[..8])] {
+        let start = reading.session(run);
+        for phase in open_phases() {
+            for acknowledged in (0..11).chain([u32::MAX]) {
+                let session = Session {
+                    phase,
+                    acknowledged,
+                    ..start
+                };
+                let comes = session == start || sent.contains(&(phase, acknowledged));
+                let expected = if comes { Ok(()) } else { Err(46) };
+                assert_eq!(reading.mark(session, 0).map(|_| ()), expected);
+                assert_eq!(reading.step(session, ACK).map(|_| ()), expected);
+            }
         }
     }
 }
@@ -1234,31 +1444,39 @@ fn marks_are_refused_of_open_sessions_where_steps_are() {
 fn files_with_equal_counts_are_not_told_apart() {
     let reading = plan_file();
     let other = Reading::of(&[":020400001234B4", ":00000001FF"]);
-    let ended = valid_end(&reading);
-    assert_eq!(ended, valid_end(&other));
-    assert_eq!(reading.mark(ended, 0x200), Ok(true));
-    assert_eq!(other.mark(ended, 0x400), Ok(true));
-    assert_eq!(other.mark(ended, 0x200), Ok(false));
-    // the place of a packet tells them apart
-    let sent = whole_session(&reading);
-    for state in &sent[1..4] {
-        assert_eq!(other.mark(*state, 0x400), Err(46));
+    for run in RUNS {
+        let ended = whole_end(&reading, run);
+        assert_eq!(ended, whole_end(&other, run));
+        assert_eq!(reading.mark(ended, 0x200), Ok(true));
+        assert_eq!(other.mark(ended, 0x400), Ok(true));
+        assert_eq!(other.mark(ended, 0x200), Ok(false));
+        // the place of a packet tells them apart
+        let sent = whole_session(&reading, run);
+        for state in &sent[1..4] {
+            assert_eq!(other.mark(*state, 0x400), Err(46));
+        }
     }
 }
 
 #[test]
 fn verdict_comes_within_the_packets_and_one_event() {
     let reading = three_pieces();
-    let mut session = greeted(&reading, Run::Reset);
-    assert_eq!(session.total, 2 + 2 * 3 + 1);
-    assert_eq!(session.named, 256);
-    let mut events = 1;
-    while !matches!(session.phase, Phase::Ended(_)) {
-        (session, _) = reading.step(session, ACK).unwrap();
-        events += 1;
+    for (run, total) in [
+        (Run::Reset, 2 + 2 * 3 + 1),
+        (Run::Jump, 2 + 2 * 3 + 1),
+        (Run::Hold, 2 + 2 * 3),
+    ] {
+        let mut session = greeted(&reading, run);
+        assert_eq!(session.total, total);
+        assert_eq!(session.named, 256);
+        let mut events = 1;
+        while is_open(&session) {
+            (session, _) = reading.step(session, ACK).unwrap();
+            events += 1;
+        }
+        assert_eq!(session.phase, Phase::Ended(asked_end(run)));
+        assert_eq!(events, total + 1);
     }
-    assert_eq!(session.phase, Phase::Ended(Outcome::Valid));
-    assert_eq!(events, 2 + 2 * 3 + 2);
 }
 
 #[test]
@@ -1279,8 +1497,10 @@ fn log_of_the_plan() {
         log::write(&session, &mut [0; 9]).unwrap_err()
     };
     assert_eq!(refused(|_| ()), Refusal::Size);
-    let all_45: [fn(&mut Session); 8] = [
+    let all_45: [fn(&mut Session); 10] = [
+        |s| s.run = Run::Hold,
         |s| s.phase = Phase::Run,
+        |s| s.phase = Phase::Ended(Outcome::Held),
         |s| s.phase = Phase::Ended(Outcome::Silent),
         |s| s.acknowledged = 3,
         |s| (s.acknowledged, s.total) = (3, 3),
@@ -1303,46 +1523,185 @@ fn log_read_refusals() {
     assert_eq!(number(&[0, 8, 1, 0, 0, 4, 0, 4, 0, 2, 0]), 51);
     assert_eq!(number(&[0, 8, 2, 9, 0, 4, 0, 4, 0, 2]), 52);
     for (outcome, acknowledged, total, named) in [
-        (1, 4, 4, 2),
+        (2, 4, 4, 2),
         (39, 3, 4, 2),
         (44, 3, 4, 2),
+        (1, 2, 2, 2),
         (0, 3, 3, 2),
         (0, 4, 4, 0),
         (0, 4, 4, 63_489),
+        (1, 3, 3, 0),
+        (1, 3, 3, 63_489),
         (40, 5, 4, 2),
         (0, 3, 4, 2),
+        (1, 2, 3, 2),
+        (1, 3, 4, 2),
         (41, 4, 4, 2),
+        (40, 3, 3, 2),
         (42, 1, 4, 2),
     ] {
-        let [a, b] = u16::to_be_bytes(acknowledged);
-        let [c, d] = u16::to_be_bytes(total);
-        let [e, f] = u16::to_be_bytes(named);
-        assert_eq!(number(&[0, 8, 1, outcome, a, b, c, d, e, f]), 53);
+        let record = log_record(outcome, acknowledged, total, named);
+        assert_eq!(number(&record), 53);
+    }
+}
+
+fn log_record(outcome: u8, acknowledged: u16, total: u16, named: u16) -> [u8; 10] {
+    let [a, b] = acknowledged.to_be_bytes();
+    let [c, d] = total.to_be_bytes();
+    let [e, f] = named.to_be_bytes();
+    [0, 8, 1, outcome, a, b, c, d, e, f]
+}
+
+#[test]
+fn outcomes_that_a_log_can_have() {
+    for (acknowledged, total, outcomes) in [
+        (0, 0, &[][..]),
+        (0, 2, &[]),
+        (1, 2, &[]),
+        (2, 2, &[]),
+        (0, 3, &[40, 41, 42, 43]),
+        (1, 3, &[40, 41, 43]),
+        (2, 3, &[40, 41, 43]),
+        (3, 3, &[1]),
+        (4, 3, &[]),
+        (0, 4, &[40, 41, 42, 43]),
+        (3, 4, &[40, 41, 43]),
+        (4, 4, &[0, 1]),
+        (5, 4, &[]),
+        (65_534, 65_535, &[40, 41, 43]),
+        (65_535, 65_535, &[0, 1]),
+    ] {
+        for named in [1, 63_488] {
+            let read = |outcome: &u8| log::read(&log_record(*outcome, acknowledged, total, named));
+            let taken = (0..=255).filter(|outcome| read(outcome).is_ok());
+            assert_eq!(
+                taken.collect::<Vec<u8>>(),
+                outcomes,
+                "{acknowledged} of {total}"
+            );
+        }
+    }
+}
+
+fn logged(session: &Session) -> [u8; 10] {
+    let mut buffer = [0xAA; 11];
+    assert_eq!(log::write(session, &mut buffer), Ok(10));
+    assert_eq!(buffer[10], 0xAA);
+    buffer[..10].try_into().unwrap()
+}
+
+#[test]
+fn log_of_a_hold_session_reads_back() {
+    let one_byte = Reading::of(&[":010000005AA5", ":00000001FF"]);
+    for (reading, record) in [
+        (one_byte, [0, 8, 1, 1, 0, 3, 0, 3, 0, 1]),
+        (plan_file(), [0, 8, 1, 1, 0, 3, 0, 3, 0, 2]),
+        (three_pieces(), [0, 8, 1, 1, 0, 8, 0, 8, 1, 0]),
+        (full_file(), [0, 8, 1, 1, 1, 0xFD, 1, 0xFD, 0xF8, 0]),
+    ] {
+        let held = whole_end(&reading, Run::Hold);
+        assert_eq!(logged(&held), record);
+        let entry = log::read(&record).unwrap();
+        assert_eq!(entry.outcome, Outcome::Held);
+        assert_eq!(u32::from(entry.acknowledged), held.acknowledged);
+        assert_eq!(u32::from(entry.total), held.total);
+        assert_eq!(u32::from(entry.named), held.named);
     }
 }
 
 #[test]
-fn whole_rehearsal_is_valid_and_a_loss_ends_silent() {
+fn log_of_a_hold_session_that_ended_otherwise() {
     let reading = plan_file();
-    let load = |exchanges: &[Exchange]| {
-        let mut loader = Loader::factory();
-        let mut flash = vec![0x00; FLASH_BYTES];
-        let (image, map) = (&reading.image, &reading.map);
-        let ended = rehearse(Run::Reset, image, map, &mut loader, &mut flash, exchanges).unwrap();
-        (ended, loader, flash)
-    };
-    let (ended, loader, flash) = load(&[]);
-    assert_eq!(ended.phase, Phase::Ended(Outcome::Valid));
-    assert_eq!(ended.acknowledged, 4);
-    assert_eq!(loader.condition, Condition::Left);
-    assert_eq!(flash[0x1FF..0x203], [0x00, 0x12, 0x34, 0xFF]);
-    for place in 0..5 {
+    let states = whole_session(&reading, Run::Hold);
+    for (acknowledged, state) in [
+        (0, states[0]),
+        (0, states[1]),
+        (1, states[2]),
+        (2, states[3]),
+    ] {
+        let (ended, _) = reading.step(state, Event::Silence).unwrap();
+        let record = [0, 8, 1, 40, 0, acknowledged, 0, 3, 0, 2];
+        assert_eq!(logged(&ended), record);
+        assert_eq!(log::read(&record).unwrap().outcome, Outcome::Silent);
+        assert_eq!(log::write(&state, &mut [0; 10]), Err(Refusal::NoLog));
+    }
+}
+
+/// A rehearsal over a flash of zeros.
+fn load(reading: &Reading, run: Run, exchanges: &[Exchange]) -> (Session, Loader, Vec<u8>) {
+    let mut loader = Loader::factory();
+    let mut flash = vec![0x00; FLASH_BYTES];
+    let (image, map) = (&reading.image, &reading.map);
+    let ended = rehearse(run, image, map, &mut loader, &mut flash, exchanges).unwrap();
+    (ended, loader, flash)
+}
+
+#[test]
+fn whole_rehearsal_ends_as_asked() {
+    for (run, acknowledged, condition) in [
+        (Run::Reset, 4, Condition::Left),
+        (Run::Jump, 4, Condition::Left),
+        (Run::Hold, 3, Condition::Serving),
+    ] {
+        let (ended, loader, flash) = load(&plan_file(), run, &[]);
+        assert_eq!(ended.phase, Phase::Ended(asked_end(run)));
+        assert_eq!(ended.acknowledged, acknowledged);
+        assert_eq!(loader.condition, condition);
+        assert!(flash[..0x200].iter().all(|byte| *byte == 0x00));
+        assert_eq!(flash[0x200..0x202], [0x12, 0x34]);
+        assert!(flash[0x202..0x400].iter().all(|byte| *byte == 0xFF));
+        assert!(flash[0x400..].iter().all(|byte| *byte == 0x00));
+    }
+}
+
+/// An exchange with a loss, and all before it whole.
+fn loss_at(place: usize, lost: Exchange) -> Vec<Exchange> {
+    let mut exchanges = vec![Exchange::Whole; place];
+    exchanges.push(lost);
+    exchanges
+}
+
+#[test]
+fn rehearsal_with_a_loss_ends_silent() {
+    for reading in [plan_file(), three_pieces()] {
+        for run in RUNS {
+            let total = reading.session(run).total as usize;
+            for lost in [Exchange::PacketLost, Exchange::AnswerLost] {
+                for place in 0..=total {
+                    let (ended, _, _) = load(&reading, run, &loss_at(place, lost));
+                    assert_eq!(ended.phase, Phase::Ended(Outcome::Silent));
+                    assert_eq!(ended.acknowledged as usize, place.saturating_sub(1));
+                }
+                // past the last exchange nothing is left to lose
+                let (ended, _, _) = load(&reading, run, &loss_at(total + 1, lost));
+                assert_eq!(ended.phase, Phase::Ended(asked_end(run)));
+            }
+        }
+    }
+}
+
+#[test]
+fn rehearsal_by_hold_never_sends_r() {
+    let reading = three_pieces();
+    let (ended, loader, flash) = load(&reading, Run::Hold, &[]);
+    assert_eq!(ended.phase, Phase::Ended(Outcome::Held));
+    assert_eq!(loader.condition, Condition::Serving);
+    let mut expected = Vec::new();
+    for (end, byte) in [
+        (0x1FF, 0xFF),
+        (0x2FE, 0x00),
+        (0x400, 0xFF),
+        (0xF001, 0x00),
+        (0xF200, 0xFF),
+        (0xF800, 0x00),
+    ] {
+        expected.resize(end, byte);
+    }
+    assert!(flash == expected);
+    for place in 0..=8 {
         for lost in [Exchange::PacketLost, Exchange::AnswerLost] {
-            let mut exchanges = vec![Exchange::Whole; place];
-            exchanges.push(lost);
-            let (ended, _, _) = load(&exchanges);
-            assert_eq!(ended.phase, Phase::Ended(Outcome::Silent));
-            assert_eq!(ended.acknowledged as usize, place.saturating_sub(1));
+            let (_, loader, _) = load(&reading, Run::Hold, &loss_at(place, lost));
+            assert_ne!(loader.condition, Condition::Left);
         }
     }
 }
@@ -1385,7 +1744,124 @@ fn printed_listings() {
         listing::readlog(&[0, 8, 1, 0, 0, 4, 0, 4, 0, 2]),
         "VERSION 1 OUTCOME 0 ACKED 4 TOTAL 4 BYTES 2\n"
     );
+    assert_eq!(
+        listing::readlog(&[0, 8, 1, 1, 0, 3, 0, 3, 0, 2]),
+        "VERSION 1 OUTCOME 1 ACKED 3 TOTAL 3 BYTES 2\n"
+    );
+    assert_eq!(
+        listing::readlog(&[0, 8, 1, 0, 0, 3, 0, 3, 0, 2]),
+        "REFUSED 53\n"
+    );
     assert_eq!(listing::readlog(&[]), "REFUSED 50\n");
+}
+
+/// Asks each line again, behind a file of two bytes, and compares all.
+fn check_cases(printed: &str) {
+    let file = "hex -> 0\nrecord :020200001234B6 -> 0\nrecord :00000001FF -> 0\n";
+    let expected = format!("{file}{printed}");
+    let asked: String = expected
+        .lines()
+        .map(|line| format!("{}\n", cases::asked(line)))
+        .collect();
+    let mut output = Vec::new();
+    cases::run(asked.as_bytes(), &mut output).unwrap();
+    assert_eq!(String::from_utf8(output).unwrap(), expected);
+}
+
+#[test]
+fn case_lines_of_a_hold_session() {
+    check_cases(
+        "start hold -> 0 08\n\
+         session -> 0 2 0 0 0 0 0 3 2\n\
+         answer 41447543373032782020202D363220493331202020200A0D -> 0 070E06450000020001B2\n\
+         answer 06 -> 0 070E07570000020012345A\n\
+         answer 06 -> 0 070E07560000020090A170\n\
+         session -> 0 2 3 0 512 0 2 3 2\n\
+         outcome -> 45\n\
+         proved 00000200 -> 0 0\n\
+         answer 06 -> 0 ended 1\n\
+         session -> 0 2 5 0 0 1 3 3 2\n\
+         outcome -> 0 ended 1\n\
+         proved 00000200 -> 0 1\n\
+         log -> 0 00080101000300030002\n\
+         silence -> 44\n",
+    );
+}
+
+#[test]
+fn case_lines_with_run_kinds_by_word_and_number() {
+    for (word, number, total) in [
+        ("reset", 0, 4),
+        ("jump", 1, 4),
+        ("hold", 2, 3),
+        ("0", 0, 4),
+        ("1", 1, 4),
+        ("2", 2, 3),
+        ("3", 2, 3),
+        ("4294967295", 2, 3),
+    ] {
+        check_cases(&format!(
+            "start {word} -> 0 08\nsession -> 0 {number} 0 0 0 0 0 {total} 2\n"
+        ));
+    }
+    check_cases("start held -> ?\nstart  -> ?\nstart 4294967296 -> ?\n");
+}
+
+#[test]
+fn case_lines_of_rehearsals_by_hold() {
+    check_cases(
+        "factory 00 -> 0\n\
+         rehearse hold  -> 0 ended 1 3\n\
+         session -> 0 2 5 0 0 1 3 3 2\n\
+         loader -> 0 0 0 4294967295 1 0 0 0\n\
+         look flash 000001FF 4 -> 0 001234FF\n\
+         rehearse hold 01 -> 0 ended 40 0\n\
+         rehearse hold 00000001 -> 0 ended 40 2\n\
+         rehearse hold 00000002 -> 0 ended 40 2\n\
+         rehearse hold 0000000001 -> 0 ended 1 3\n\
+         rehearse 2  -> 0 ended 1 3\n\
+         rehearse 7  -> 0 ended 1 3\n\
+         session -> 0 2 5 0 0 1 3 3 2\n\
+         rehearse reset  -> 0 ended 0 4\n\
+         loader -> 0 0 0 4294967295 2 0 0 0\n",
+    );
+}
+
+/// A record under any other number is hold's, and stays as it is if refused.
+#[test]
+fn case_lines_of_records_under_hold() {
+    check_cases(
+        "session 7 3 0 512 0 2 3 2 -> 0\n\
+         proved 00000200 -> 0 0\n\
+         answer 06 -> 0 ended 1\n\
+         session -> 0 2 5 0 0 1 3 3 2\n\
+         session 7 3 0 512 0 2 4 2 -> 0\n\
+         answer 06 -> 46\n\
+         proved 00000200 -> 46\n\
+         session -> 0 7 3 0 512 0 2 4 2\n\
+         session 0 3 0 512 0 2 3 2 -> 0\n\
+         answer 06 -> 46\n\
+         session 2 4 0 0 0 3 3 2 -> 0\n\
+         answer 06 -> 46\n\
+         proved 00000200 -> 46\n\
+         outcome -> 45\n\
+         log -> 45\n",
+    );
+}
+
+#[test]
+fn case_lines_of_ends_that_are_another_run_kinds() {
+    for record in ["2 5 0 0 0 3 3 2", "0 5 0 0 1 4 4 2", "1 5 0 0 1 4 4 2"] {
+        check_cases(&format!(
+            "session {record} -> 0\n\
+             outcome -> 45\n\
+             log -> 45\n\
+             proved 00000200 -> 46\n\
+             answer 06 -> 44\n\
+             silence -> 44\n\
+             session -> 0 {record}\n"
+        ));
+    }
 }
 
 fn check_plans(cases: &[(&str, &str)]) {

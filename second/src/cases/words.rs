@@ -50,6 +50,7 @@ pub fn run(word: &str) -> Option<Run> {
     match word {
         "reset" => Some(Run::Reset),
         "jump" => Some(Run::Jump),
+        "hold" => Some(Run::Hold),
         _ => number(word).map(boundary::run),
     }
 }
