@@ -1,5 +1,5 @@
--- Laws of marks: a byte is marked by the ACK to the V that carries
--- it, and R is out only when all named bytes are.
+-- Laws of marks: a byte is marked by the ACK to the V that carries it, and R is out only when all named
+-- bytes are, where it was asked for.
 use Prim.Native.Nat.{ℕ, _+_, _≤_, _<_}
 use mathlib.Core.Bool.{true, not}
 use mathlib.Core.List.{List}
@@ -15,7 +15,7 @@ use Rattle.basis.specs.Units.{startOf, mapBytes}
 use Rattle.basis.specs.declared.kind.RunKind.{RunKind}
 use Rattle.order.specs.Laws.Plan.{plan-at}
 use Rattle.order.specs.Laws.Steps.{ranked-is, ranked-by, stands-below, stands-at, at-stands, stands-r}
-use Rattle.order.specs.Plan.{verifyPacket, plan, total, beforeR, beforeVerify}
+use Rattle.order.specs.Plan.{sendsR, verifyPacket, plan, total, beforeR, beforeVerify}
 use Rattle.order.specs.Steps.{verifyAt, standsAt, packetOf}
 use Rattle.order.specs.declared.step.Step.{Step}
 use Rattle.runs.specs.Laws.Files.{bytes-past}
@@ -97,17 +97,20 @@ module _ (board : ℕ) (m : List ℕ) (long : length m ≡ mapBytes board) where
       both-second _ _ t ∙ le-leb _ _ r ∙ sym t)
       (λ t. both-false _ _ t ∙ sym t)
 
-  -- so R is out only when every named byte is marked
-  pub r-marked : (s : Session) (a : ℕ) → fitsOf board m s ≡ true → s .phase ≡ Phase.Out Step.Run
-      → marked board m (s .acknowledged) a ≡ named m a
-  r-marked s a h e =
-      all-marked (s .acknowledged) a
-      (omega (
-        arith,
+  module _ (s : Session) (h : fitsOf board m s ≡ true) (e : s .phase ≡ Phase.Out Step.Run) where
+    r-out : (sendsR (s .kind) ≡ true) × (beforeR board m ≡ s .acknowledged)
+    r-out =
         stands-r board m (s .kind) (s .acknowledged)
-            (sym (ap (λ (ph : Phase). cameAt board m (s .kind) ph (s .acknowledged)) e)
-            ∙ fitting board m s h .came-to) .1,
-      ))
+        (sym (ap (λ (ph : Phase). cameAt board m (s .kind) ph (s .acknowledged)) e)
+        ∙ fitting board m s h .came-to)
+
+    -- so R is out only when every named byte is marked
+    pub r-marked : (a : ℕ) → marked board m (s .acknowledged) a ≡ named m a
+    r-marked a = all-marked (s .acknowledged) a (omega (arith, r-out .1))
+
+    -- and only where it was asked for: a hold record in R's phase came from no start
+    pub r-asked : sendsR (s .kind) ≡ true
+    r-asked = r-out .0
 
   -- in the plan's own terms
   pub named-verified : (image : List ℕ) (kind : RunKind) (a : ℕ) (d : List ℕ) → named m a ≡ true

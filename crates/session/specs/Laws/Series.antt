@@ -28,7 +28,11 @@ use Rattle.session.specs.Session.{sessionWith, atGreeting, stateAt, asAs
 use Rattle.session.specs.declared.phase.Phase.{Phase}
 use Rattle.session.specs.declared.session.Session.{Session}
 
--- after the end nothing changes
+-- with no event nothing changes, nor after the end
+pub series-nil : (board : ℕ) (m : List ℕ) (s : Session) → series board m s [] ≡ s
+unfolding series
+series-nil board m s = refl
+
 series-ended : (board : ℕ) (m : List ℕ) (s : Session) (es : List Event) → ended (s .phase) ≡ true
     → series board m s es ≡ s
 unfolding series
@@ -69,10 +73,6 @@ isGood (Phase.Ended Outcome.Silence) = false
 isGood (Phase.Ended Outcome.Bel) = false
 isGood (Phase.Ended Outcome.NoGreeting) = false
 isGood (Phase.Ended Outcome.Other) = false
-
-pub series-nil : (board : ℕ) (m : List ℕ) (s : Session) → series board m s [] ≡ s
-unfolding series
-series-nil board m s = refl
 
 -- no failure is
 pub fails-good : (o : Outcome) (k : ℕ) → failing o k ≡ true → isGood (Phase.Ended o) ≡ false
