@@ -97,20 +97,22 @@ module _ (board : ℕ) (m : List ℕ) (long : length m ≡ mapBytes board) where
       both-second _ _ t ∙ le-leb _ _ r ∙ sym t)
       (λ t. both-false _ _ t ∙ sym t)
 
-  module _ (s : Session) (h : fitsOf board m s ≡ true) (e : s .phase ≡ Phase.Out Step.Run) where
-    r-out : (sendsR (s .kind) ≡ true) × (beforeR board m ≡ s .acknowledged)
-    r-out =
-        stands-r board m (s .kind) (s .acknowledged)
-        (sym (ap (λ (ph : Phase). cameAt board m (s .kind) ph (s .acknowledged)) e)
-        ∙ fitting board m s h .came-to)
+  r-out : (s : Session) → fitsOf board m s ≡ true → s .phase ≡ Phase.Out Step.Run
+      → (sendsR (s .kind) ≡ true) × (beforeR board m ≡ s .acknowledged)
+  r-out s h e =
+      stands-r board m (s .kind) (s .acknowledged)
+      (sym (ap (λ (ph : Phase). cameAt board m (s .kind) ph (s .acknowledged)) e)
+      ∙ fitting board m s h .came-to)
 
-    -- so R is out only when every named byte is marked
-    pub r-marked : (a : ℕ) → marked board m (s .acknowledged) a ≡ named m a
-    r-marked a = all-marked (s .acknowledged) a (omega (arith, r-out .1))
+  -- so R is out only when every named byte is marked
+  pub r-marked : (s : Session) (a : ℕ) → fitsOf board m s ≡ true → s .phase ≡ Phase.Out Step.Run
+      → marked board m (s .acknowledged) a ≡ named m a
+  r-marked s a h e = all-marked (s .acknowledged) a (omega (arith, r-out s h e .1))
 
-    -- and only where it was asked for: a hold record in R's phase came from no start
-    pub r-asked : sendsR (s .kind) ≡ true
-    r-asked = r-out .0
+  -- and only where it was asked for: a hold record in R's phase came from no start
+  pub r-asked : (s : Session) → fitsOf board m s ≡ true → s .phase ≡ Phase.Out Step.Run
+      → sendsR (s .kind) ≡ true
+  r-asked s h e = r-out s h e .0
 
   -- in the plan's own terms
   pub named-verified : (image : List ℕ) (kind : RunKind) (a : ℕ) (d : List ℕ) → named m a ≡ true

@@ -7,10 +7,14 @@ returns : tie.Need-returns
 returns c = rw (lt-ltb _ _ (c .if1 .taken))
 
 returns-2 : tie.Need-returns-2
-returns-2 c = rw (le-ltb _ _ (c .before .if1 .left), eq-eqb _ _ (c .if2 .taken))
+returns-2 c =
+    let a = c .before .before .args in
+    rw (le-ltb (a .total) 3 (c .before .if1 .left), eq-eqb (a .outcome) 0 (c .if2 .taken))
 
 returns-3 : tie.Need-returns-3
-returns-3 c = rw (le-ltb _ _ (c .before .if1 .left), ne-eqb _ _ (c .if2 .left))
+returns-3 c =
+    let a = c .before .before .args in
+    rw (le-ltb (a .total) 3 (c .before .if1 .left), ne-eqb (a .outcome) 0 (c .if2 .left))
 
 pub is-few-spec : {M : Type 1} → statement M
 is-few-spec = tie.close (tie.spec returns returns-2 returns-3)
