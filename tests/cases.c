@@ -201,8 +201,8 @@ static int address_of(word w, uint32_t *a) {
 
 /* Run kinds, by word or by number. */
 static int kind_of(word w, uint32_t *kind) {
-    static const char *const kinds[] = {"reset", "jump"};
-    static const uint32_t values[] = {GREMOLUNDE_RESET, GREMOLUNDE_JUMP};
+    static const char *const kinds[] = {"reset", "jump", "hold"};
+    static const uint32_t values[] = {GREMOLUNDE_RESET, GREMOLUNDE_JUMP, GREMOLUNDE_HOLD};
     int i = name_of(w, kinds, COUNT(kinds));
     uint64_t n = 0;
     if (i < 0 && !number_of(w, UINT32_MAX, &n)) {

@@ -77,6 +77,7 @@ fn script(random: &mut Random) -> Vec<String> {
         "log",
         "proved 00000000",
         "start reset",
+        "start hold",
     ] {
         lines.push(line.to_string());
     }
@@ -173,10 +174,15 @@ fn look(random: &mut Random, lines: &mut Vec<String>, buffer: &str) {
     lines.push(format!("look {buffer} {place:08X} {}", random.below(40)));
 }
 
+/// A run kind by its word or a number, each kind as often.
+fn run(random: &mut Random) -> String {
+    let any = random.within(3, u32::MAX).to_string();
+    let hold = random.pick(&["hold", "2", "3", &any]);
+    random.pick(&["reset", "0", "jump", "1", hold, hold]).into()
+}
+
 fn session(random: &mut Random, lines: &mut Vec<String>, named: u32) {
-    let any = random.word().to_string();
-    let run = random.pick(&["reset", "jump", "0", "1", "2", &any]);
-    lines.push(format!("start {run}"));
+    lines.push(format!("start {}", run(random)));
     let greeting = hex_digits(GREETING);
     let wrong = greeting.replace("2D3632", "2D3633");
     let answer = random.pick(&[
@@ -219,7 +225,9 @@ fn after_steps(random: &mut Random, lines: &mut Vec<String>, named: u32) {
     lines.push("outcome".to_string());
     wrongly_lent(random, lines, PARTS[6], "log");
     lines.push("log".to_string());
-    let mut record = vec![0, 8, 1, 0, 0, 4, 0, 4, 0, 2];
+    let valid = [0, 8, 1, 0, 0, 4, 0, 4, 0, 2];
+    let held = [0, 8, 1, 1, 0, 3, 0, 3, 0, 2];
+    let mut record = random.pick(&[valid, held]).to_vec();
     random.damage(&mut record);
     lines.push(format!("logread {}", hex_digits(&record)));
 }
@@ -266,12 +274,13 @@ fn rehearsals(random: &mut Random, lines: &mut Vec<String>) {
     let whole = vec![0; random.below(12) as usize];
     let any = format!("{:02X}", random.byte());
     for lost in ["", "01", &any] {
-        let run = random.pick(&["reset", "jump", "0", "1", "77"]);
-        lines.push(format!("rehearse {run} {}{lost}", hex_digits(&whole)));
+        let (run, whole) = (run(random), hex_digits(&whole));
+        lines.push(format!("rehearse {run} {whole}{lost}"));
         lines.push(random.pick(&["session", "loader", "changed"]).to_string());
         look(random, lines, "flash");
     }
-    wrongly_lent(random, lines, PARTS[0], "rehearse reset ");
+    let line = format!("rehearse {} ", run(random));
+    wrongly_lent(random, lines, PARTS[0], &line);
 }
 
 /// Lines about what is kept, right and wrong.
@@ -300,6 +309,9 @@ fn desk(random: &mut Random, lines: &mut Vec<String>) {
         "take",
         "record",
         "rehearse reset",
+        "rehearse hold",
+        "start Hold",
+        "start held",
         "turned 1",
         "turned 0g",
         "reset ",

@@ -73,7 +73,7 @@ fn text(name: &str) -> Vec<u8> {
     fs::read(path).unwrap_or_else(|error| panic!("examples/{name}.hex: {error}"))
 }
 
-/// Reads a file to its end or first refusal, then walks its session.
+/// Reads a file to its end or first refusal, then walks its sessions.
 fn read(pair: &mut Pair, text: &[u8]) -> Read {
     let mut state = pair.hex(IMAGE, MAP);
     for (index, ended) in listing::lines(text).enumerate() {

@@ -8,6 +8,7 @@ mod examples;
 mod files;
 mod loaders;
 mod logs;
+mod made;
 mod maps;
 mod packets;
 mod pair;
@@ -61,7 +62,9 @@ fn library() {
         whole.add(tally);
     }
     println!("{:10} {:7} {}", "all", whole.compared, whole.line());
+    println!("made log records:{}", whole.made_line());
     whole.check(&tally::LIBRARY, OFTEN);
+    whole.check_made(&logs::numbers(), OFTEN);
     whole.check_columns(&tally::FIXED_COLUMNS, OFTEN);
     whole.check_columns(&tally::RECORD_COLUMNS, OFTEN_IN_COLUMNS);
 }

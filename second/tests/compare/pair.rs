@@ -263,6 +263,9 @@ impl Pair {
         self.lend(Buffer::Packet, buffer);
         let answer = self.call("start", format!("start {}", run(told)));
         self.given(&answer, "session");
+        if answer.number == 0 {
+            self.note_kind("started");
+        }
         (answer.number, self.session())
     }
 
@@ -291,10 +294,19 @@ impl Pair {
         match ending(&answer) {
             Some(number) => {
                 self.tally.note("ending", number);
+                if is_as_asked(number) {
+                    self.note_kind("ended as asked");
+                }
                 (0, self.session())
             }
             None => (bytes_of(&answer), self.session()),
         }
+    }
+
+    /// Counts the run kind of the session that is kept.
+    fn note_kind(&mut self, what: &'static str) {
+        let kind = self.session().run.try_into();
+        self.tally.note(what, kind.expect("a run kind's number"));
     }
 
     pub fn proved(&mut self, record: SessionRecord, map: Part, address: u32) {
@@ -306,24 +318,34 @@ impl Pair {
         }
     }
 
-    pub fn outcome(&mut self, record: SessionRecord) {
+    /// How it ended; none where that is refused.
+    pub fn outcome(&mut self, record: SessionRecord) -> Option<u8> {
         self.set_session(record);
         let answer = self.call("outcome", "outcome");
-        if let Some(number) = ending(&answer) {
+        let ended = ending(&answer);
+        if let Some(number) = ended {
             self.tally.note("ended", number);
         }
+        ended
     }
 
-    /// The record's bytes, none after a refusal.
-    pub fn log(&mut self, record: SessionRecord, buffer: Part) -> Vec<u8> {
+    /// The number and the record's bytes, none after a refusal.
+    pub fn log(&mut self, record: SessionRecord, buffer: Part) -> (u8, Vec<u8>) {
         self.set_session(record);
         self.lend(Buffer::Log, buffer);
         let answer = self.call("log", "log");
-        self.look(buffer.with_length(bytes_of(&answer))).to_vec()
+        let written = self.look(buffer.with_length(bytes_of(&answer)));
+        (answer.number, written.to_vec())
     }
 
-    pub fn read_log(&mut self, input: &[u8]) {
-        self.call("logread", format!("logread {}", hex_digits(input)));
+    pub fn read_log(&mut self, input: &[u8]) -> u8 {
+        let answer = self.call("logread", format!("logread {}", hex_digits(input)));
+        answer.number
+    }
+
+    /// Counts a record that was made on purpose, under its name.
+    pub fn made(&mut self, name: &'static str, number: u8) {
+        self.tally.made(name, number);
     }
 
     /// The number and what the load left.
@@ -342,6 +364,9 @@ impl Pair {
         let answer = self.call("rehearse", format!("rehearse {} {losses}", run(told)));
         self.given(&answer, "loader");
         self.given(&answer, "session");
+        if ending(&answer).is_some_and(is_as_asked) {
+            self.note_kind("rehearsed as asked");
+        }
         (answer.number, self.desk.loader(), self.session())
     }
 }
@@ -361,6 +386,7 @@ fn run(told: u32) -> String {
     match told {
         0 => String::from("reset"),
         1 => String::from("jump"),
+        2 => String::from("hold"),
         _ => told.to_string(),
     }
 }
@@ -376,4 +402,9 @@ fn bytes_of(answer: &Answer) -> u32 {
 fn ending(answer: &Answer) -> Option<u8> {
     let number = answer.values.first()?.strip_prefix("ended ")?;
     Some(number.parse().expect("a number"))
+}
+
+/// Valid, or held.
+fn is_as_asked(ending: u8) -> bool {
+    ending <= 1
 }

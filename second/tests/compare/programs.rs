@@ -9,6 +9,7 @@ use second::listing;
 use crate::damage;
 use crate::examples;
 use crate::files;
+use crate::made::MADE;
 use crate::plans;
 use crate::random::Random;
 use crate::root;
@@ -17,6 +18,8 @@ use crate::wire;
 
 const PLANS: u32 = 700;
 const LOGS: u32 = 400;
+/// How often each log record of the table is made.
+const MADE_LOGS: u64 = 6;
 /// How much of an input a message shows; a text may have millions of bytes.
 const SHOWN: usize = 20_000;
 
@@ -70,7 +73,16 @@ pub fn compare_plan() -> Tally {
 pub fn compare_readlog() -> Tally {
     let mut random = Random::new(8);
     let inputs: Vec<Vec<u8>> = (0..LOGS).map(|_| log_input(&mut random)).collect();
-    compare("readlog", listing::readlog, &inputs)
+    let mut tally = compare("readlog", listing::readlog, &inputs);
+    for made in &MADE {
+        let record = |_| made.entry(&mut random).record();
+        let records: Vec<Vec<u8>> = (0..MADE_LOGS).map(record).collect();
+        let given = compare("readlog", listing::readlog, &records);
+        // each of them gave the number of the table
+        given.check(&[("readlog", &[made.number])], MADE_LOGS);
+        tally.add(&given);
+    }
+    tally
 }
 
 /// Runs a program on each input and counts the numbers that it prints.
@@ -176,12 +188,12 @@ fn odd_record(random: &mut Random) -> Vec<u8> {
 
 /// A log record with counts around each limit, often damaged.
 fn log_input(random: &mut Random) -> Vec<u8> {
-    let total: u16 = random.pick(&[4, 5, 6, 510, 0xFFFF, 3]);
+    let total: u16 = random.pick(&[4, 5, 6, 510, 0xFFFF, 3, 3, 2]);
     let acknowledged = random.pick(&[0, total - 1, total, total, total.wrapping_add(1)]);
     let named: u16 = random.pick(&[1, 2, 300, 63_488, 63_489, 0]);
     let outcome = match acknowledged == total {
-        true => random.pick(&[0, 0, 0, 0, 40]),
-        false => random.pick(&[40, 41, 42, 43, 0, 44]),
+        true => random.pick(&[0, 0, 1, 1, 40]),
+        false => random.pick(&[40, 41, 42, 43, 0, 1, 2, 44]),
     };
     let mut input = vec![0, 8, 1, outcome];
     for count in [acknowledged, total, named] {

@@ -10,48 +10,100 @@ use crate::files::{lent, IMAGE, MAP};
 use crate::maps;
 use crate::pair::Pair;
 use crate::random::Random;
-use crate::sessions::PACKET;
+use crate::sessions::{asked_end, hold, run, PACKET};
 
 const ANSWER: Part = Part::new(Buffer::Answer, 41, 24);
 const LOG: Part = Part::new(Buffer::Log, 9, 10);
 const FLASH: Part = Part::new(Buffer::Flash, 2223, FLASH_END);
 
-const KINDS: [Exchange; 2] = [Exchange::PacketLost, Exchange::AnswerLost];
+const LOSSES: [Exchange; 2] = [Exchange::PacketLost, Exchange::AnswerLost];
+
+/// The files on which a loss goes through all places.
+const FILES: u32 = 12;
+/// The files that are only loaded whole, by each run kind.
+const WHOLE_FILES: u32 = 80;
 
 pub fn compare(pair: &mut Pair) {
     let mut random = Random::new(6);
     for buffer in [Buffer::Flash, Buffer::Image, Buffer::Map] {
         pair.fill_buffer(buffer, 0xC3);
     }
-    for _ in 0..24 {
-        let map = match random.below(2) {
-            0 => maps::few(&mut random),
-            _ => maps::pieces(&mut random),
-        };
-        let total = lend_file(pair, &mut random, &map);
-        rehearse(pair, &mut random, &[]);
-        for place in 0..=total as usize {
-            for lost in KINDS {
-                let losses = lost_at(&mut random, place, lost);
-                rehearse(pair, &mut random, &losses);
-            }
+    for _ in 0..FILES {
+        let map = small(&mut random);
+        let loading = lend_file(pair, &mut random, &map);
+        whole(pair, &mut random);
+        for told in [0, 1, hold(&mut random)] {
+            each_loss(pair, &mut random, told, loading);
         }
         refused(pair, &mut random);
+    }
+    for _ in 0..WHOLE_FILES {
+        let map = small(&mut random);
+        lend_file(pair, &mut random, &map);
+        whole(pair, &mut random);
     }
     for kind in 0..8 {
         let map = match kind {
             0 => vec![0xFF; MAP_BYTES],
             _ => maps::scattered(&mut random),
         };
-        let total = lend_file(pair, &mut random, &map);
-        rehearse(pair, &mut random, &[]);
+        let loading = lend_file(pair, &mut random, &map);
+        whole(pair, &mut random);
         for _ in 0..3 {
-            let place = random.below(total + 1) as usize;
-            let lost = random.pick(&KINDS);
-            let losses = lost_at(&mut random, place, lost);
-            rehearse(pair, &mut random, &losses);
+            let told = run(&mut random);
+            let place = random.below(last_exchange(told, loading) + 1);
+            let lost = random.pick(&LOSSES);
+            loss(pair, &mut random, told, place, lost);
         }
     }
+}
+
+/// A file of few packets.
+fn small(random: &mut Random) -> Vec<u8> {
+    match random.below(2) {
+        0 => maps::few(random),
+        _ => maps::pieces(random),
+    }
+}
+
+/// A load by each run kind with nothing lost and nothing protected.
+fn whole(pair: &mut Pair, random: &mut Random) {
+    for told in [0, 1, hold(random)] {
+        let open = LoaderRecord {
+            groups: 0,
+            read: 0,
+            ..loader(random)
+        };
+        let outcome = rehearse(pair, random, told, open, &[]);
+        assert_eq!(outcome, asked_end(told).into());
+    }
+}
+
+/// Loads with a loss in each exchange, and with one behind the last, where there
+/// is nothing to lose.
+fn each_loss(pair: &mut Pair, random: &mut Random, told: u32, loading: u32) {
+    for place in 0..=last_exchange(told, loading) {
+        for lost in LOSSES {
+            let outcome = loss(pair, random, told, place, lost);
+            // silence ends neither valid nor held
+            assert!(outcome >= 40, "{lost:?} at {place}");
+        }
+    }
+    for lost in LOSSES {
+        loss(pair, random, told, last_exchange(told, loading) + 1, lost);
+    }
+}
+
+/// The place of the last exchange: 08 comes first, and R last where it is sent.
+fn last_exchange(told: u32, loading: u32) -> u32 {
+    loading + u32::from(told < 2)
+}
+
+/// A load by any loader with this loss; gives its outcome.
+fn loss(pair: &mut Pair, random: &mut Random, told: u32, place: u32, lost: Exchange) -> u32 {
+    let losses = lost_at(random, place as usize, lost);
+    let any = loader(random);
+    rehearse(pair, random, told, any, &losses)
 }
 
 /// Everything arrives but the exchange at this place.
@@ -66,12 +118,12 @@ fn lost_at(random: &mut Random, place: usize, lost: Exchange) -> Vec<u8> {
     losses
 }
 
-/// Lends a file of random bytes and gives how many packets it has.
+/// Lends a file of random bytes and gives how many packets load it, without R.
 fn lend_file(pair: &mut Pair, random: &mut Random, map: &[u8]) -> u32 {
     let bytes = random.bytes(FLASH_END);
     pair.set(IMAGE, &bytes);
     pair.set(MAP, map);
-    Map::new(map).expect("a map").survey(None).total()
+    Map::new(map).expect("a map").survey(None).loading()
 }
 
 /// Loads with buffers of wrong sizes, and of a file that names nothing.
@@ -83,29 +135,34 @@ fn refused(pair: &mut Pair, random: &mut Random) {
     ];
     for flash in wrong.into_iter().chain([FLASH; 3]) {
         let loader = loader(random);
-        pair.rehearse(random.word(), loader, &[], (IMAGE, MAP), flash);
+        pair.rehearse(run(random), loader, &[], (IMAGE, MAP), flash);
         let file = lent(random);
-        pair.rehearse(random.word(), loader, &[], file, flash);
+        pair.rehearse(run(random), loader, &[], file, flash);
     }
     pair.fill(MAP, 0);
-    for flash in wrong.into_iter().chain([FLASH; 6]) {
+    for flash in wrong.into_iter().chain([FLASH; 12]) {
         let loader = loader(random);
-        pair.rehearse(random.word(), loader, &[], (IMAGE, MAP), flash);
+        pair.rehearse(run(random), loader, &[], (IMAGE, MAP), flash);
     }
 }
 
-/// One load as a whole, and again exchange by exchange.
-fn rehearse(pair: &mut Pair, random: &mut Random, losses: &[u8]) {
+/// One load as a whole, and again exchange by exchange; gives its outcome.
+fn rehearse(
+    pair: &mut Pair,
+    random: &mut Random,
+    told: u32,
+    loader: LoaderRecord,
+    losses: &[u8],
+) -> u32 {
     let filling = random.byte();
     pair.fill(FLASH, filling);
-    let told = random.below(3);
-    let loader = loader(random);
     let whole = pair.rehearse(told, loader, losses, (IMAGE, MAP), FLASH);
     let flash = pair.look(FLASH).to_vec();
     pair.fill(FLASH, filling);
     let (state, session) = exchange_by_exchange(pair, random, told, loader, losses);
     assert_eq!((0, state, session), whole);
     assert!(pair.look(FLASH) == flash, "the flash after a load");
+    session.outcome
 }
 
 /// The product's session and loader joined, compared after each exchange.

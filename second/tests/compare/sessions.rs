@@ -22,13 +22,14 @@ const STATES: u32 = 60;
 
 /// Phases with page, address and outcome: each end, those that use none of
 /// them, and records next to them that mean no session.
-const ENDS_AND_PLACELESS: [(u32, u32, u32, u32); 20] = [
+const ENDS_AND_PLACELESS: [(u32, u32, u32, u32); 21] = [
     (5, 0, 0, 0),
+    (5, 0, 0, 1),
     (5, 0, 0, 40),
     (5, 0, 0, 41),
     (5, 0, 0, 42),
     (5, 0, 0, 43),
-    (5, 0, 0, 1),
+    (5, 0, 0, 2),
     (5, 0, 0, 39),
     (5, 0, 0, 44),
     (5, 0, 0, u32::MAX),
@@ -58,7 +59,12 @@ pub fn compare(pair: &mut Pair) {
         let other = other_map(&mut random, &map);
         pair.set(OTHER_MAP, &other);
         pair.set(ANY_MAP, &maps::any(&mut random));
-        file(pair, &mut random);
+        // not in step with the maps, so that each run kind meets each
+        let told = match kind % 3 {
+            0 => hold(&mut random),
+            run => run - 1,
+        };
+        file(pair, &mut random, told);
     }
     pair.fill(MAP, 0);
     for _ in 0..100 {
@@ -99,14 +105,14 @@ fn other_map(random: &mut Random, map: &[u8]) -> Vec<u8> {
     other
 }
 
-fn file(pair: &mut Pair, random: &mut Random) {
+/// A file under this run kind, and what is near its sessions of all kinds.
+fn file(pair: &mut Pair, random: &mut Random, told: u32) {
     for _ in 0..15 {
         let (image, map) = lent(random);
-        let told = run(random);
+        let any = run(random);
         let buffer = buffer(random);
-        pair.start(told, image, map, buffer);
+        pair.start(any, image, map, buffer);
     }
-    let told = run(random);
     let (number, start) = pair.start(told, IMAGE, MAP, PACKET);
     if number != 0 {
         refused_over_an_empty_map(pair, random);
@@ -114,6 +120,7 @@ fn file(pair: &mut Pair, random: &mut Random) {
     }
     greetings(pair, random, start);
     bounds(pair, random, start);
+    last_records(pair, random, start);
     let states = states(pair, start);
     if states.len() <= STATES as usize {
         for state in &states {
@@ -134,8 +141,9 @@ fn file(pair: &mut Pair, random: &mut Random) {
 fn refused_over_an_empty_map(pair: &mut Pair, random: &mut Random) {
     for phase in 0..7 {
         for total in [0, 1, 3, 4] {
-            let place = random.pick(&[0, 0, 0, 40, 42]);
+            let place = random.pick(&[0, 0, 0, 1, 40, 42]);
             let state = SessionRecord {
+                run: run(random),
                 acknowledged: random.pick(&[0, 1, total]),
                 total,
                 ..placed(phase, place)
@@ -183,8 +191,9 @@ fn bounds(pair: &mut Pair, random: &mut Random, start: SessionRecord) {
     for (phase, page, address, outcome) in ENDS_AND_PLACELESS {
         for acknowledged in [0, 1, total - 1, total, total + 1, u32::MAX] {
             for (total, named) in counts {
+                let other = run(random);
                 let state = SessionRecord {
-                    run: start.run,
+                    run: random.pick(&[start.run, start.run, other]),
                     phase,
                     page,
                     address,
@@ -193,14 +202,49 @@ fn bounds(pair: &mut Pair, random: &mut Random, start: SessionRecord) {
                     total,
                     named,
                 };
-                let address = maps::named_from(pair.look(MAP), random.below(FLASH_END));
-                pair.proved(state, MAP, address);
+                mark(pair, random, state);
             }
         }
     }
 }
 
-/// Each state that a start and acknowledgements lead to, the valid end last.
+/// R's phase and each kind of end under each run kind, with the total of either
+/// and all counts next to it, over the file's own map.
+fn last_records(pair: &mut Pair, random: &mut Random, start: SessionRecord) {
+    let loading = loading(start);
+    for told in [0, 1, hold(random)] {
+        for (phase, outcome) in [(4, 0), (5, 0), (5, 1), (5, 40)] {
+            for total in [loading, loading + 1] {
+                for acknowledged in [loading - 1, loading, loading + 1] {
+                    let state = SessionRecord {
+                        run: told,
+                        acknowledged,
+                        total,
+                        named: start.named,
+                        ..placed(phase, outcome)
+                    };
+                    let next = step_right(pair, state);
+                    pair.outcome(next);
+                    mark(pair, random, state);
+                }
+            }
+        }
+    }
+}
+
+/// The packets of the file without R: all that hold sends.
+fn loading(state: SessionRecord) -> u32 {
+    state.total - u32::from(state.run < 2)
+}
+
+/// The mark of a named byte over the file's own map.
+fn mark(pair: &mut Pair, random: &mut Random, state: SessionRecord) {
+    let address = maps::named_from(pair.look(MAP), random.below(FLASH_END));
+    pair.proved(state, MAP, address);
+}
+
+/// Each state that a start and acknowledgements lead to, the end that was asked
+/// for last.
 fn states(pair: &Pair, start: SessionRecord) -> Vec<SessionRecord> {
     let (image, map) = (pair.look(IMAGE), pair.look(MAP));
     let mut buffer = [0; 259];
@@ -222,14 +266,24 @@ fn expected(phase: Phase) -> &'static [u8] {
     }
 }
 
-/// Goes through the whole session of the file and gives its named bytes.
+/// Goes through the file's whole session of each run kind and gives its named
+/// bytes.
 pub fn walk(pair: &mut Pair) -> u32 {
-    let (_, mut state) = pair.start(0, IMAGE, MAP, PACKET);
-    while state.phase != 5 {
-        state = step_right(pair, state);
+    let mut named = 0;
+    for told in 0..3 {
+        let (_, mut state) = pair.start(told, IMAGE, MAP, PACKET);
+        while state.phase != 5 {
+            state = step_right(pair, state);
+        }
+        assert_eq!(pair.outcome(state), Some(asked_end(told)));
+        named = state.named;
     }
-    pair.outcome(state);
-    state.named
+    named
+}
+
+/// How a session of this run kind ends that got every answer.
+pub fn asked_end(told: u32) -> u8 {
+    u8::from(told > 1)
 }
 
 /// One state of the file: what it answers to, and what is near it.
@@ -237,6 +291,7 @@ fn look_at(pair: &mut Pair, random: &mut Random, state: SessionRecord) {
     pair.outcome(state);
     let next = step_right(pair, state);
     pair.outcome(next);
+    under_each_kind(pair, random, state);
     for _ in 0..3 {
         let next = step_any(pair, random, state);
         pair.outcome(next);
@@ -259,6 +314,22 @@ fn look_at(pair: &mut Pair, random: &mut Random, state: SessionRecord) {
     marks(pair, random, ended);
     pair.step(state, 0, answer(state), (IMAGE, OTHER_MAP), PACKET);
     marks(pair, random, state);
+}
+
+/// The state under each run kind, with the total of either.
+fn under_each_kind(pair: &mut Pair, random: &mut Random, state: SessionRecord) {
+    let loading = loading(state);
+    for told in [0, 1, hold(random)] {
+        for total in [loading, loading + 1] {
+            let changed = SessionRecord {
+                run: told,
+                total,
+                ..state
+            };
+            step_right(pair, changed);
+            mark(pair, random, changed);
+        }
+    }
 }
 
 fn answer(state: SessionRecord) -> &'static [u8] {
@@ -295,8 +366,16 @@ fn step_any(pair: &mut Pair, random: &mut Random, state: SessionRecord) -> Sessi
     pair.step(state, silent, &bytes, file, buffer).1
 }
 
-fn run(random: &mut Random) -> u32 {
-    random.pick(&[0, 1, 1, 2, u32::MAX])
+/// A run kind by its number, each kind as often.
+pub fn run(random: &mut Random) -> u32 {
+    let hold = hold(random);
+    random.pick(&[0, 1, hold])
+}
+
+/// Hold by any of its numbers.
+pub fn hold(random: &mut Random) -> u32 {
+    let any = random.within(3, u32::MAX);
+    random.pick(&[2, 2, 3, u32::MAX, any])
 }
 
 fn buffer(random: &mut Random) -> Part {
@@ -331,7 +410,7 @@ fn made_up(random: &mut Random, state: SessionRecord) -> SessionRecord {
         *field = match random.below(5) {
             0 => field.wrapping_add(step),
             1 => field.wrapping_sub(step),
-            2 => random.pick(&[0, 40, 41, 42, 43, 44]),
+            2 => random.pick(&[0, 1, 2, 40, 41, 42, 43, 44]),
             3 => any,
             _ => small,
         };
@@ -343,15 +422,16 @@ fn made_up(random: &mut Random, state: SessionRecord) -> SessionRecord {
 fn said_to_have_ended(random: &mut Random, state: SessionRecord) -> SessionRecord {
     let SessionRecord { total, named, .. } = state;
     let reached = state.acknowledged;
+    let other = run(random);
     SessionRecord {
+        run: random.pick(&[state.run, state.run, other]),
         phase: 5,
         page: 0,
         address: 0,
-        outcome: random.pick(&[0, 0, 40, 41, 42, 43, 44]),
+        outcome: random.pick(&[0, 0, 1, 1, 40, 41, 42, 43, 44]),
         acknowledged: random.pick(&[0, 1, reached, reached, total - 1, total, total + 1]),
         total: random.pick(&[total, total, total, total, total + 1, total - 1]),
         named: random.pick(&[named, named, named, named, named + 1, named - 1]),
-        ..state
     }
 }
 
@@ -363,7 +443,7 @@ fn marks(pair: &mut Pair, random: &mut Random, state: SessionRecord) {
         1 => state.page.wrapping_mul(PAGE_BYTES),
         _ => state.address,
     };
-    for _ in 0..6 {
+    for _ in 0..5 {
         let map = random.pick(&[MAP, MAP, OTHER_MAP, ANY_MAP]);
         let any = random.word();
         let inside = random.below(FLASH_END);

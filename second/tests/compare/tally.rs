@@ -1,12 +1,15 @@
 //! What was compared: how many calls, how often each function gave each
-//! number, and how often each hex refusal had each column.
+//! number, how often each hex refusal had each column, and how often each
+//! record that was made on purpose gave what the paper says.
 
 use std::collections::BTreeMap;
 use std::fmt::Display;
 
 /// Each function and the numbers that it can give, 0 where it was done; the
-/// endings that steps give and those that are read off; the marks.
-pub const LIBRARY: [(&str, &[u8]); 21] = [
+/// endings that steps give and those that are read off; the marks; the run
+/// kinds of sessions that were started, and that ended as asked by steps and in
+/// rehearsals.
+pub const LIBRARY: [(&str, &[u8]); 24] = [
     ("turned", &[0]),
     ("restored", &[0]),
     ("build", &[0, 5, 6, 20]),
@@ -19,15 +22,18 @@ pub const LIBRARY: [(&str, &[u8]); 21] = [
     ("close", &[0, 31, 32]),
     ("write", &[0, 20, 33]),
     ("start", &[0, 20, 32]),
+    ("started", &[0, 1, 2]),
     ("step", &[0, 20, 44, 46]),
-    ("ending", &[0, 40, 41, 42, 43]),
+    ("ending", &[0, 1, 40, 41, 42, 43]),
+    ("ended as asked", &[0, 1, 2]),
     ("proved", &[0, 20, 46]),
     ("mark", &[0, 1]),
     ("outcome", &[0, 45]),
-    ("ended", &[0, 40, 41, 42, 43]),
+    ("ended", &[0, 1, 40, 41, 42, 43]),
     ("log", &[0, 20, 45]),
     ("logread", &[0, 50, 51, 52, 53]),
     ("rehearse", &[0, 20, 32]),
+    ("rehearsed as asked", &[0, 1, 2]),
 ];
 
 /// The numbers that the programs print.
@@ -58,6 +64,8 @@ pub struct Tally {
     pub compared: u64,
     calls: Counts<(&'static str, u8)>,
     notes: Counts<(&'static str, u8)>,
+    /// Under a made record's name and what it gave.
+    made: Counts<(&'static str, u8)>,
     /// Under a refusal's number and its column.
     columns: Counts<(u8, usize)>,
 }
@@ -76,6 +84,11 @@ impl Tally {
         add(&mut self.notes, (what, value), 1);
     }
 
+    /// Counts what a record gave that was made on purpose.
+    pub fn made(&mut self, name: &'static str, number: u8) {
+        add(&mut self.made, (name, number), 1);
+    }
+
     /// Counts the column of a hex refusal.
     pub fn column(&mut self, number: u8, column: usize) {
         add(&mut self.columns, (number, column), 1);
@@ -85,6 +98,7 @@ impl Tally {
         self.compared += other.compared;
         join(&mut self.calls, &other.calls);
         join(&mut self.notes, &other.notes);
+        join(&mut self.made, &other.made);
         join(&mut self.columns, &other.columns);
     }
 
@@ -100,11 +114,15 @@ impl Tally {
         }
         let numbers = numbers.into_iter();
         let numbers = numbers.map(|(number, often)| format!(" {number}:{often}"));
-        let notes = self.notes.iter();
-        let notes = notes.map(|((what, value), often)| format!(" {what} {value}:{often}"));
+        let notes = listed(&self.notes);
         let columns = columns.into_iter();
         let columns = columns.map(|(number, many)| format!(" columns {number}:{many}"));
         numbers.chain(notes).chain(columns).collect()
+    }
+
+    /// How often each made record gave what, in one line.
+    pub fn made_line(&self) -> String {
+        listed(&self.made).collect::<Vec<String>>().join(";")
     }
 
     /// Each of these must have been seen so often.
@@ -114,10 +132,21 @@ impl Tally {
         });
     }
 
+    /// Each made record must have given each of its numbers so often.
+    pub fn check_made(&self, expected: &[(&'static str, &[u8])], often: u64) {
+        check("gave", expected, often, |key| self.made.get(key));
+    }
+
     /// Each of these columns must have been seen so often.
     pub fn check_columns(&self, expected: &[(u8, &[usize])], often: u64) {
         check("had column", expected, often, |key| self.columns.get(key));
     }
+}
+
+/// Each value under what it is of, and how often it was seen.
+fn listed<'a>(counts: &'a Counts<(&'static str, u8)>) -> impl Iterator<Item = String> + 'a {
+    let counts = counts.iter();
+    counts.map(|((what, value), often)| format!(" {what} {value}:{often}"))
 }
 
 fn add<Key: Ord>(counts: &mut Counts<Key>, key: Key, often: u64) {
