@@ -5,3 +5,4 @@ pub mod Lists
 pub mod Sums
 pub mod Bits
 pub mod Units
+pub mod RunKinds

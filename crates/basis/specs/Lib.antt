@@ -4,6 +4,7 @@ pub mod Refusals
 pub mod Lists
 pub mod Board
 pub mod Units
+pub mod RunKinds
 pub mod Bits
 pub mod Sums
 pub mod Laws

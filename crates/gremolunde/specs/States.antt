@@ -4,7 +4,7 @@ use Prim.Native.Nat.{ℕ}
 use mathlib.Core.Bool.{Bool, not}
 use lib.Dec.{eqb}
 use Rattle.basis.specs.Choice.{pick}
-use Rattle.basis.specs.declared.kind.RunKind.{RunKind}
+use Rattle.basis.specs.RunKinds.{paperKind, kindOf}
 use Rattle.events.specs.Endings.{paperOutcome}
 use Rattle.events.specs.declared.ending.Outcome.{Outcome}
 use Rattle.image.specs.declared.hex.Hex.{Hex}
@@ -68,22 +68,6 @@ abbrev pub hexShown : Hex → HexState
 hexShown h =
     record { linear = h .linear; segment = h .segment; ended = flagOf (h .ended); taken = flagOf (h .taken) }
 
--- the run kind of a number that is not listed
-abbrev pub defaultRun : RunKind
-defaultRun = RunKind.Hold
-
--- a run kind: 0 reset, 1 jump, 2 hold, all else is the default
-abbrev pub runMeant : ℕ → RunKind
-runMeant n =
-    pick (eqb n 0) RunKind.Reset
-    (pick (eqb n 1) RunKind.Jump
-    (pick (eqb n 2) RunKind.Hold defaultRun))
-
-abbrev pub runShown : RunKind → ℕ
-runShown RunKind.Reset = 0
-runShown RunKind.Jump = 1
-runShown RunKind.Hold = 2
-
 -- a phase that no file has: its page lies past every board
 abbrev pub nowhere : Phase
 nowhere = Phase.Out (eraseAt 0xFFFFFFFF)
@@ -145,7 +129,7 @@ outcomeShown (Phase.Ended o) = paperOutcome o
 abbrev pub sessionMeant : SessionState → Session
 sessionMeant s =
     record {
-      kind = runMeant (s .run);
+      kind = kindOf (s .run);
       phase = phaseMeant (s .phase) (s .page) (s .address) (s .outcome);
       acknowledged = s .acknowledged;
       total = s .total;
@@ -155,7 +139,7 @@ sessionMeant s =
 abbrev pub sessionShown : Session → SessionState
 sessionShown s =
     record {
-      run = runShown (s .kind);
+      run = paperKind (s .kind);
       phase = phaseShown (s .phase);
       page = pageShown (s .phase);
       address = addressShown (s .phase);

@@ -1,8 +1,9 @@
 // A rehearsal for C: a whole load over a line that loses what it is told to.
 ghost use mathlib.Core.Path.{_≡_};
 ghost use Rattle.basis.specs.Board.{pages};
+ghost use Rattle.basis.specs.RunKinds.{kindOf};
 ghost use Rattle.gremolunde.specs.Answers.{rehearsedAnswer};
-ghost use Rattle.gremolunde.specs.States.{loaderMeant, runMeant};
+ghost use Rattle.gremolunde.specs.States.{loaderMeant};
 ghost use Rattle.line.specs.Line.{lossAt, rehearseOf, loaded, leftFlash};
 ghost use Rattle.line.specs.Paper.{paperRehearsed};
 use crate::sessions::no_session;
@@ -10,8 +11,8 @@ use crate::states::LoaderState;
 use crate::states::SessionState;
 use crate::states::loader_meant;
 use crate::states::loader_shown;
-use crate::states::run_meant;
 use crate::states::session_shown;
+use basis::kind::RunKind;
 use line::rehearse::Rehearsed;
 use line::rehearse::rehearse;
 
@@ -33,12 +34,12 @@ pub extern "C" fn gremolunde_rehearse(
     flash: &mut [u8],
 ) -> Rehearsal
     ensures { λ r. ⌜
-        (let a = rehearseOf pages (now (image .entry)) (now (map .entry)) (runMeant run) (loaderMeant loader)
+        (let a = rehearseOf pages (now (image .entry)) (now (map .entry)) (kindOf run) (loaderMeant loader)
         (lossAt (now (losses .entry))) (now (flash .entry)) in
         (r ≡ rehearsedAnswer loader (loaded a)) × (now (flash .exit) ≡ leftFlash (now (flash .entry)) a))
         ⌝ }
 {
-    let kind = run_meant(run);
+    let kind = RunKind::of(run);
     let meant = loader_meant(loader);
     rehearsed_answer(loader, rehearse(kind, meant, losses, image, map, flash))
 }

@@ -3,16 +3,17 @@ ghost use mathlib.Core.Path.{_≡_};
 ghost use lib.ListN.{length};
 ghost use Rattle.basis.specs.Board.{pages};
 ghost use Rattle.basis.specs.Lists.{overlay};
+ghost use Rattle.basis.specs.RunKinds.{kindOf};
 ghost use Rattle.events.specs.Events.{classifyOf};
 ghost use Rattle.gremolunde.specs.Answers.{noSession, steppedAnswer, markAnswer};
-ghost use Rattle.gremolunde.specs.States.{isSet, runMeant, sessionMeant};
+ghost use Rattle.gremolunde.specs.States.{isSet, sessionMeant};
 ghost use Rattle.service_log.specs.Log.{loggedOutcomeOf};
 ghost use Rattle.session.specs.Paper.{paperStepped, paperMark};
 ghost use Rattle.session.specs.Session.{measured, sentBytes, started, stepOf, provedOf};
 use crate::states::SessionState;
-use crate::states::run_meant;
 use crate::states::session_meant;
 use crate::states::session_shown;
+use basis::kind::RunKind;
 use basis::units::Address;
 use service_log::write::logged_outcome;
 use session::session::Mark;
@@ -42,14 +43,14 @@ pub extern "C" fn gremolunde_session_start(
 ) -> SessionStepped
     ensures { λ r. ⌜
         (let a = started pages (now (image .entry)) (now (map .entry)) (length (now (buffer .entry)))
-        (runMeant run) in
+        (kindOf run) in
         (r ≡ steppedAnswer noSession (measured a))
         × (now (buffer .exit) ≡ overlay (sentBytes a) (now (buffer .entry))))
         ⌝ }
 {
     stepped_answer(
         no_session(),
-        Session::start(run_meant(run), image, map, buffer),
+        Session::start(RunKind::of(run), image, map, buffer),
     )
 }
 

@@ -1,6 +1,6 @@
 // The states that a C caller keeps, and what each stands for.
 ghost use mathlib.Core.Path.{_≡_};
-ghost use Rattle.gremolunde.specs.States.{conditionMeant, conditionShown, loaderMeant, loaderShown, hexMeant, hexShown, runMeant, runShown, nowhere, endMeant, phaseMeant, without, phaseShown, pageShown, addressShown, outcomeShown, sessionMeant, sessionShown};
+ghost use Rattle.gremolunde.specs.States.{conditionMeant, conditionShown, loaderMeant, loaderShown, hexMeant, hexShown, nowhere, endMeant, phaseMeant, without, phaseShown, pageShown, addressShown, outcomeShown, sessionMeant, sessionShown};
 use crate::answers::flag;
 use basis::kind::RunKind;
 use basis::units::Address;
@@ -135,23 +135,11 @@ pub fn session_meant(state: SessionState) -> Session
     ensures { λ r. ⌜ r ≡ sessionMeant state ⌝ }
 {
     Session {
-        kind: run_meant(state.run),
+        kind: RunKind::of(state.run),
         phase: phase_meant(state),
         acknowledged: state.acknowledged,
         total: state.total,
         named: state.named,
-    }
-}
-
-// What is not known starts nothing.
-pub fn run_meant(run: u32) -> RunKind
-    ensures { λ r. ⌜ r ≡ runMeant run ⌝ }
-{
-    match run {
-        0 => RunKind::Reset,
-        1 => RunKind::Jump,
-        2 => RunKind::Hold,
-        _ => RunKind::Hold,
     }
 }
 
@@ -215,7 +203,7 @@ pub fn session_shown(session: Session) -> SessionState
     let kind = session.kind;
     let phase = session.phase;
     SessionState {
-        run: run_shown(kind),
+        run: kind.number(),
         phase: phase_shown(phase),
         page: page_shown(phase),
         address: address_shown(phase),
@@ -223,16 +211,6 @@ pub fn session_shown(session: Session) -> SessionState
         acknowledged: session.acknowledged,
         total: session.total,
         named: session.named,
-    }
-}
-
-fn run_shown(kind: RunKind) -> u32
-    ensures { λ r. ⌜ r ≡ runShown kind ⌝ }
-{
-    match kind {
-        RunKind::Reset => 0,
-        RunKind::Jump => 1,
-        RunKind::Hold => 2,
     }
 }
 

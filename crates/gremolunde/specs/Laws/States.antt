@@ -2,7 +2,7 @@
 -- passes on what was handed back goes the paper's way.
 use mathlib.Core.Bool.{Bool, true, false}
 use mathlib.Core.Path.{_≡_, refl}
-use Rattle.basis.specs.declared.kind.RunKind.{RunKind}
+use Rattle.basis.specs.Laws.RunKinds.{kind-back}
 use Rattle.events.specs.declared.ending.Outcome.{Outcome}
 use Rattle.image.specs.declared.hex.Hex.{Hex}
 use Rattle.loader.specs.declared.state.Condition.{Condition}
@@ -11,7 +11,7 @@ use Rattle.loader.specs.declared.state.Loader.{Loader}
 use Rattle.order.specs.declared.step.Step.{Step}
 use Rattle.session.specs.declared.phase.Phase.{Phase}
 use Rattle.session.specs.declared.session.Session.{Session}
-use Rattle.gremolunde.specs.States.{isSet, flagOf, conditionMeant, conditionShown, loaderMeant, loaderShown, hexMeant, hexShown, runMeant, runShown, phaseMeant, phaseShown, pageShown, addressShown, outcomeShown, sessionMeant, sessionShown}
+use Rattle.gremolunde.specs.States.{isSet, flagOf, conditionMeant, conditionShown, loaderMeant, loaderShown, hexMeant, hexShown, phaseMeant, phaseShown, pageShown, addressShown, outcomeShown, sessionMeant, sessionShown}
 
 flag-back : (t : Bool) → isSet (flagOf t) ≡ t
 flag-back true = refl
@@ -43,11 +43,6 @@ hex-back h =
       taken = flag-back (h .taken) i;
     }
 
-run-back : (k : RunKind) → runMeant (runShown k) ≡ k
-run-back RunKind.Reset = refl
-run-back RunKind.Jump = refl
-run-back RunKind.Hold = refl
-
 phase-back : (p : Phase) → phaseMeant (phaseShown p) (pageShown p) (addressShown p) (outcomeShown p) ≡ p
 phase-back Phase.Greeting = refl
 phase-back (Phase.Out (Step.Erase p)) = refl
@@ -64,7 +59,7 @@ phase-back (Phase.Ended Outcome.Other) = refl
 pub session-back : (s : Session) → sessionMeant (sessionShown s) ≡ s
 session-back s =
     λ i. record {
-      kind = run-back (s .kind) i;
+      kind = kind-back (s .kind) i;
       phase = phase-back (s .phase) i;
       acknowledged = s .acknowledged;
       total = s .total;

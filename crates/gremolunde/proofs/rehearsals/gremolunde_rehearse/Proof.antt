@@ -30,7 +30,7 @@ returns : tie.Need-returns
 returns c =
     let call = c .before .before .before in
     let meant = call .before .before in
-    told-of _ _ _ _ _ (meant .before .run-meant .ensures) (meant .loader-meant .ensures) _ _ _ _ _
+    told-of _ _ _ _ _ (meant .before .of .ensures) (meant .loader-meant .ensures) _ _ _ _ _
     (c .rehearsed-answer .ensures) (call .rehearse .ensures)
 
 pub gremolunde-rehearse-spec : {M : Type 1} → statement M

@@ -9,7 +9,7 @@ returns : tie.Need-returns
 returns c =
     let call = c .before .before .before in
     let meant = call .before .before in
-    rw (sym (meant .run-meant .ensures)) (
+    rw (sym (meant .of .ensures)) (
       c .stepped-answer .ensures
           ∙ (λ i. steppedAnswer (meant .before .no-session .ensures i) (call .start .ensures .0 i)),
       call .start .ensures .1,

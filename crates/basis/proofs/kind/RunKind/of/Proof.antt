@@ -1,8 +1,8 @@
--- `run_meant` meets its contract: each arm is a row of the definition.
+-- `of` meets its contract: each arm is a row of the definition.
 use mathlib.Core.Path.{refl}
 use borrow.Author.Tests.{ne-eqb}
-use Rattle.gremolunde.proofs.states.run_meant.Statement.{statement}
-use Rattle.gremolunde.proofs.states.run_meant.Tie as tie
+use Rattle.basis.proofs.kind.RunKind.of.Statement.{statement}
+use Rattle.basis.proofs.kind.RunKind.of.Tie as tie
 
 returns : tie.Need-returns
 returns c = rw (c .match .keys1) refl
@@ -18,5 +18,5 @@ returns-4 c =
     let r = c .match .rest in
     simp (ne-eqb _ _ (r .0 .0 .1), ne-eqb _ _ (r .0 .1), ne-eqb _ _ (r .1))
 
-pub run-meant-spec : {M : Type 1} → statement M
-run-meant-spec = tie.close (tie.spec returns returns-2 returns-3 returns-4)
+pub of-spec : {M : Type 1} → statement M
+of-spec = tie.close (tie.spec returns returns-2 returns-3 returns-4)
