@@ -44,7 +44,7 @@ fn r_count(kind: RunKind) -> u32
 }
 
 // Hold starts nothing.
-fn sends_r(kind: RunKind) -> bool
+pub fn sends_r(kind: RunKind) -> bool
     ensures { λ r. ⌜ r ≡ sendsR kind ⌝ }
 {
     match kind {

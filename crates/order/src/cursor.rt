@@ -6,6 +6,7 @@ ghost use lib.ListN.{length};
 ghost use Rattle.basis.specs.Board.{pages, flashSize, mapSize};
 ghost use Rattle.order.specs.Steps.{atStart, lowestPiece, nextRun, nextPiece, firstOf, afterErase, afterWrite, behindLast, afterVerify, followOf, placeOf};
 ghost use Rattle.order.specs.declared.step.Step.{Step};
+use crate::counts::sends_r;
 use crate::step::Step;
 use basis::board::END;
 use basis::board::PAGES;
@@ -102,11 +103,10 @@ fn after_verify(map: &[u8], kind: RunKind, address: Address) -> Following
 fn behind_last(kind: RunKind) -> Following
     ensures { λ r. ⌜ r ≡ behindLast kind ⌝ }
 {
-    match kind {
-        RunKind::Reset => Following::Step(Step::Run),
-        RunKind::Jump => Following::Step(Step::Run),
-        RunKind::Hold => Following::End,
+    if sends_r(kind) {
+        return Following::Step(Step::Run);
     }
+    Following::End
 }
 
 fn first_piece(map: &[u8]) -> Address

@@ -2,6 +2,7 @@
 use Prim.Native.Nat.{ℕ, _≤_, _<_}
 use mathlib.Core.Bool.{true, false}
 use mathlib.Core.Path.{_≡_, refl, sym, ap, _∙_}
+use native.Mathlib.Omega.{arith}
 use borrow.Author.Tests.{eq-eqb, ne-eqb, eqb-true, ltb-true, lt-ltb, le-ltb}
 use lib.Dec.{eqb, leb, ltb}
 use Rattle.basis.specs.Choice.{pick}
@@ -81,7 +82,13 @@ module _ (kind : RunKind) (o : Outcome) (k : ℕ) (f : failing o k ≡ true) whe
       go Outcome.NoGreeting f = refl
       go Outcome.Other f = refl
 
--- so does it the one that was asked for
+-- what was asked for is 0 or 1
+pub asked-good : (kind : RunKind) → paperOutcome (asked kind) ≤ 1
+asked-good RunKind.Reset = omega arith
+asked-good RunKind.Jump = omega arith
+asked-good RunKind.Hold = omega arith
+
+-- and every run kind has the one that was asked for
 pub asked-suits : (kind : RunKind) → endingFor kind (asked kind) ≡ true
 asked-suits RunKind.Reset = refl
 asked-suits RunKind.Jump = refl

@@ -16,11 +16,12 @@ use Rattle.basis.specs.Refusals.{Answer, given}
 use Rattle.basis.specs.Units.{startOf, mapBytes}
 use Rattle.basis.specs.declared.kind.RunKind.{RunKind}
 use Rattle.events.specs.Endings.{paperOutcome, asked, endingFor, failing}
-use Rattle.events.specs.Laws.Endings.{fails-suits, asked-suits}
+use Rattle.events.specs.Laws.Endings.{fails-suits, asked-good, asked-suits}
 use Rattle.events.specs.declared.ending.Outcome.{Outcome}
 use Rattle.events.specs.declared.event.Event.{Event}
+use Rattle.order.specs.Laws.Kinds.{r-one}
 use Rattle.order.specs.Laws.Totals.{total-fits, packets-least, named-fits}
-use Rattle.order.specs.Plan.{total}
+use Rattle.order.specs.Plan.{sendsR, total}
 use Rattle.runs.specs.Pieces.{namedCount}
 use Rattle.session.specs.Laws.Series.{came}
 use Rattle.session.specs.Phases.{ended}
@@ -127,11 +128,15 @@ module _ (board : ℕ) (m : List ℕ) (long : length m ≡ mapBytes board) (some
   asked-enough : few (paperOutcome (asked kind)) (total board m kind) ≡ false
   asked-enough = rw (le-ltb (total board m kind) 3 total-least) (go kind)
     where
+      -- with R there are four at least
+      four : (kind : RunKind) → sendsR kind ≡ true → eqb (total board m kind) 3 ≡ false
+      four kind t =
+          ne-eqb (total board m kind) 3
+          (λ e. omega (arith, packets-least board m long some, r-one kind t))
+
       go : (kind : RunKind) → both (eqb (paperOutcome (asked kind)) 0) (eqb (total board m kind) 3) ≡ false
-      go RunKind.Reset = ne-eqb (total board m RunKind.Reset) 3
-          (λ e. omega (arith, packets-least board m long some))
-      go RunKind.Jump = ne-eqb (total board m RunKind.Jump) 3
-          (λ e. omega (arith, packets-least board m long some))
+      go RunKind.Reset = four RunKind.Reset refl
+      go RunKind.Jump = four RunKind.Jump refl
       go RunKind.Hold = refl
 
   failed : (o k : ℕ) → k < total board m kind → known o ≡ true → 1 < o → (o ≡ 42 → ⊥)
@@ -152,11 +157,6 @@ module _ (board : ℕ) (m : List ℕ) (long : length m ≡ mapBytes board) (some
       (enough 42 (omega arith)) (λ e. omega arith) (named-fits board m) (omega arith) (omega arith)
       (λ e. omega arith) refl) ∙ le-ltb 0 k (omega arith)
   failed-true Outcome.Other k l f = failed 43 k l refl (omega arith) (λ e. omega arith)
-
-  asked-good : (kind : RunKind) → paperOutcome (asked kind) ≤ 1
-  asked-good RunKind.Reset = omega arith
-  asked-good RunKind.Jump = omega arith
-  asked-good RunKind.Hold = omega arith
 
   asked-known : known (paperOutcome (asked kind)) ≡ true
   asked-known = rw (le-leb (paperOutcome (asked kind)) 1 (asked-good kind))
