@@ -1,13 +1,27 @@
-/* Loads a hex file as a host does: load FILE.hex [hold | reset | jump]. Without a run kind it holds: the file is
- * written and verified, and nothing is started. The board is a loader in this process; over a serial line `exchange`
- * sends the packet and waits for the answer. Writes the service log's record to standard output. */
+/* Loads a hex file as a host does: load FILE.hex [hold | reset | jump] [short | long]. Without a run kind it holds: the
+ * file is written and verified, and nothing is started. Without a board it is the short one. The board is a loader in
+ * this process; over a serial line `exchange` sends the packet and waits for the answer. Writes the service log's
+ * record to standard output. */
 #include "gremolunde.h"
 #include <stdio.h>
 #include <string.h>
 
-static uint8_t image[GREMOLUNDE_IMAGE], map[GREMOLUNDE_MAP], flash[GREMOLUNDE_FLASH];
-static uint8_t packet[GREMOLUNDE_PACKET], answer[GREMOLUNDE_ANSWER], record[GREMOLUNDE_LOG];
-static gremolunde_loader board;
+/* Room for either board. */
+static uint8_t image[GREMOLUNDE_LONG_IMAGE], map[GREMOLUNDE_LONG_MAP], flash[GREMOLUNDE_LONG_FLASH];
+static uint8_t packet[GREMOLUNDE_PACKET], answer[GREMOLUNDE_ANSWER], record[GREMOLUNDE_LONG_LOG];
+static gremolunde_loader loader;
+
+/* A board by its number of pages, and how much of the room is its own. */
+typedef struct board {
+    const char *name;
+    uint32_t pages;
+    size_t bytes, map_bytes;
+} board;
+
+static const board boards[] = {
+    {"short", GREMOLUNDE_SHORT, GREMOLUNDE_SHORT_IMAGE, GREMOLUNDE_SHORT_MAP},
+    {"long", GREMOLUNDE_LONG, GREMOLUNDE_LONG_IMAGE, GREMOLUNDE_LONG_MAP},
+};
 
 /* More characters than any record has. */
 enum { KEPT = 600 };
@@ -34,13 +48,13 @@ static int next_line(FILE *file, uint8_t line[KEPT], size_t *length) {
 }
 
 /* The number that the file is refused with, 0 if it is taken; says which line is wrong, and where. */
-static uint32_t read_file(FILE *file) {
+static uint32_t read_file(FILE *file, const board *on) {
     uint8_t line[KEPT];
     size_t length, lines = 0;
-    gremolunde_hex_read read = gremolunde_hex_start(image, sizeof image, map, sizeof map);
+    gremolunde_hex_read read = gremolunde_hex_start(on->pages, image, on->bytes, map, on->map_bytes);
     for (; read.number == 0 && next_line(file, line, &length); ++lines) {
-        read = gremolunde_hex_record(read.reader, line, length < KEPT ? length : KEPT, image, sizeof image, map,
-                                     sizeof map);
+        read = gremolunde_hex_record(read.reader, line, length < KEPT ? length : KEPT, image, on->bytes, map,
+                                     on->map_bytes);
         if (read.number != 0) {
             /* 23 has the length of the whole line, of which the reader saw no more than was kept */
             fprintf(stderr, "line %zu, column %zu\n", lines + 1, read.number == 23 ? length : read.column);
@@ -62,33 +76,52 @@ static int run_kind(const char *word, uint32_t *run) {
     return 0;
 }
 
+/* The board that a word names, or the null pointer for a word that names none. */
+static const board *board_of(const char *word) {
+    for (size_t i = 0; i < sizeof boards / sizeof *boards; ++i) {
+        if (strcmp(word, boards[i].name) == 0) {
+            return &boards[i];
+        }
+    }
+    return NULL;
+}
+
+/* Takes the words behind the file's name: a run kind, then a board, each if it is there; 0 for any other word. */
+static int options(char **words, uint32_t *run, const board **on) {
+    words += *words != NULL && run_kind(*words, run);
+    if (*words != NULL && board_of(*words) != NULL) {
+        *on = board_of(*words++);
+    }
+    return *words == NULL;
+}
+
 /* Sends the packet; gives the length of the answer, 0 for silence. */
-static size_t exchange(size_t length) {
+static size_t exchange(size_t length, const board *on) {
     gremolunde_taken taken =
-        gremolunde_loader_take(board, packet, length, flash, sizeof flash, answer, sizeof answer);
-    board = taken.loader;
+        gremolunde_loader_take(on->pages, loader, packet, length, flash, on->bytes, answer, sizeof answer);
+    loader = taken.loader;
     return taken.answered;
 }
 
 int main(int count, char **words) {
     uint32_t number, run = GREMOLUNDE_HOLD;
-    int told = count == 2 || (count == 3 && run_kind(words[2], &run));
-    FILE *file = told ? fopen(words[1], "rb") : NULL;
+    const board *on = &boards[0];
+    FILE *file = count >= 2 && options(words + 2, &run, &on) ? fopen(words[1], "rb") : NULL;
     gremolunde_session_stepped now;
     gremolunde_length log;
     if (file == NULL) {
-        fprintf(stderr, "usage: load FILE.hex [hold | reset | jump]\n");
+        fprintf(stderr, "usage: load FILE.hex [hold | reset | jump] [short | long]\n");
         return 2;
     }
-    number = read_file(file);
+    number = read_file(file, on);
     if (number != 0) {
         return say("the file is refused", number);
     }
-    board = gremolunde_loader_new();
-    now = gremolunde_session_start(run, image, sizeof image, map, sizeof map, packet, sizeof packet);
+    loader = gremolunde_loader_new();
+    now = gremolunde_session_start(on->pages, run, image, on->bytes, map, on->map_bytes, packet, sizeof packet);
     while (now.length > 0) {
-        size_t length = exchange(now.length);
-        now = gremolunde_session_step(now.session, length == 0, answer, length, image, sizeof image, map, sizeof map,
+        size_t length = exchange(now.length, on);
+        now = gremolunde_session_step(now.session, length == 0, answer, length, image, on->bytes, map, on->map_bytes,
                                       packet, sizeof packet);
     }
     log = gremolunde_log_write(now.session, record, sizeof record);

@@ -29,18 +29,27 @@ extern "C" {
 #endif
 
 /* Rises when a struct changes, or what a number in one means. */
-#define GREMOLUNDE_VERSION 3
+#define GREMOLUNDE_VERSION 4
 
-/* The sizes that the paper asks for, in bytes: flash, image and map exactly so, the others at least so. */
-#define GREMOLUNDE_FLASH 63488
-#define GREMOLUNDE_IMAGE 63488
-#define GREMOLUNDE_MAP 7936
+/* A board is told by its number of pages; a number that is not listed is refused with 65, before all else. A session
+ * and a hex reader carry the board that they were started for. */
+enum { GREMOLUNDE_SHORT = 124, GREMOLUNDE_LONG = 248 };
+
+/* The sizes that the paper asks for, in bytes: flash, image and map exactly so for their board, the others at least
+ * so. The sizes of the other board are wrong sizes. */
+#define GREMOLUNDE_SHORT_FLASH 63488
+#define GREMOLUNDE_SHORT_IMAGE 63488
+#define GREMOLUNDE_SHORT_MAP 7936
+#define GREMOLUNDE_SHORT_LOG 10
+#define GREMOLUNDE_LONG_FLASH 126976
+#define GREMOLUNDE_LONG_IMAGE 126976
+#define GREMOLUNDE_LONG_MAP 15872
+#define GREMOLUNDE_LONG_LOG 16
 #define GREMOLUNDE_PACKET 259
 #define GREMOLUNDE_ANSWER 24
 #define GREMOLUNDE_HEX_RECORD 44
-#define GREMOLUNDE_LOG 10
 
-/* A loader, without its flash. */
+/* A loader, without its flash; the flash that it is lent is its board's. */
 typedef struct gremolunde_loader {
     uint64_t groups;    /* the protected groups, one bit a group, group 0 the lowest */
     uint64_t added;     /* the groups added to the protect sequence that is open */
@@ -53,6 +62,7 @@ typedef struct gremolunde_loader {
 
 /* A hex reader, without its image and map. */
 typedef struct gremolunde_hex {
+    uint32_t board;   /* GREMOLUNDE_SHORT or GREMOLUNDE_LONG; any other value is 65 */
     uint32_t linear;  /* the linear base */
     uint32_t segment; /* the segment base */
     uint8_t ended;    /* flag: the end record was read */
@@ -80,6 +90,7 @@ enum { GREMOLUNDE_RESET = 0, GREMOLUNDE_JUMP = 1, GREMOLUNDE_HOLD = 2 };
  * GREMOLUNDE_JUMP, valid with GREMOLUNDE_HOLD) came from none either: asking what is proved gives 46, its outcome and
  * its log record are 45, and a step is 44. */
 typedef struct gremolunde_session {
+    uint32_t board;        /* GREMOLUNDE_SHORT or GREMOLUNDE_LONG; any other value is 65, its outcome 45 */
     uint32_t run;          /* GREMOLUNDE_RESET, GREMOLUNDE_JUMP or GREMOLUNDE_HOLD; any other value is hold */
     uint32_t phase;        /* GREMOLUNDE_GREETING to GREMOLUNDE_ENDED */
     uint32_t page;         /* of GREMOLUNDE_ERASE, else 0 */
@@ -119,10 +130,11 @@ typedef struct gremolunde_hex_read {
     gremolunde_hex reader;
 } gremolunde_hex_read;
 
-/* The address to go on from, and how many characters were written. */
+/* The address to go on from, the upper half to go on with, and how many characters were written. */
 typedef struct gremolunde_hex_written {
     uint32_t number;
     uint32_t next;
+    uint16_t upper;
     size_t length;
 } gremolunde_hex_written;
 
@@ -175,71 +187,80 @@ gremolunde_loader gremolunde_loader_new(void);
 /* A reset: waiting, an open protect sequence dropped, protection and key kept; flash stays too. */
 gremolunde_loader gremolunde_loader_reset(gremolunde_loader loader);
 
-/* Takes one input. 20, 11, 1, 2 with no answer; 3 to 10 with the answer BEL 07, so that `answered` is 1 and the
- * answer's first byte is written. Flash stays on every refusal. */
-gremolunde_taken gremolunde_loader_take(gremolunde_loader loader, const uint8_t *input, size_t input_length,
-                                        uint8_t *flash, size_t flash_length, uint8_t *answer, size_t answer_length);
+/* Takes one input of a loader on a board. 65, 20, 11, 1, 2 with no answer; 3 to 10 with the answer BEL 07, so that
+ * `answered` is 1 and the answer's first byte is written. Flash stays on every refusal. */
+gremolunde_taken gremolunde_loader_take(uint32_t board, gremolunde_loader loader, const uint8_t *input,
+                                        size_t input_length, uint8_t *flash, size_t flash_length, uint8_t *answer,
+                                        size_t answer_length);
 
-/* Starts a file: fills image with 0xFF and map with 0. 20 wrong sizes. */
-gremolunde_hex_read gremolunde_hex_start(uint8_t *image, size_t image_length, uint8_t *map, size_t map_length);
+/* Starts a file for a board: fills image with 0xFF and map with 0. 65 unknown board, 20 wrong sizes; the reader is
+ * then all 0. */
+gremolunde_hex_read gremolunde_hex_start(uint32_t board, uint8_t *image, size_t image_length, uint8_t *map,
+                                         size_t map_length);
 
-/* Takes one record, its line end removed. 20 to 30. Of the types 01 to 05, BB is 0 for 01, 2 for 02 and 04, 4 for 03
- * and 05, whose start address is checked and ignored; AAAA is 0 for all five, else 28. The column of 22 is 0, that of
- * 23 and 25 `line_length`, of 24 the first character behind the colon that is no digit, of 26 the checksum's first
+/* Takes one record, its line end removed. 65, 20 to 30. Of the types 01 to 05, BB is 0 for 01, 2 for 02 and 04, 4 for
+ * 03 and 05, whose start address is checked and ignored; AAAA is 0 for all five, else 28. The column of 22 is 0, that
+ * of 23 and 25 `line_length`, of 24 the first character behind the colon that is no digit, of 26 the checksum's first
  * digit, of 27 the type's (7), of 28 the count's (1) if the count is wrong, else the address's (3); other refusals
  * have column 0. */
 gremolunde_hex_read gremolunde_hex_record(gremolunde_hex reader, const uint8_t *line, size_t line_length,
                                           uint8_t *image, size_t image_length, uint8_t *map, size_t map_length);
 
-/* Closes a file. 31 no end record, 32 no data byte taken. */
+/* Closes a file. 65 unknown board, 31 no end record, 32 no data byte taken. */
 gremolunde_hex_read gremolunde_hex_close(gremolunde_hex reader);
 
-/* Writes the next record from an address. 20 wrong sizes, 33 buffer under 44; a refusal hands the address back. After
- * the end record `next` is 0xF801, from where nothing more is written. */
-gremolunde_hex_written gremolunde_hex_write(const uint8_t *image, size_t image_length, const uint8_t *map,
-                                            size_t map_length, uint32_t from, uint8_t *buffer,
-                                            size_t buffer_length);
+/* Writes the next record from an address. `upper` is the upper half that the last 04 record set, 0 at first. Where the
+ * next data record lies in another it is a 04 record that sets it: `upper` is then the new one and `next` the address
+ * that was given. All else hands `upper` back. 65 unknown board, 20 wrong sizes, 33 buffer under 44; a refusal hands
+ * the address back too. After the end record `next` is one past the board's bytes (0xF801 or 0x1F001), from where
+ * nothing more is written. */
+gremolunde_hex_written gremolunde_hex_write(uint32_t board, const uint8_t *image, size_t image_length,
+                                            const uint8_t *map, size_t map_length, uint32_t from, uint16_t upper,
+                                            uint8_t *buffer, size_t buffer_length);
 
-/* Starts a session of a run kind: writes the single byte 08. 20 wrong sizes, 32 nothing named; the session is then
- * all 0. */
-gremolunde_session_stepped gremolunde_session_start(uint32_t run, const uint8_t *image, size_t image_length,
-                                                    const uint8_t *map, size_t map_length, uint8_t *buffer,
-                                                    size_t buffer_length);
+/* Starts a session of a run kind for a board: writes the single byte 08. 65 unknown board, 20 wrong sizes, 32 nothing
+ * named; the session is then all 0. */
+gremolunde_session_stepped gremolunde_session_start(uint32_t board, uint32_t run, const uint8_t *image,
+                                                    size_t image_length, const uint8_t *map, size_t map_length,
+                                                    uint8_t *buffer, size_t buffer_length);
 
-/* Takes one event: an answer, or silence where the flag `silent` is set, whatever the answer. 20 wrong sizes, 44 after
- * the end, 46 not this file's session. The endings 0, 1 and 40 to 43 are no refusals: see gremolunde_session_outcome.
- * With GREMOLUNDE_HOLD the ACK to the last V ends with 1, else the ACK to R with 0. */
+/* Takes one event: an answer, or silence where the flag `silent` is set, whatever the answer. 65 unknown board, 20
+ * wrong sizes, 44 after the end, 46 not this file's session. A greeting of the other board ends with 42. The endings
+ * 0, 1 and 40 to 43 are no refusals: see gremolunde_session_outcome. With GREMOLUNDE_HOLD the ACK to the last V ends
+ * with 1, else the ACK to R with 0. */
 gremolunde_session_stepped gremolunde_session_step(gremolunde_session session, uint8_t silent,
                                                    const uint8_t *answer, size_t answer_length,
                                                    const uint8_t *image, size_t image_length, const uint8_t *map,
                                                    size_t map_length, uint8_t *buffer, size_t buffer_length);
 
-/* Whether the byte at an address is marked proved: the V that holds it was acknowledged. 20 map of another size, 46 no
- * start and events over this map lead to such a session. A record keeps counts and where it stands, no map and no
- * bytes: two files with one map are never told apart, and two maps with the same number of packets and of named bytes
- * only at E, W and V, by the page or the address. So ask with the map that the session was started over. */
+/* Whether the byte at an address is marked proved: the V that holds it was acknowledged. 65 unknown board, 20 map of
+ * another size, 46 no start and events over this map lead to such a session. A record keeps counts and where it
+ * stands, no map and no bytes: two files with one map are never told apart, and two maps with the same number of
+ * packets and of named bytes only at E, W and V, by the page or the address. So ask with the map that the session was
+ * started over. */
 gremolunde_session_mark gremolunde_session_proved(gremolunde_session session, const uint8_t *map, size_t map_length,
                                                   uint32_t address);
 
 /* How a session ended: 0 valid, 1 verified and held, 40 silence, 41 BEL, 42 no greeting, 43 other bytes or none; 45
- * unfinished, or ended otherwise than its run kind can. */
+ * unfinished, of an unknown board, or ended otherwise than its run kind can. */
 uint32_t gremolunde_session_outcome(gremolunde_session session);
 
-/* Writes the log record of a session that has ended. 45 unfinished, ended otherwise than its run kind can or counts
- * that make no record, 20 buffer under 10. */
+/* Writes the log record of a session that has ended: version 1, 10 bytes, for the short board, version 2, 16 bytes,
+ * for the long one. 65 unknown board, 45 unfinished, ended otherwise than its run kind can or counts that make no
+ * record, 20 buffer under 10 or 16. */
 gremolunde_length gremolunde_log_write(gremolunde_session session, uint8_t *buffer, size_t buffer_length);
 
-/* Reads a log record. 50 to 53. */
+/* Reads a log record of either version. 50 to 53. */
 gremolunde_log gremolunde_log_read(const uint8_t *input, size_t input_length);
 
-/* Rehearses a whole load of the file into the flash: the loader is reset, a session of the run kind started, and
- * exchange follows exchange until the session has ended. Each byte of `losses` tells what befalls one exchange: 0
- * nothing, 1 the packet is lost, any other value the answer is lost; past their end nothing is lost. 20 wrong sizes,
- * 32 nothing named; the session is then all 0. */
-gremolunde_rehearsal gremolunde_rehearse(uint32_t run, gremolunde_loader loader, const uint8_t *losses,
-                                         size_t losses_length, const uint8_t *image, size_t image_length,
-                                         const uint8_t *map, size_t map_length, uint8_t *flash,
-                                         size_t flash_length);
+/* Rehearses a whole load of the file into the flash of a board: the loader is reset, a session of the run kind
+ * started, and exchange follows exchange until the session has ended. Each byte of `losses` tells what befalls one
+ * exchange: 0 nothing, 1 the packet is lost, any other value the answer is lost; past their end nothing is lost. 65
+ * unknown board, 20 wrong sizes, 32 nothing named; the session is then all 0. */
+gremolunde_rehearsal gremolunde_rehearse(uint32_t board, uint32_t run, gremolunde_loader loader,
+                                         const uint8_t *losses, size_t losses_length, const uint8_t *image,
+                                         size_t image_length, const uint8_t *map, size_t map_length,
+                                         uint8_t *flash, size_t flash_length);
 
 #ifdef __cplusplus
 }

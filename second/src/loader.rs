@@ -1,20 +1,18 @@
 //! The loader: packets to answers, flash and protection.
 
+use std::cmp::Ordering;
 use std::ops::Range;
 
 use crate::packet::{self, Command};
 use crate::refusal::Refusal;
-use crate::units::{ByteAddress, Page, FLASH_BYTES, FLASH_END, PAGES};
+use crate::units::{Board, ByteAddress, Page, GREETING_BYTES};
 
 pub const BACKSPACE: u8 = 0x08;
 pub const ACK: u8 = 0x06;
 pub const BEL: u8 = 0x07;
-pub const GREETING: &[u8; 24] = b"ADuC702x   -62 I31    \n\r";
 pub const NO_KEY: u32 = 0xFFFF_FFFF;
 
 const ERASED: u8 = 0xFF;
-/// Addresses from the end of flash to here stand for read protection.
-const READ_PROTECTION_LAST: u32 = 0xFFFF;
 
 #[derive(Clone, Copy, Debug, PartialEq, Eq)]
 pub enum Condition {
@@ -31,15 +29,15 @@ pub struct Protection {
 }
 
 impl Protection {
-    /// What a P packet of type 0x0F adds.
-    fn named_by(address: u32) -> Result<Protection, Refusal> {
+    /// What a P packet of type 0x0F adds; read protection is addressed like a
+    /// group behind the last.
+    fn named_by(board: Board, address: u32) -> Result<Protection, Refusal> {
         let mut named = Protection::default();
-        if address < FLASH_END {
-            named.groups = 1 << ByteAddress(address).group().0;
-        } else if address <= READ_PROTECTION_LAST {
-            named.read = true;
-        } else {
-            return Err(Refusal::Address);
+        let group = ByteAddress(address).group().0;
+        match group.cmp(&board.groups()) {
+            Ordering::Less => named.groups = 1 << group,
+            Ordering::Equal => named.read = true,
+            Ordering::Greater => return Err(Refusal::Address),
         }
         Ok(named)
     }
@@ -84,40 +82,42 @@ impl Loader {
         self.sequence = None;
     }
 
-    /// Takes one input and gives the length of the answer written.
+    /// Takes one input on a board and gives the length of the answer written.
     /// An answered refusal has written the single BEL.
     pub fn take(
         &mut self,
+        board: Board,
         input: &[u8],
         flash: &mut [u8],
         answer: &mut [u8],
     ) -> Result<usize, Refusal> {
-        if flash.len() != FLASH_BYTES || answer.len() < GREETING.len() {
+        if flash.len() != board.flash_bytes() || answer.len() < GREETING_BYTES {
             return Err(Refusal::Size);
         }
         match self.condition {
             Condition::Left => Err(Refusal::NotServing),
-            Condition::Waiting => self.greet(input, answer),
-            Condition::Serving => self.serve(input, flash, answer),
+            Condition::Waiting => self.greet(board, input, answer),
+            Condition::Serving => self.serve(board, input, flash, answer),
         }
     }
 
-    fn greet(&mut self, input: &[u8], answer: &mut [u8]) -> Result<usize, Refusal> {
+    fn greet(&mut self, board: Board, input: &[u8], answer: &mut [u8]) -> Result<usize, Refusal> {
         if input != [BACKSPACE] {
             return Err(Refusal::NotServing);
         }
         self.condition = Condition::Serving;
-        answer[..GREETING.len()].copy_from_slice(GREETING);
-        Ok(GREETING.len())
+        answer[..GREETING_BYTES].copy_from_slice(board.greeting());
+        Ok(GREETING_BYTES)
     }
 
     fn serve(
         &mut self,
+        board: Board,
         input: &[u8],
         flash: &mut [u8],
         answer: &mut [u8],
     ) -> Result<usize, Refusal> {
-        match self.obey(input, flash) {
+        match self.obey(board, input, flash) {
             Ok(()) => {
                 answer[0] = ACK;
                 Ok(1)
@@ -131,15 +131,15 @@ impl Loader {
         }
     }
 
-    fn obey(&mut self, input: &[u8], flash: &mut [u8]) -> Result<(), Refusal> {
+    fn obey(&mut self, board: Board, input: &[u8], flash: &mut [u8]) -> Result<(), Refusal> {
         let packet = packet::read(input)?;
         let data = &input[packet.place..packet.place + packet.length];
         self.check_sequence(packet.command, data)?;
         match packet.command {
-            Command::Erase => self.erase(packet.address, data[0], flash),
-            Command::Write => self.write(packet.address, data, flash),
-            Command::Verify => self.verify(packet.address, data, flash),
-            Command::Protect => self.protect(packet.address, data[0]),
+            Command::Erase => self.erase(board, packet.address, data[0], flash),
+            Command::Write => self.write(board, packet.address, data, flash),
+            Command::Verify => self.verify(board, packet.address, data, flash),
+            Command::Protect => self.protect(board, packet.address, data[0]),
             Command::Run => self.run(packet.address),
         }
     }
@@ -154,12 +154,18 @@ impl Loader {
         }
     }
 
-    fn erase(&mut self, address: u32, count: u8, flash: &mut [u8]) -> Result<(), Refusal> {
+    fn erase(
+        &mut self,
+        board: Board,
+        address: u32,
+        count: u8,
+        flash: &mut [u8],
+    ) -> Result<(), Refusal> {
         if address == 0 && count == 0 {
             self.mass_erase(flash);
             return Ok(());
         }
-        let part = pages(address, count)?;
+        let part = pages(board, address, count)?;
         self.check_change(&part)?;
         flash[indices(&part)].fill(ERASED);
         Ok(())
@@ -171,8 +177,14 @@ impl Loader {
         self.key = NO_KEY;
     }
 
-    fn write(&mut self, address: u32, data: &[u8], flash: &mut [u8]) -> Result<(), Refusal> {
-        let part = bytes(address, data.len())?;
+    fn write(
+        &mut self,
+        board: Board,
+        address: u32,
+        data: &[u8],
+        flash: &mut [u8],
+    ) -> Result<(), Refusal> {
+        let part = bytes(board, address, data.len())?;
         self.check_change(&part)?;
         for (old, new) in flash[indices(&part)].iter_mut().zip(data) {
             *old &= new;
@@ -180,8 +192,14 @@ impl Loader {
         Ok(())
     }
 
-    fn verify(&self, address: u32, data: &[u8], flash: &[u8]) -> Result<(), Refusal> {
-        let part = bytes(address, data.len())?;
+    fn verify(
+        &self,
+        board: Board,
+        address: u32,
+        data: &[u8],
+        flash: &[u8],
+    ) -> Result<(), Refusal> {
+        let part = bytes(board, address, data.len())?;
         if self.protection.read {
             return Err(Refusal::Protected);
         }
@@ -193,9 +211,11 @@ impl Loader {
         }
     }
 
-    fn protect(&mut self, address: u32, kind: u8) -> Result<(), Refusal> {
+    fn protect(&mut self, board: Board, address: u32, kind: u8) -> Result<(), Refusal> {
         self.sequence = match (self.sequence, kind) {
-            (Some(added), packet::ADD) => Some(added.joined(Protection::named_by(address)?)),
+            (Some(added), packet::ADD) => {
+                Some(added.joined(Protection::named_by(board, address)?))
+            }
             (Some(added), _) => {
                 self.protection = self.protection.joined(added);
                 self.key = address;
@@ -224,19 +244,19 @@ impl Loader {
 }
 
 /// The part of flash that E names.
-fn pages(address: u32, count: u8) -> Result<Range<u32>, Refusal> {
+fn pages(board: Board, address: u32, count: u8) -> Result<Range<u32>, Refusal> {
     let first = ByteAddress(address).page();
     let end = Page(first.0 + u32::from(count));
-    if count == 0 || address >= FLASH_END || end.0 > PAGES {
+    if count == 0 || address >= board.flash_end() || end.0 > board.pages() {
         return Err(Refusal::Address);
     }
     Ok(first.start().0..end.start().0)
 }
 
 /// The part of flash that W or V names.
-fn bytes(address: u32, length: usize) -> Result<Range<u32>, Refusal> {
+fn bytes(board: Board, address: u32, length: usize) -> Result<Range<u32>, Refusal> {
     let end = u64::from(address) + length as u64;
-    if end > u64::from(FLASH_END) {
+    if end > u64::from(board.flash_end()) {
         return Err(Refusal::Address);
     }
     Ok(address..end as u32)

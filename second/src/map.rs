@@ -4,12 +4,12 @@ use std::iter;
 
 use crate::packet::PIECE;
 use crate::refusal::Refusal;
-use crate::units::{ByteAddress, Page, FLASH_END, MAP_BYTES, PAGE_BYTES};
+use crate::units::{Board, ByteAddress, Page};
 
 const WORD_BITS: u32 = u64::BITS;
 const PIECE_BITS: u32 = PIECE as u32;
 
-/// A map of the right size.
+/// A map of its board's size.
 #[derive(Clone, Copy)]
 pub struct Map<'a>(&'a [u8]);
 
@@ -75,68 +75,111 @@ fn bits(word: u64) -> impl Iterator<Item = u32> {
     left.map(u64::trailing_zeros)
 }
 
-/// One bit for each page that holds a named byte.
+/// The pages that hold a named byte, one bit a page, in two halves; no board
+/// has a page for the last bit.
 #[derive(Clone, Copy, Debug, Default, PartialEq, Eq)]
-pub struct Pages(u128);
+pub struct Pages([u128; 2]);
+
+const HALF_BITS: u32 = u128::BITS;
 
 impl Pages {
     fn runs(self) -> u32 {
-        self.starts().count_ones()
+        self.starts().count()
     }
 
     /// The first page of the lowest run.
-    pub fn first(self) -> Page {
-        Page(self.0.trailing_zeros())
+    pub fn first(self) -> Option<Page> {
+        self.from(Page(0))
     }
 
     /// The index, counted from 0, of the maximal run that starts here.
     pub fn run_index(self, first: Page) -> Option<u32> {
-        let bit = 1u128.checked_shl(first.0)?;
-        (self.starts() & bit != 0).then(|| (self.starts() & (bit - 1)).count_ones())
+        let starts = self.starts();
+        starts.holds(first).then(|| starts.below(first).count())
     }
 
     /// The first page of each run, ascending.
     pub fn run_starts(self) -> impl Iterator<Item = Page> {
-        let lowest = (self.0 != 0).then(|| self.first());
-        iter::successors(lowest, move |first| self.run_after(*first))
+        iter::successors(self.first(), move |first| self.run_after(*first))
     }
 
     /// The first page of the next run above.
     pub fn run_after(self, first: Page) -> Option<Page> {
-        let above = self.starts() & (u128::MAX << first.0 << 1);
-        (above != 0).then(|| Page(above.trailing_zeros()))
+        self.starts().from(Page(first.0 + 1))
     }
 
     pub fn run_length(self, first: Page) -> u8 {
-        (self.0 >> first.0).trailing_ones() as u8
+        let others = Pages(self.0.map(|half| !half));
+        let end = others.from(first).map_or(first.0, |page| page.0);
+        (end - first.0) as u8
     }
 
-    fn starts(self) -> u128 {
-        self.0 & !(self.0 << 1)
+    fn starts(self) -> Pages {
+        let [low, high] = self.0;
+        let carried = low >> (HALF_BITS - 1);
+        Pages([low & !(low << 1), high & !(high << 1 | carried)])
+    }
+
+    fn count(self) -> u32 {
+        self.0.iter().map(|half| half.count_ones()).sum()
+    }
+
+    fn add(&mut self, page: Page) {
+        self.0[(page.0 / HALF_BITS) as usize] |= 1 << (page.0 % HALF_BITS);
+    }
+
+    fn holds(self, page: Page) -> bool {
+        let half = self.0.get((page.0 / HALF_BITS) as usize);
+        half.is_some_and(|half| half >> (page.0 % HALF_BITS) & 1 != 0)
+    }
+
+    fn below(self, page: Page) -> Pages {
+        let [low, high] = self.0;
+        let above = |start: u32| match page.0.checked_sub(start) {
+            Some(bits) => u128::MAX.checked_shl(bits).unwrap_or(0),
+            None => u128::MAX,
+        };
+        Pages([low & !above(0), high & !above(HALF_BITS)])
+    }
+
+    /// The lowest of them from here on.
+    fn from(self, page: Page) -> Option<Page> {
+        let below = self.below(page);
+        match [self.0[0] ^ below.0[0], self.0[1] ^ below.0[1]] {
+            [0, 0] => None,
+            [0, high] => Some(Page(HALF_BITS + high.trailing_zeros())),
+            [low, _] => Some(Page(low.trailing_zeros())),
+        }
     }
 }
 
 impl<'a> Map<'a> {
-    pub fn new(bytes: &'a [u8]) -> Result<Map<'a>, Refusal> {
-        if bytes.len() == MAP_BYTES {
+    pub fn new(board: Board, bytes: &'a [u8]) -> Result<Map<'a>, Refusal> {
+        if bytes.len() == board.map_bytes() {
             Ok(Map(bytes))
         } else {
             Err(Refusal::Size)
         }
     }
 
+    /// The first address that has no bit.
+    fn end(self) -> u32 {
+        self.0.len() as u32 * u8::BITS
+    }
+
     pub fn names(self, address: u32) -> bool {
-        address < FLASH_END && self.0[address as usize / 8] >> (address % 8) & 1 != 0
+        let byte = self.0.get(address as usize / 8);
+        byte.is_some_and(|byte| byte >> (address % 8) & 1 != 0)
     }
 
     /// The lowest named address from here on.
     pub fn next_named(self, from: u32) -> Option<u32> {
-        self.next_where(from, FLASH_END, |word| word)
+        self.next_where(from, self.end(), |word| word)
     }
 
     /// How many bytes from here on are named without a gap, up to a limit.
     pub fn run_length(self, start: u32, limit: u32) -> u32 {
-        let end = FLASH_END.min(start + limit);
+        let end = self.end().min(start + limit);
         self.next_where(start, end, |word| !word).unwrap_or(end) - start
     }
 
@@ -146,7 +189,7 @@ impl<'a> Map<'a> {
             named: 0,
             pieces: 0,
             pages: Pages::default(),
-            first: FLASH_END,
+            first: self.end(),
             sought: Sought::default(),
         };
         let mut sweep = Sweep::default();
@@ -164,7 +207,7 @@ impl<'a> Map<'a> {
             }
             survey.named += word.count_ones();
             survey.pieces += starts.count_ones();
-            survey.pages.0 |= 1 << (base / PAGE_BYTES);
+            survey.pages.add(ByteAddress(base).page());
         }
         survey
     }

@@ -51,6 +51,8 @@ pub enum Refusal {
     LogVersion = 52,
     /// A false log record.
     LogFalse = 53,
+    /// A number of pages that no board has.
+    UnknownBoard = 65,
 }
 
 impl Refusal {

@@ -1,11 +1,52 @@
-//! Sizes, and the three kinds of number that are never mixed.
+//! Boards with their sizes, and the three kinds of number that are never mixed.
 
 pub const PAGE_BYTES: u32 = 512;
 pub const GROUP_BYTES: u32 = 0x800;
-pub const PAGES: u32 = 124;
-pub const FLASH_END: u32 = PAGES * PAGE_BYTES;
-pub const FLASH_BYTES: usize = FLASH_END as usize;
-pub const MAP_BYTES: usize = FLASH_BYTES / 8;
+pub const GREETING_BYTES: usize = 24;
+
+/// A controller; every limit follows from its number of pages.
+#[derive(Clone, Copy, Debug, PartialEq, Eq)]
+pub enum Board {
+    Short,
+    Long,
+}
+
+impl Board {
+    pub const ALL: [Board; 2] = [Board::Short, Board::Long];
+
+    pub const fn pages(self) -> u32 {
+        match self {
+            Board::Short => 124,
+            Board::Long => 248,
+        }
+    }
+
+    /// The first address behind flash.
+    pub const fn flash_end(self) -> u32 {
+        self.pages() * PAGE_BYTES
+    }
+
+    /// The size of flash, and of an image.
+    pub const fn flash_bytes(self) -> usize {
+        self.flash_end() as usize
+    }
+
+    /// The size of a map, one bit an address.
+    pub const fn map_bytes(self) -> usize {
+        self.flash_bytes() / 8
+    }
+
+    pub const fn groups(self) -> u32 {
+        self.flash_end() / GROUP_BYTES
+    }
+
+    pub const fn greeting(self) -> &'static [u8; GREETING_BYTES] {
+        match self {
+            Board::Short => b"ADuC702x   -62 I31    \n\r",
+            Board::Long => b"ADuC702x   -124I31    \n\r",
+        }
+    }
+}
 
 #[derive(Clone, Copy, Debug, PartialEq, Eq, PartialOrd, Ord)]
 pub struct ByteAddress(pub u32);

@@ -5,4 +5,5 @@ pub mod Lists
 pub mod Sums
 pub mod Bits
 pub mod Units
+pub mod Boards
 pub mod RunKinds

@@ -4,6 +4,8 @@ use mathlib.Core.Bool.{Bool}
 use mathlib.Core.List.{List, [], _∷_}
 use lib.ListN.{length}
 use Rattle.basis.specs.Choice.{pick}
+use Rattle.basis.specs.declared.board.Board.{Board}
+use Rattle.basis.specs.declared.board.Known.{Known}
 
 -- refused with the paper's number, or given
 pub data Answer (A : Type 0) : Type 0 where
@@ -23,6 +25,11 @@ n when t = record { number = n; holds = t }
 unfoldable pub first : {A : Type 0} → List Rule → Answer A → Answer A
 first [] r = r
 first (x ∷ l) r = pick (x .holds) (refused (x .number)) (first l r)
+
+-- 65 where there is no such board, else as told for it
+abbrev pub onBoard : {A : Type 0} → Known → (Board → Answer A) → Answer A
+onBoard Known.Unknown f = refused 65
+onBoard (Known.Board b) f = f b
 
 -- what a check refuses is refused; what it passes goes on
 abbrev pub andThen : {A : Type 0} → Answer (Unit {0}) → Answer A → Answer A

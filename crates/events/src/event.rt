@@ -1,10 +1,11 @@
 // What comes back from the board, as an event: an answer's bytes, or silence.
 ghost use mathlib.Core.Path.{_≡_};
+ghost use Rattle.basis.specs.Board.{pagesOf};
 ghost use Rattle.events.specs.Events.{sameOf, greetsOf, classifyOf};
 use basis::board::ACK;
 use basis::board::ANSWER;
 use basis::board::BEL;
-use basis::board::GREETING;
+use basis::board::Board;
 
 pub enum Event {
     Greeting,
@@ -16,13 +17,13 @@ pub enum Event {
 }
 
 // Where `silent` no answer came, and `answer` counts for nothing.
-pub fn classify(silent: bool, answer: &[u8]) -> Event
-    ensures { λ r. ⌜ r ≡ classifyOf silent (now (answer .entry)) ⌝ }
+pub fn classify(board: Board, silent: bool, answer: &[u8]) -> Event
+    ensures { λ r. ⌜ r ≡ classifyOf (pagesOf board) silent (now (answer .entry)) ⌝ }
 {
     if silent {
         return Event::Silence;
     }
-    if greets(answer) {
+    if greets(board, answer) {
         return Event::Greeting;
     }
     if same(answer, &[ACK]) {
@@ -34,17 +35,18 @@ pub fn classify(silent: bool, answer: &[u8]) -> Event
     Event::Other
 }
 
-// Between its first fifteen bytes and its last two a greeting is free: boards differ there.
-fn greets(answer: &[u8]) -> bool
-    ensures { λ r. ⌜ r ≡ greetsOf (now (answer .entry)) ⌝ }
+// Between its first fifteen bytes and its last two a greeting is free; the first fifteen tell the board.
+fn greets(board: Board, answer: &[u8]) -> bool
+    ensures { λ r. ⌜ r ≡ greetsOf (pagesOf board) (now (answer .entry)) ⌝ }
 {
+    let greeting = board.greeting();
     if answer.len() != ANSWER {
         return false;
     }
-    if !same(&answer[..15], &GREETING[..15]) {
+    if !same(&answer[..15], &greeting[..15]) {
         return false;
     }
-    same(&answer[22..], &GREETING[22..])
+    same(&answer[22..], &greeting[22..])
 }
 
 fn same(a: &[u8], b: &[u8]) -> bool

@@ -43,22 +43,23 @@ takenAnswer s (given u) next k = record { number = 0; answered = k; loader = loa
 
 -- the hex reader; before a start there is none
 abbrev pub noReader : HexState
-noReader = record { linear = 0; segment = 0; ended = 0; taken = 0 }
+noReader = record { board = 0; linear = 0; segment = 0; ended = 0; taken = 0 }
 
--- a refusal has a column, 0 where there is none
-abbrev pub hexAnswer : HexState → Pointed Hex → HexRead
-hexAnswer s (wrong n c) = record { number = n; column = c; reader = s }
-hexAnswer s (right h) = record { number = 0; column = 0; reader = hexShown h }
+-- the next one is for the same board; a refusal has a column, 0 where there is none
+abbrev pub hexAnswer : HexState → ℕ → Pointed Hex → HexRead
+hexAnswer s board (wrong n c) = record { number = n; column = c; reader = s }
+hexAnswer s board (right h) = record { number = 0; column = 0; reader = hexShown board h }
 
--- the address to go on from; a refusal hands it back
-abbrev pub writtenAnswer : ℕ → Answer Measured → HexWritten
-writtenAnswer a (refused n) = record { number = n; next = a; length = 0 }
-writtenAnswer a (given t) = record { number = 0; next = t .next; length = t .length }
+-- the address to go on from and the upper half to go on with; a refusal hands both back
+abbrev pub writtenAnswer : ℕ → ℕ → Answer Measured → HexWritten
+writtenAnswer a u (refused n) = record { number = n; next = a; upper = u; length = 0 }
+writtenAnswer a u (given t) = record { number = 0; next = t .next; upper = t .upper; length = t .length }
 
 -- the session; before a start there is none
 abbrev pub noSession : SessionState
 noSession =
     record {
+      board = 0;
       run = 0;
       phase = 0;
       page = 0;

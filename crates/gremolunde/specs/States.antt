@@ -60,13 +60,20 @@ loaderShown l =
       «added_read» = flagOf (l .sequence .added .read);
     }
 
+-- the board that a hex reader carries stands beside what it has read
 abbrev pub hexMeant : HexState → Hex
 hexMeant s =
     record { linear = s .linear; segment = s .segment; ended = isSet (s .ended); taken = isSet (s .taken) }
 
-abbrev pub hexShown : Hex → HexState
-hexShown h =
-    record { linear = h .linear; segment = h .segment; ended = flagOf (h .ended); taken = flagOf (h .taken) }
+abbrev pub hexShown : ℕ → Hex → HexState
+hexShown board h =
+    record {
+      board = board;
+      linear = h .linear;
+      segment = h .segment;
+      ended = flagOf (h .ended);
+      taken = flagOf (h .taken);
+    }
 
 -- a phase that no file has: its page lies past every board
 abbrev pub nowhere : Phase
@@ -129,6 +136,7 @@ outcomeShown (Phase.Ended o) = paperOutcome o
 abbrev pub sessionMeant : SessionState → Session
 sessionMeant s =
     record {
+      board = s .board;
       kind = kindOf (s .run);
       phase = phaseMeant (s .phase) (s .page) (s .address) (s .outcome);
       acknowledged = s .acknowledged;
@@ -139,6 +147,7 @@ sessionMeant s =
 abbrev pub sessionShown : Session → SessionState
 sessionShown s =
     record {
+      board = s .board;
       run = paperKind (s .kind);
       phase = phaseShown (s .phase);
       page = pageShown (s .phase);

@@ -1,8 +1,11 @@
-// What several answers to C have in common: a length, and a flag as a byte.
+// What several answers to C have in common: the number of an unknown board, a length, and a flag as a byte.
 ghost use mathlib.Core.Path.{_≡_};
 ghost use Rattle.basis.specs.Refusals.{refused};
 ghost use Rattle.gremolunde.specs.Answers.{lengthAnswer};
 ghost use Rattle.gremolunde.specs.States.{flagOf};
+
+// There is no board of so many pages.
+pub const UNKNOWN_BOARD: u32 = 65;
 
 // How many bytes were written.
 #[repr(C)]

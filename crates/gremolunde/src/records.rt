@@ -1,7 +1,6 @@
 // The service log for C.
 ghost use mathlib.Core.Path.{_≡_};
 ghost use lib.ListN.{length};
-ghost use Rattle.basis.specs.Board.{pages};
 ghost use Rattle.basis.specs.Lists.{overlay};
 ghost use Rattle.basis.specs.Refusals.{counted, written};
 ghost use Rattle.gremolunde.specs.Answers.{lengthAnswer, recordAnswer};
@@ -31,7 +30,7 @@ pub struct LogRecord {
 #[no_mangle]
 pub extern "C" fn gremolunde_log_write(session: SessionState, buffer: &mut [u8]) -> Length
     ensures { λ r. ⌜
-        (let b = writeOf pages (length (now (buffer .entry))) (sessionMeant session) in
+        (let b = writeOf (length (now (buffer .entry))) (sessionMeant session) in
         (r ≡ lengthAnswer (counted b)) × (now (buffer .exit) ≡ overlay (written b) (now (buffer .entry))))
         ⌝ }
 {
@@ -49,7 +48,7 @@ fn logged_answer(answer: Written) -> Length
 
 #[no_mangle]
 pub extern "C" fn gremolunde_log_read(input: &[u8]) -> LogRecord
-    ensures { λ r. ⌜ r ≡ recordAnswer (readOf pages (now (input .entry))) ⌝ }
+    ensures { λ r. ⌜ r ≡ recordAnswer (readOf (now (input .entry))) ⌝ }
 {
     record_answer(read(input))
 }

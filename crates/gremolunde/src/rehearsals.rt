@@ -1,7 +1,9 @@
 // A rehearsal for C: a whole load over a line that loses what it is told to.
 ghost use mathlib.Core.Path.{_≡_};
-ghost use Rattle.basis.specs.Board.{pages};
+ghost use Rattle.basis.specs.Board.{pagesOf, boardOf};
+ghost use Rattle.basis.specs.Refusals.{onBoard};
 ghost use Rattle.basis.specs.RunKinds.{kindOf};
+ghost use Rattle.basis.specs.declared.board.Board.{Board};
 ghost use Rattle.gremolunde.specs.Answers.{rehearsedAnswer};
 ghost use Rattle.gremolunde.specs.States.{loaderMeant};
 ghost use Rattle.line.specs.Line.{lossAt, rehearseOf, loaded, leftFlash};
@@ -12,9 +14,12 @@ use crate::states::SessionState;
 use crate::states::loader_meant;
 use crate::states::loader_shown;
 use crate::states::session_shown;
+use basis::board::Board;
+use basis::board::Known;
 use basis::kind::RunKind;
 use line::rehearse::Rehearsed;
 use line::rehearse::rehearse;
+use session::session::Refusal;
 
 // Loader and session at the end; a refusal hands the loader back as it came.
 #[repr(C)]
@@ -26,6 +31,7 @@ pub struct Rehearsal {
 
 #[no_mangle]
 pub extern "C" fn gremolunde_rehearse(
+    board: u32,
     run: u32,
     loader: LoaderState,
     losses: &[u8],
@@ -34,14 +40,21 @@ pub extern "C" fn gremolunde_rehearse(
     flash: &mut [u8],
 ) -> Rehearsal
     ensures { λ r. ⌜
-        (let a = rehearseOf pages (now (image .entry)) (now (map .entry)) (kindOf run) (loaderMeant loader)
-        (lossAt (now (losses .entry))) (now (flash .entry)) in
+        (let a = onBoard (boardOf board) (λ (b : Board).
+        rehearseOf (pagesOf b) (now (image .entry)) (now (map .entry)) (kindOf run) (loaderMeant loader)
+        (lossAt (now (losses .entry))) (now (flash .entry))) in
         (r ≡ rehearsedAnswer loader (loaded a)) × (now (flash .exit) ≡ leftFlash (now (flash .entry)) a))
         ⌝ }
 {
     let kind = RunKind::of(run);
     let meant = loader_meant(loader);
-    rehearsed_answer(loader, rehearse(kind, meant, losses, image, map, flash))
+    match Board::of(board) {
+        Known::Board(known) => {
+            let load = rehearse(known, kind, meant, losses, image, map, flash);
+            rehearsed_answer(loader, load)
+        }
+        Known::Unknown => rehearsed_answer(loader, Rehearsed::Refused(Refusal::Board)),
+    }
 }
 
 fn rehearsed_answer(loader: LoaderState, answer: Rehearsed) -> Rehearsal

@@ -1,22 +1,26 @@
 // The host session for C.
 ghost use mathlib.Core.Path.{_≡_};
 ghost use lib.ListN.{length};
-ghost use Rattle.basis.specs.Board.{pages};
+ghost use Rattle.basis.specs.Board.{pagesOf, boardOf};
 ghost use Rattle.basis.specs.Lists.{overlay};
+ghost use Rattle.basis.specs.Refusals.{onBoard};
 ghost use Rattle.basis.specs.RunKinds.{kindOf};
-ghost use Rattle.events.specs.Events.{classifyOf};
+ghost use Rattle.basis.specs.declared.board.Board.{Board};
 ghost use Rattle.gremolunde.specs.Answers.{noSession, steppedAnswer, markAnswer};
 ghost use Rattle.gremolunde.specs.States.{isSet, sessionMeant};
 ghost use Rattle.service_log.specs.Log.{loggedOutcomeOf};
 ghost use Rattle.session.specs.Paper.{paperStepped, paperMark};
-ghost use Rattle.session.specs.Session.{measured, sentBytes, started, stepOf, provedOf};
+ghost use Rattle.session.specs.Session.{measured, sentBytes, started, stepBy, provedBy};
 use crate::states::SessionState;
 use crate::states::session_meant;
 use crate::states::session_shown;
+use basis::board::Board;
+use basis::board::Known;
 use basis::kind::RunKind;
 use basis::units::Address;
 use service_log::write::logged_outcome;
 use session::session::Mark;
+use session::session::Refusal;
 use session::session::Session;
 use session::session::Stepped;
 
@@ -36,22 +40,28 @@ pub struct SessionMark {
 
 #[no_mangle]
 pub extern "C" fn gremolunde_session_start(
+    board: u32,
     run: u32,
     image: &[u8],
     map: &[u8],
     buffer: &mut [u8],
 ) -> SessionStepped
     ensures { λ r. ⌜
-        (let a = started pages (now (image .entry)) (now (map .entry)) (length (now (buffer .entry)))
-        (kindOf run) in
+        (let a = onBoard (boardOf board) (λ (b : Board).
+        started (pagesOf b) (now (image .entry)) (now (map .entry)) (length (now (buffer .entry)))
+        (kindOf run)) in
         (r ≡ steppedAnswer noSession (measured a))
         × (now (buffer .exit) ≡ overlay (sentBytes a) (now (buffer .entry))))
         ⌝ }
 {
-    stepped_answer(
-        no_session(),
-        Session::start(RunKind::of(run), image, map, buffer),
-    )
+    let kind = RunKind::of(run);
+    match Board::of(board) {
+        Known::Board(known) => {
+            let started = Session::start(known, kind, image, map, buffer);
+            stepped_answer(no_session(), started)
+        }
+        Known::Unknown => stepped_answer(no_session(), Stepped::Refused(Refusal::Board)),
+    }
 }
 
 // What a start that is refused hands back.
@@ -59,6 +69,7 @@ pub fn no_session() -> SessionState
     ensures { λ r. ⌜ r ≡ noSession ⌝ }
 {
     SessionState {
+        board: 0,
         run: 0,
         phase: 0,
         page: 0,
@@ -80,8 +91,8 @@ pub extern "C" fn gremolunde_session_step(
     buffer: &mut [u8],
 ) -> SessionStepped
     ensures { λ r. ⌜
-        (let a = stepOf pages (now (image .entry)) (now (map .entry)) (length (now (buffer .entry)))
-        (sessionMeant session) (classifyOf (isSet silent) (now (answer .entry))) in
+        (let a = stepBy (now (image .entry)) (now (map .entry)) (length (now (buffer .entry)))
+        (sessionMeant session) (isSet silent) (now (answer .entry)) in
         (r ≡ steppedAnswer session (measured a))
         × (now (buffer .exit) ≡ overlay (sentBytes a) (now (buffer .entry))))
         ⌝ }
@@ -116,7 +127,7 @@ pub extern "C" fn gremolunde_session_proved(
     map: &[u8],
     address: u32,
 ) -> SessionMark
-    ensures { λ r. ⌜ r ≡ markAnswer (provedOf pages (now (map .entry)) (sessionMeant session) address) ⌝ }
+    ensures { λ r. ⌜ r ≡ markAnswer (provedBy (now (map .entry)) (sessionMeant session) address) ⌝ }
 {
     let meant = session_meant(session);
     mark_answer(meant.proved(map, Address(address)))
@@ -141,13 +152,11 @@ fn mark_answer(answer: Mark) -> SessionMark
     }
 }
 
-// 0 valid, 1 verified and held, 40 to 43; 45 where the session is unfinished or its ending not its run kind's.
+// 0 valid, 1 verified and held, 40 to 43; 45 where the session is unfinished, its board unknown or its ending not its
+// run kind's.
 #[no_mangle]
 pub extern "C" fn gremolunde_session_outcome(session: SessionState) -> u32
-    ensures { λ r. ⌜ r ≡ loggedOutcomeOf (sessionMeant session .kind) (sessionMeant session .phase) ⌝ }
+    ensures { λ r. ⌜ r ≡ loggedOutcomeOf (sessionMeant session) ⌝ }
 {
-    let meant = session_meant(session);
-    let kind = meant.kind;
-    let phase = meant.phase;
-    logged_outcome(kind, phase) as u32
+    logged_outcome(session_meant(session)) as u32
 }

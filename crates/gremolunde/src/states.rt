@@ -27,18 +27,22 @@ pub struct LoaderState {
     pub added_read: u8,
 }
 
+// `board` is its number of pages.
 #[repr(C)]
 pub struct HexState {
+    pub board: u32,
     pub linear: u32,
     pub segment: u32,
     pub ended: u8,
     pub taken: u8,
 }
 
-// `run` is the run kind: 0 reset, 1 jump, 2 hold, all else is the default, hold. `phase` is 0 for the greeting,
-// 1 to 4 for E, W, V and R, 5 for an end; E uses `page`, W and V `address`, an end `outcome`.
+// `board` is its number of pages. `run` is the run kind: 0 reset, 1 jump, 2 hold, all else is the default, hold.
+// `phase` is 0 for the greeting, 1 to 4 for E, W, V and R, 5 for an end; E uses `page`, W and V `address`, an end
+// `outcome`.
 #[repr(C)]
 pub struct SessionState {
+    pub board: u32,
     pub run: u32,
     pub phase: u32,
     pub page: u32,
@@ -120,10 +124,11 @@ pub fn hex_meant(state: HexState) -> Hex
     }
 }
 
-pub fn hex_shown(reader: Hex) -> HexState
-    ensures { λ r. ⌜ r ≡ hexShown reader ⌝ }
+pub fn hex_shown(board: u32, reader: Hex) -> HexState
+    ensures { λ r. ⌜ r ≡ hexShown board reader ⌝ }
 {
     HexState {
+        board,
         linear: reader.linear,
         segment: reader.segment,
         ended: flag(reader.ended),
@@ -135,6 +140,7 @@ pub fn session_meant(state: SessionState) -> Session
     ensures { λ r. ⌜ r ≡ sessionMeant state ⌝ }
 {
     Session {
+        board: state.board,
         kind: RunKind::of(state.run),
         phase: phase_meant(state),
         acknowledged: state.acknowledged,
@@ -203,6 +209,7 @@ pub fn session_shown(session: Session) -> SessionState
     let kind = session.kind;
     let phase = session.phase;
     SessionState {
+        board: session.board,
         run: kind.number(),
         phase: phase_shown(phase),
         page: page_shown(phase),

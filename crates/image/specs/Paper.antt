@@ -47,7 +47,7 @@ paperRead (read.Refused x column) = wrong (paperRefusal x) column
 abbrev pub Reads : Read.Read → List ℕ → List ℕ → Pointed File → List ℕ → List ℕ → Type 0
 Reads r image′ map′ a image map = settledAs (paperRead r) image′ map′ ≡ settled a image map
 
--- the length of what was written with the address to go on from, or the refusal
+-- the length of what was written with the address and the upper half to go on from, or the refusal
 abbrev pub paperWritten : Written.Written → Answer Measured
 paperWritten (written.Refused x) = refused (paperRefusal x)
-paperWritten (written.Record n a) = given (record { length = n; next = a .0 })
+paperWritten (written.Record n a u) = given (record { length = n; next = a .0; upper = u })

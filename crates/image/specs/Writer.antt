@@ -1,8 +1,8 @@
--- The hex writer: the next record from an address, on a board of `size` bytes.
+-- The hex writer: the next record from an address and an upper half, on a board of `size` bytes.
 use Prim.Native.Nat.{ℕ, _+_, _-_, _/_, _%_}
 use mathlib.Core.Bool.{not}
 use mathlib.Core.List.{List, [], _∷_, _++_}
-use lib.Dec.{ltb, leb}
+use lib.Dec.{eqb, ltb, leb}
 use lib.ListN.{length, take, drop}
 use Rattle.basis.specs.Units.{rightSizesIn}
 use Rattle.basis.specs.Choice.{pick}
@@ -32,55 +32,78 @@ line address kind s = 0x3A ∷ spelt (content address kind s ++ (checksumOf (con
 unfoldable pub text : ℕ → ℕ → List ℕ → List ℕ
 text address kind s = line address kind s ++ (0x0A ∷ [])
 
--- what is written, and the address to go on from
+-- what is written, the address to go on from, and the upper half last written
 pub record Step : Type 0 where
   pub text : List ℕ
   pub next : ℕ
+  pub upper : ℕ
 
-abbrev pub step : List ℕ → ℕ → Step
-step s a = record { text = s; next = a }
+abbrev pub step : List ℕ → ℕ → ℕ → Step
+step s a u = record { text = s; next = a; upper = u }
+
+-- the upper and the lower half of a place
+abbrev pub upperHalf : ℕ → ℕ
+upperHalf a = a / 65536
+
+abbrev pub lowerHalf : ℕ → ℕ
+lowerHalf a = a % 65536
+
+-- the 04 record of an upper half, which is its two bytes
+abbrev pub upperBytes : ℕ → List ℕ
+upperBytes u = u / 256 ∷ u % 256 ∷ []
+
+abbrev pub upperText : ℕ → List ℕ
+upperText u = text 0 4 (upperBytes u)
 
 -- how much of the run at a goes into its record: up to the next multiple of 16
 abbrev pub recordPart : List ℕ → ℕ → ℕ
 recordPart map a = len (named map) a (16 - a % 16)
 
--- the record at a
-abbrev pub recordFrom : List ℕ → List ℕ → ℕ → Step
-recordFrom image map a = step (text a 0 (take (recordPart map a) (drop a image))) (a + recordPart map a)
+-- the data record at place k; AAAA is the lower half
+abbrev pub recordFrom : List ℕ → List ℕ → ℕ → ℕ → Step
+recordFrom image map u k =
+    step (text (lowerHalf k) 0 (take (recordPart map k) (drop k image))) (k + recordPart map k) u
+
+-- the lowest named place from address a on being k: where the upper half changes a 04 record, the address
+-- kept; else the data record
+abbrev pub recordAt : List ℕ → List ℕ → ℕ → ℕ → ℕ → Step
+recordAt image map a u k =
+    pick (eqb (upperHalf k) u) (recordFrom image map u k) (step (upperText (upperHalf k)) a (upperHalf k))
 
 -- the lowest named place from a on, or the board's size
 abbrev pub lowest : ℕ → List ℕ → ℕ → ℕ
 lowest size map a = next (named map) a (size - a)
 
 -- above the board nothing; with no named byte left the end record, and on from one past the board;
--- else the record of the run at the lowest
-unfoldable pub stepFrom : ℕ → List ℕ → List ℕ → ℕ → Step
-stepFrom size image map a =
-    pick (ltb size a) (step [] a)
-    (pick (leb size (lowest size map a)) (step (text 0 1 []) (size + 1))
-    (recordFrom image map (lowest size map a)))
+-- both leave the upper half; else the record at the lowest
+unfoldable pub stepFrom : ℕ → List ℕ → List ℕ → ℕ → ℕ → Step
+stepFrom size image map a u =
+    pick (ltb size a) (step [] a u)
+    (pick (leb size (lowest size map a)) (step (text 0 1 []) (size + 1) u)
+    (recordAt image map a u (lowest size map a)))
 
 -- the room that a record asks for: the characters of 16 bytes, and 0A
 abbrev pub recordRoom : ℕ
 recordRoom = 44
 
 -- writing into a buffer of n bytes: 20, 33, else the next record
-unfoldable pub writeIn : ℕ → List ℕ → List ℕ → ℕ → ℕ → Answer Step
-writeIn size image map a n =
+unfoldable pub writeIn : ℕ → List ℕ → List ℕ → ℕ → ℕ → ℕ → Answer Step
+writeIn size image map a u n =
     first
     (20 when not (rightSizesIn size (length image) (length map))
     ∷ 33 when ltb n recordRoom ∷ [])
-    (given (stepFrom size image map a))
+    (given (stepFrom size image map a u))
 
--- the length of what is written, and the address to go on from
+-- the length of what is written, the address to go on from, and the upper half last written
 pub record Measured : Type 0 where
   pub length : ℕ
   pub next : ℕ
+  pub upper : ℕ
 
 -- what is given of a step
 abbrev pub measured : Answer Step → Answer Measured
 measured (refused n) = refused n
-measured (given s) = given (record { length = length (s .text); next = s .next })
+measured (given s) = given (record { length = length (s .text); next = s .next; upper = s .upper })
 
 -- a refusal writes nothing
 abbrev pub textBytes : Answer Step → List ℕ

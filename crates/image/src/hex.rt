@@ -5,7 +5,8 @@ ghost use mathlib.Core.Bool.{false};
 ghost use Prim.Native.Nat.{ℕ, _+_, _*_, _≤_};
 ghost use lib.ListN.{length, drop};
 ghost use Rattle.basis.specs.Refusals.{given};
-ghost use Rattle.basis.specs.Board.{flashSize, mapSize};
+ghost use Rattle.basis.specs.Board.{pagesOf, pagesMost};
+ghost use Rattle.basis.specs.Units.{startOf};
 ghost use Rattle.image.specs.Digits.{decoded};
 ghost use Rattle.image.specs.Record.{count, kind, shapeOf, pointed, noLine};
 ghost use Rattle.image.specs.Paper.{paperRead, Reads};
@@ -16,10 +17,7 @@ use crate::record::characters;
 use crate::record::framing;
 use crate::record::shape;
 use crate::record::wide;
-use basis::board::END;
-use basis::board::MAP;
-use basis::board::SIZE;
-use basis::board::right_sizes;
+use basis::board::Board;
 use basis::buffers::copy;
 use basis::buffers::fill;
 use basis::buffers::pair_at;
@@ -44,18 +42,19 @@ pub enum Read {
 
 impl Hex {
     // A reader at the start of a file: the image filled with 0xFF, the map with 0.
-    pub fn start(image: &mut [u8], map: &mut [u8]) -> Read
+    pub fn start(board: Board, image: &mut [u8], map: &mut [u8]) -> Read
         ensures { λ r. ⌜
             (let i = now (image .entry) in
             let m = now (map .entry) in
-            Reads r (now (image .exit)) (now (map .exit)) (pointed noLine (startIn flashSize i m)) i m)
+            Reads r (now (image .exit)) (now (map .exit))
+            (pointed noLine (startIn (startOf (pagesOf board)) i m)) i m)
             ⌝ }
     {
-        if !right_sizes(image.len(), map.len()) {
+        if !board.right_sizes(image.len(), map.len()) {
             return Read::Refused(Refusal::Size, 0);
         }
-        fill(image, 0, SIZE, 0xFF);
-        fill(map, 0, MAP, 0);
+        fill(image, 0, board.size(), 0xFF);
+        fill(map, 0, board.map(), 0);
         Read::Taken(Hex {
             linear: 0,
             segment: 0,
@@ -65,15 +64,16 @@ impl Hex {
     }
 
     // One record, its line end removed. A refusal leaves image, map and reader as they stood.
-    pub fn record(self, line: &[u8], image: &mut [u8], map: &mut [u8]) -> Read
+    pub fn record(self, board: Board, line: &[u8], image: &mut [u8], map: &mut [u8]) -> Read
         ensures { λ r. ⌜
             (let l = now (line .entry) in
             let i = now (image .entry) in
             let m = now (map .entry) in
-            Reads r (now (image .exit)) (now (map .exit)) (pointed l (recordIn flashSize self l i m)) i m)
+            Reads r (now (image .exit)) (now (map .exit))
+            (pointed l (recordIn (startOf (pagesOf board)) self l i m)) i m)
             ⌝ }
     {
-        if !right_sizes(image.len(), map.len()) {
+        if !board.right_sizes(image.len(), map.len()) {
             return Read::Refused(Refusal::Size, 0);
         }
         if self.ended {
@@ -87,14 +87,14 @@ impl Hex {
     // 22 to 30 and what the record does, with room for its bytes.
     fn take(self, line: &[u8], bytes: &mut [u8], image: &mut [u8], map: &mut [u8]) -> Read
         requires { ⌜
-            (length (now bytes) ≡ 260) × (length (now image) ≡ flashSize) × (length (now map) ≡ mapSize)
-            × (self .ended ≡ false)
+            (length (now bytes) ≡ 260) × (length (now image) ≡ 8 * length (now map))
+            × (length (now image) ≤ startOf pagesMost) × (self .ended ≡ false)
             ⌝ }
         ensures { λ r. ⌜
             (let l = now (line .entry) in
             let i = now (image .entry) in
             let m = now (map .entry) in
-            Reads r (now (image .exit)) (now (map .exit)) (pointed l (recordIn flashSize self l i m)) i m)
+            Reads r (now (image .exit)) (now (map .exit)) (pointed l (recordIn (length i) self l i m)) i m)
             ⌝ }
     {
         let checked = characters(line, bytes);
@@ -109,14 +109,15 @@ impl Hex {
     fn apply(self, line: &[u8], bytes: &[u8], image: &mut [u8], map: &mut [u8]) -> Read
         requires { ⌜
             (now bytes ≡ decoded (drop 1 (now line))) × (length (now line) ≡ 2 * length (now bytes) + 1)
-            × (5 ≤ length (now bytes)) × (length (now image) ≡ flashSize) × (length (now map) ≡ mapSize)
+            × (5 ≤ length (now bytes)) × (length (now image) ≡ 8 * length (now map))
+            × (length (now image) ≤ startOf pagesMost)
             ⌝ }
         ensures { λ r. ⌜
             (let l = now (line .entry) in
             let i = now (image .entry) in
             let m = now (map .entry) in
             Reads r (now (image .exit)) (now (map .exit))
-            (pointed l (applyIn flashSize self (length l) (now (bytes .entry)) i m)) i m)
+            (pointed l (applyIn (length i) self (length l) (now (bytes .entry)) i m)) i m)
             ⌝ }
     {
         let framed = framing(line, bytes);
@@ -137,13 +138,13 @@ impl Hex {
     fn data(self, bytes: &[u8], image: &mut [u8], map: &mut [u8]) -> Read
         requires { ⌜
             (length (now bytes) ≡ 5 + count (now bytes))
-            × (length (now image) ≡ flashSize) × (length (now map) ≡ mapSize)
+            × (length (now image) ≡ 8 * length (now map)) × (length (now image) ≤ startOf pagesMost)
             ⌝ }
         ensures { λ r. ⌜
             (let i = now (image .entry) in
             let m = now (map .entry) in
             (line : List ℕ) → Reads r (now (image .exit)) (now (map .exit))
-            (pointed line (dataIn flashSize self (now (bytes .entry)) i m)) i m)
+            (pointed line (dataIn (length i) self (now (bytes .entry)) i m)) i m)
             ⌝ }
     {
         let count = wide(bytes[0]);
@@ -151,7 +152,7 @@ impl Hex {
             return Read::Taken(self);
         }
         let place = self.linear as u64 + self.segment as u64 + pair_at(bytes, 1) as u64;
-        if (END as u64) < place + count as u64 {
+        if (image.len() as u64) < place + count as u64 {
             return Read::Refused(Refusal::Place, 0);
         }
         let end = 4 + count;
@@ -207,8 +208,8 @@ impl Hex {
 // The bytes from a place on, into image and map; false, and nothing, where one of the places is named.
 fn put(image: &mut [u8], map: &mut [u8], from: Address, bytes: &[u8]) -> bool
     requires { ⌜
-        (from .0 + length (now bytes) ≤ flashSize)
-        × (length (now image) ≡ flashSize) × (length (now map) ≡ mapSize)
+        (from .0 + length (now bytes) ≤ length (now image))
+        × (length (now image) ≡ 8 * length (now map)) × (length (now image) ≤ startOf pagesMost)
         ⌝ }
     ensures { λ r. ⌜
         Puts (now (image .entry)) (now (map .entry)) (from .0) (now (bytes .entry)) r

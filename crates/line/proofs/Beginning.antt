@@ -6,12 +6,13 @@ use mathlib.Core.Path.{_≡_, refl, sym, ap, _∙_}
 use borrow.Author.Tests.{eq-eqb, ne-eqb}
 use lib.Dec.{eqb}
 use lib.ListN.{length, take}
-use Rattle.basis.specs.Board.{flashSize, openingByte, pages}
+use Rattle.basis.specs.Board.{openingByte}
 use Rattle.basis.specs.Choice.{both}
 use Rattle.basis.specs.Laws.Choice.{both-false}
 use Rattle.basis.specs.Laws.Refusals.{stop, alike, through, apart, refused-one}
 use Rattle.basis.specs.Lists.{overlay}
 use Rattle.basis.specs.Refusals.{Answer, refused, given}
+use Rattle.basis.specs.Units.{startOf}
 use Rattle.basis.specs.declared.kind.RunKind.{RunKind}
 use Rattle.line.specs.Line.{Moment, begun, momentAt, loadAt, momentOn, rehearseOf, loaded, leftFlash, Rehearses}
 use Rattle.line.specs.declared.exchange.Link.{Link}
@@ -26,13 +27,14 @@ use Rattle.session.specs.declared.session.Next.{Next}
 use Rattle.packet.specs.Packet.{packetMost}
 
 -- with the loader reset that is a moment just begun, also by its own kind and loader
-module _ {image m : List ℕ} {kind : RunKind} {room : ℕ} {y : Next} (s : Starts pages image m room kind y)
+module _ {board : ℕ} {image m : List ℕ} {kind : RunKind} {room : ℕ} {y : Next}
+    (s : Starts board image m room kind y)
     (l r : Loader) (reset : r ≡ resetOf l) (f packet old : List ℕ)
-    (p : packet ≡ overlay (sentBytes (started pages image m room kind)) old) where
+    (p : packet ≡ overlay (sentBytes (started board image m room kind)) old) where
   abbrev first : Link
   first = record { loader = r; session = y .session; len = y .len }
 
-  pub begun-moment : momentOn first f packet ≡ begun pages m kind l f
+  pub begun-moment : momentOn first f packet ≡ begun board m kind l f
   begun-moment = λ i. record { loader = reset i; flash = f; session = s .next-is i .session; wire = wire i }
     where
       wire : take (y .len) packet ≡ openingByte ∷ []
@@ -40,58 +42,59 @@ module _ {image m : List ℕ} {kind : RunKind} {room : ℕ} {y : Next} (s : Star
           ap (λ (n : Next). take (n .len) packet) (s .next-is)
           ∙ ap (take 1) (p ∙ ap (λ (a : Answer Sent). overlay (sentBytes a) old) (s .started-is))
 
-  pub begun-again : momentOn first f packet ≡ begun pages m (y .session .kind) r f
+  pub begun-again : momentOn first f packet ≡ begun board m (y .session .kind) r f
   begun-again =
       begun-moment
-      ∙ sym (ap (λ (n : Next). begun pages m (n .session .kind) l f) (s .next-is))
-      ∙ sym (ap (λ (x : Loader). begun pages m (y .session .kind) x f) reset)
+      ∙ sym (ap (λ (n : Next). begun board m (n .session .kind) l f) (s .next-is))
+      ∙ sym (ap (λ (x : Loader). begun board m (y .session .kind) x f) reset)
 
-module _ (image m : List ℕ) (kind : RunKind) (l : Loader) (losses : ℕ → Loss) (f : List ℕ) where
+module _ (board : ℕ) (image m : List ℕ) (kind : RunKind) (l : Loader) (losses : ℕ → Loss) (f : List ℕ) where
   abbrev whole : Answer Moment
-  whole = rehearseOf pages image m kind l losses f
+  whole = rehearseOf board image m kind l losses f
 
   -- 20 for the flash
-  pub flash-refused : (length f ≡ flashSize → ⊥) → Rehearses whole f (refused 20) f
+  pub flash-refused : (length f ≡ startOf board → ⊥) → Rehearses whole f (refused 20) f
   unfolding rehearseOf
   flash-refused n =
-      rw (stop 20 _ _ (given (loadAt pages image m kind l losses f (total pages m kind + 1))) (ap not wrong))
+      rw (stop 20 _ _ (given (loadAt board image m kind l losses f (total board m kind + 1))) (ap not wrong))
       (record { result-is = refl; flash-is = refl })
     where
-      wrong : both (eqb (length f) flashSize) (rightSizes pages (length image) (length m) packetMost) ≡ false
-      wrong = both-false (eqb (length f) flashSize) _ (ne-eqb _ _ n)
+      wrong : both (eqb (length f) (startOf board)) (rightSizes board (length image) (length m) packetMost)
+          ≡ false
+      wrong = both-false (eqb (length f) (startOf board)) _ (ne-eqb _ _ n)
 
-  module _ (size : length f ≡ flashSize) where
+  module _ (size : length f ≡ startOf board) where
     -- what the start refuses is refused, and what it gives is driven to the end
-    refused-too : {n : ℕ} → started pages image m packetMost kind ≡ refused n → whole ≡ refused n
+    refused-too : {n : ℕ} → started board image m packetMost kind ≡ refused n → whole ≡ refused n
     unfolding rehearseOf started
-    refused-too e = rw (eq-eqb (length f) flashSize size) (alike _ _ _ e)
+    refused-too e = rw (eq-eqb (length f) (startOf board) size) (alike _ _ _ e)
 
-    given-too : {s : Sent} → started pages image m packetMost kind ≡ given s
-        → whole ≡ given (loadAt pages image m kind l losses f (total pages m kind + 1))
+    given-too : {s : Sent} → started board image m packetMost kind ≡ given s
+        → whole ≡ given (loadAt board image m kind l losses f (total board m kind + 1))
     unfolding rehearseOf started
-    given-too e = rw (eq-eqb (length f) flashSize size) (through _ _ _ e)
+    given-too e = rw (eq-eqb (length f) (startOf board) size) (through _ _ _ e)
 
     pub start-refused : {n room : ℕ} → room ≡ packetMost
-        → refused n ≡ measured (started pages image m room kind)
+        → refused n ≡ measured (started board image m room kind)
         → Rehearses whole f (refused n) f
-    start-refused {n} {room} full e = go (started pages image m room kind) refl e
+    start-refused {n} {room} full e = go (started board image m room kind) refl e
       where
-        go : (a : Answer Sent) → started pages image m room kind ≡ a → refused n ≡ measured a
+        go : (a : Answer Sent) → started board image m room kind ≡ a → refused n ≡ measured a
             → Rehearses whole f (refused n) f
         go (refused k) t e =
-            rw (refused-too (ap (λ (r : ℕ). started pages image m r kind) (sym full) ∙ t), refused-one e)
+            rw (refused-too (ap (λ (r : ℕ). started board image m r kind) (sym full) ∙ t), refused-one e)
             (record { result-is = refl; flash-is = refl })
         go (given s) t e = absurd (apart e)
 
-    pub driven : {room : ℕ} {y : Next} → room ≡ packetMost → Starts pages image m room kind y
-        → (r : Load) (flash : List ℕ) (x : Moment) → x ≡ begun pages m kind l f
-        → (let z = momentAt pages image m losses x (total pages m (x .session .kind) + 1) in
+    pub driven : {room : ℕ} {y : Next} → room ≡ packetMost → Starts board image m room kind y
+        → (r : Load) (flash : List ℕ) (x : Moment) → x ≡ begun board m kind l f
+        → (let z = momentAt board image m losses x (total board m (x .session .kind) + 1) in
         (r .loader ≡ z .loader) × (r .session ≡ z .session) × (flash ≡ z .flash))
         → Rehearses whole f (given r) flash
     driven full s r flash x b z =
-        let w = given-too (ap (λ (r : ℕ). started pages image m r kind) (sym full) ∙ s .started-is) in
+        let w = given-too (ap (λ (r : ℕ). started board image m r kind) (sym full) ∙ s .started-is) in
         let e = ap
-        (λ (y : Moment). momentAt pages image m losses y (total pages m (y .session .kind) + 1)) b in
+        (λ (y : Moment). momentAt board image m losses y (total board m (y .session .kind) + 1)) b in
         record {
           result-is = (λ i. given (record { loader = z .0 i; session = z .1 i }))
               ∙ ap (λ (y : Moment). loaded (given y)) e

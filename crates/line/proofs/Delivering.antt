@@ -6,7 +6,7 @@ use native.Mathlib.Omega.{arith}
 use lib.Dec.{eqb}
 use lib.ListN.{length, take, length-append}
 use lib.Seq.{take-append-seam}
-use Rattle.basis.specs.Board.{pages, answerMost}
+use Rattle.basis.specs.Board.{answerMost}
 use Rattle.basis.specs.Laws.Refusals.{apart, given-one}
 use Rattle.basis.specs.Lists.{overlay}
 use Rattle.basis.specs.Refusals.{Answer, refused, given}
@@ -20,16 +20,17 @@ use Rattle.session.specs.declared.session.Next.{Next}
 use Rattle.session.specs.declared.session.Session.{Session}
 use Rattle.packet.specs.Packet.{packetMost}
 
-pub lost : {o : Loss} {l : Loader} {s f old : List ℕ} → o ≡ Loss.Lost → Delivers pages o l s f old l 0 f old
+pub lost : {board : ℕ} {o : Loss} {l : Loader} {s f old : List ℕ} → o ≡ Loss.Lost
+    → Delivers board o l s f old l 0 f old
 lost e = rw e (record { loader-is = refl; flash-is = refl; arrived-is = refl; answer-is = refl })
 
-module _ (o : Loss) (l : Loader) (s f old : List ℕ) (room : ℕ)
+module _ (board : ℕ) (o : Loss) (l : Loader) (s f old : List ℕ) (room : ℕ)
     {v : Answer (Unit {0})} {next : Loader} {answered : ℕ} {flash answer : List ℕ} (full : room ≡ answerMost)
-    (t : Takes (takeOf pages l s f room) l f old v next answered flash answer) where
-  at-full : Takes (loaderTakes pages l s f) l f old v next answered flash answer
-  at-full = subst (λ (n : ℕ). Takes (takeOf pages l s f n) l f old v next answered flash answer) full t
+    (t : Takes board (takeOf board l s f room) l f old v next answered flash answer) where
+  at-full : Takes board (loaderTakes board l s f) l f old v next answered flash answer
+  at-full = subst (λ (n : ℕ). Takes board (takeOf board l s f n) l f old v next answered flash answer) full t
 
-  pub whole : o ≡ Loss.Whole → Delivers pages o l s f old next answered flash answer
+  pub whole : o ≡ Loss.Whole → Delivers board o l s f old next answered flash answer
   whole e =
       rw e
       (record {
@@ -39,7 +40,7 @@ module _ (o : Loss) (l : Loader) (s f old : List ℕ) (room : ℕ)
         answer-is = at-full .answer-is;
       })
 
-  pub unanswered : o ≡ Loss.Unanswered → Delivers pages o l s f old next 0 flash answer
+  pub unanswered : o ≡ Loss.Unanswered → Delivers board o l s f old next 0 flash answer
   unanswered e =
       rw e
       (record {
@@ -57,19 +58,19 @@ pub overlay-begins : (w old : List ℕ) → Begins w (overlay w old)
 overlay-begins w old = (simp length-append (omega arith), take-append-seam w _)
 
 -- what arrives stands at the start of the answer buffer
-arrival : (o : Loss) (l : Loader) (s f old : List ℕ)
-    → Begins (arrives pages o l s f) (overlay (sends pages o l s f) old)
-arrival Loss.Whole l s f old = overlay-begins (arrives pages Loss.Whole l s f) old
-arrival Loss.Lost l s f old = (omega arith, refl)
-arrival Loss.Unanswered l s f old = (omega arith, refl)
+arrival : (board : ℕ) (o : Loss) (l : Loader) (s f old : List ℕ)
+    → Begins (arrives board o l s f) (overlay (sends board o l s f) old)
+arrival board Loss.Whole l s f old = overlay-begins (arrives board Loss.Whole l s f) old
+arrival board Loss.Lost l s f old = (omega arith, refl)
+arrival board Loss.Unanswered l s f old = (omega arith, refl)
 
-module _ {o : Loss} {l next : Loader} {s f old flash answer : List ℕ} {arrived : ℕ}
-    (d : Delivers pages o l s f old next arrived flash answer) where
+module _ {board : ℕ} {o : Loss} {l next : Loader} {s f old flash answer : List ℕ} {arrived : ℕ}
+    (d : Delivers board o l s f old next arrived flash answer) where
   pub arrived-fits : arrived ≤ length answer
-  arrived-fits = rw (d .arrived-is, d .answer-is) (arrival o l s f old .0)
+  arrived-fits = rw (d .arrived-is, d .answer-is) (arrival board o l s f old .0)
 
-  arrived-bytes : take arrived answer ≡ arrives pages o l s f
-  arrived-bytes = rw (d .arrived-is, d .answer-is) (arrival o l s f old .1)
+  arrived-bytes : take arrived answer ≡ arrives board o l s f
+  arrived-bytes = rw (d .arrived-is, d .answer-is) (arrival board o l s f old .1)
 
 -- the session's step changes neither loader nor flash
 steps-kept : (y : Moment) (a : Answer Sent)
@@ -77,38 +78,39 @@ steps-kept : (y : Moment) (a : Answer Sent)
 steps-kept y (refused n) = (refl, refl)
 steps-kept y (given s) = (refl, refl)
 
-module _ (image m : List ℕ) (o : Loss) (x : Moment) (oldPacket packet oldAnswer answer flash : List ℕ)
-    (room arrived : ℕ) (next : Loader) (full : room ≡ packetMost)
-    (d : Delivers pages o (x .loader) (x .wire) (x .flash) oldAnswer next arrived flash answer) where
+module _ (board : ℕ) (image m : List ℕ) (o : Loss) (x : Moment)
+    (oldPacket packet oldAnswer answer flash : List ℕ) (room arrived : ℕ) (next : Loader)
+    (full : room ≡ packetMost)
+    (d : Delivers board o (x .loader) (x .wire) (x .flash) oldAnswer next arrived flash answer) where
   abbrev saying : ℕ → ℕ → List ℕ → Answer Sent
-  saying space n b = stepOf pages image m space (x .session) (classifyOf (eqb n 0) b)
+  saying space n b = stepOf board image m space (x .session) (classifyOf board (eqb n 0) b)
 
   abbrev said : Answer Sent
   said = saying room arrived (take arrived answer)
 
-  said-is : said ≡ stepped pages image m o x
+  said-is : said ≡ stepped board image m o x
   said-is =
       ap (λ (n : ℕ). saying n arrived (take arrived answer)) full
       ∙ ap (λ (n : ℕ). saying packetMost n (take arrived answer)) (d .arrived-is)
-      ∙ ap (saying packetMost (length (reply pages o x))) (arrived-bytes d)
+      ∙ ap (saying packetMost (length (reply board o x))) (arrived-bytes d)
 
   abbrev Shown : Session → ℕ → Type 0
   Shown s len =
-      Exchanges pages image m o x oldPacket oldAnswer (record { loader = next; session = s; len = len })
+      Exchanges board image m o x oldPacket oldAnswer (record { loader = next; session = s; len = len })
       flash packet answer
 
   module _ (p : packet ≡ overlay (sentBytes said) oldPacket) where
     -- what the session and its packet are then is what an exchange shows
-    shows : (a : Answer Sent) → stepped pages image m o x ≡ a → (s : Session) (len : ℕ)
-        → s ≡ stepsOn (between pages o x) a .session → len ≡ length (stepsOn (between pages o x) a .wire)
+    shows : (a : Answer Sent) → stepped board image m o x ≡ a → (s : Session) (len : ℕ)
+        → s ≡ stepsOn (between board o x) a .session → len ≡ length (stepsOn (between board o x) a .wire)
         → Shown s len
     unfolding exchangeOf
     shows a q s len es el =
-        let k = steps-kept (between pages o x) (stepped pages image m o x) in
+        let k = steps-kept (between board o x) (stepped board image m o x) in
         record {
           loader-is = d .loader-is ∙ sym (k .0);
-          session-is = es ∙ sym (ap (λ (b : Answer Sent). stepsOn (between pages o x) b .session) q);
-          len-is = el ∙ sym (ap (λ (b : Answer Sent). length (stepsOn (between pages o x) b .wire)) q);
+          session-is = es ∙ sym (ap (λ (b : Answer Sent). stepsOn (between board o x) b .session) q);
+          len-is = el ∙ sym (ap (λ (b : Answer Sent). length (stepsOn (between board o x) b .wire)) q);
           flash-is = d .flash-is ∙ sym (k .1);
           packet-is = p ∙ ap (λ (b : Answer Sent). overlay (sentBytes b) oldPacket) said-is;
           answer-is = d .answer-is;
@@ -116,9 +118,9 @@ module _ (image m : List ℕ) (o : Loss) (x : Moment) (oldPacket packet oldAnswe
 
     -- the session goes on
     pub goes : (y : Next) → given y ≡ measured said → Shown (y .session) (y .len)
-    goes y e = go (stepped pages image m o x) refl (e ∙ ap measured said-is)
+    goes y e = go (stepped board image m o x) refl (e ∙ ap measured said-is)
       where
-        go : (a : Answer Sent) → stepped pages image m o x ≡ a → given y ≡ measured a
+        go : (a : Answer Sent) → stepped board image m o x ≡ a → given y ≡ measured a
             → Shown (y .session) (y .len)
         go (refused n) q t = absurd (apart (sym t))
         go (given s) q t =
@@ -128,9 +130,9 @@ module _ (image m : List ℕ) (o : Loss) (x : Moment) (oldPacket packet oldAnswe
     -- or is as it was, and so is its packet
     pub keeps : {n : ℕ} (len : ℕ) → refused n ≡ measured said → len ≡ length (x .wire)
         → Shown (x .session) len
-    keeps {n} len e w = go (stepped pages image m o x) refl (e ∙ ap measured said-is)
+    keeps {n} len e w = go (stepped board image m o x) refl (e ∙ ap measured said-is)
       where
-        go : (a : Answer Sent) → stepped pages image m o x ≡ a → refused n ≡ measured a
+        go : (a : Answer Sent) → stepped board image m o x ≡ a → refused n ≡ measured a
             → Shown (x .session) len
         go (refused k) q t = shows (refused k) q (x .session) len refl w
         go (given s) q t = absurd (apart t)

@@ -7,9 +7,9 @@ use native.Mathlib.Numerals.{add-one}
 use native.Mathlib.Omega.{arith}
 use lib.ListN.{length, take}
 use lib.Seq.{length-take-le}
-use Rattle.basis.specs.Board.{flashSize, pages}
 use Rattle.basis.specs.Lists.{Bytes, overlay}
 use Rattle.basis.specs.Refusals.{Answer, refused, given}
+use Rattle.basis.specs.Units.{startOf}
 use Rattle.line.proofs.Delivering.{Begins, overlay-begins}
 use Rattle.basis.specs.declared.kind.RunKind.{RunKind}
 use Rattle.line.specs.Laws.Moments.{going, stays, follows}
@@ -23,58 +23,59 @@ use Rattle.session.specs.Session.{Sent, sentBytes, Loadable}
 
 -- ---- what an exchange leaves in the packet buffer is what is on the wire
 
-module _ (image m : List ℕ) (o : Loss) (link : Link) (before old : List ℕ)
+module _ (board : ℕ) (image m : List ℕ) (o : Loss) (link : Link) (before old : List ℕ)
     (fits : link .len ≤ length old) where
   abbrev here : Moment
   here = momentOn link before old
 
-  wired : (a : Answer Sent) → Begins (stepsOn (between pages o here) a .wire) (overlay (sentBytes a) old)
+  wired : (a : Answer Sent) → Begins (stepsOn (between board o here) a .wire) (overlay (sentBytes a) old)
   wired (refused n) =
       let e = length-take-le (link .len) old fits in
       (omega (arith, e), ap (λ (k : ℕ). take k old) e)
   wired (given s) = overlay-begins (s .packet) old
 
   module _ {oldAnswer flash packet answer : List ℕ} {r : Link}
-      (x : Exchanges pages image m o here old oldAnswer r flash packet answer) where
+      (x : Exchanges board image m o here old oldAnswer r flash packet answer) where
     pub len-fits : r .len ≤ length packet
     unfolding exchangeOf
-    len-fits = rw (x .len-is, x .packet-is) (wired (stepped pages image m o here) .0)
+    len-fits = rw (x .len-is, x .packet-is) (wired (stepped board image m o here) .0)
 
-    wire : take (r .len) packet ≡ exchangeOf pages image m o here .wire
+    wire : take (r .len) packet ≡ exchangeOf board image m o here .wire
     unfolding exchangeOf
-    wire = rw (x .len-is, x .packet-is) (wired (stepped pages image m o here) .1)
+    wire = rw (x .len-is, x .packet-is) (wired (stepped board image m o here) .1)
 
-    pub exchanged : momentOn r flash packet ≡ exchangeOf pages image m o here
+    pub exchanged : momentOn r flash packet ≡ exchangeOf board image m o here
     exchanged = λ i.
         record { loader = x .loader-is i; flash = x .flash-is i; session = x .session-is i; wire = wire i }
 
 -- ---- turns
 
-module _ (image m : List ℕ) (losses : ℕ → Loss) (start : Moment) where
-  pub done : (kind : RunKind) (i : ℕ) (x : Moment) → x ≡ momentAt pages image m losses start i
-      → i ≤ total pages m kind + 1
-      → ended (x .session .phase) ≡ true → momentAt pages image m losses start (total pages m kind + 1) ≡ x
+module _ (board : ℕ) (image m : List ℕ) (losses : ℕ → Loss) (start : Moment) where
+  pub done : (kind : RunKind) (i : ℕ) (x : Moment) → x ≡ momentAt board image m losses start i
+      → i ≤ total board m kind + 1
+      → ended (x .session .phase) ≡ true → momentAt board image m losses start (total board m kind + 1) ≡ x
   done kind i x e b t =
-      stays pages image m losses start i (total pages m kind + 1) b
+      stays board image m losses start i (total board m kind + 1) b
       (sym (ap (λ (y : Moment). ended (y .session .phase)) e) ∙ t) ∙ sym e
 
-  pub again : (i : ℕ) (x : Moment) (o : Loss) → x ≡ momentAt pages image m losses start i
+  pub again : (i : ℕ) (x : Moment) (o : Loss) → x ≡ momentAt board image m losses start i
       → ended (x .session .phase) ≡ false → o ≡ losses i
-      → exchangeOf pages image m o x ≡ momentAt pages image m losses start (i + 1)
+      → exchangeOf board image m o x ≡ momentAt board image m losses start (i + 1)
   again i x o e t q =
       rw add-one
-      (ap (λ (y : Loss). exchangeOf pages image m y x) q
-      ∙ ap (exchangeOf pages image m (losses i)) e
-      ∙ sym (follows pages image m losses start i
+      (ap (λ (y : Loss). exchangeOf board image m y x) q
+      ∙ ap (exchangeOf board image m (losses i)) e
+      ∙ sym (follows board image m losses start i
       (sym (ap (λ (y : Moment). ended (y .session .phase)) e) ∙ t)))
 
-module _ (image m before : List ℕ) (file : Loadable pages image m) (bytes : Bytes image) (kind : RunKind)
-    (l : Loader) (size : length before ≡ flashSize) (losses : ℕ → Loss) where
-  pub not-past : (start : Moment) → start ≡ begun pages m kind l before → (i : ℕ) (x : Moment)
-      → x ≡ momentAt pages image m losses start i → ended (x .session .phase) ≡ false → i ≤ total pages m kind
+module _ (board : ℕ) (few : board ≤ 255) (image m before : List ℕ) (file : Loadable board image m)
+    (bytes : Bytes image) (kind : RunKind) (l : Loader) (size : length before ≡ startOf board)
+    (losses : ℕ → Loss) where
+  pub not-past : (start : Moment) → start ≡ begun board m kind l before → (i : ℕ) (x : Moment)
+      → x ≡ momentAt board image m losses start i → ended (x .session .phase) ≡ false → i ≤ total board m kind
   not-past start fresh i x e t =
-      going pages (omega arith) image m before file bytes kind l size losses i
+      going board few image m before file bytes kind l size losses i
       (sym (ap (λ (y : Moment). ended (y .session .phase)) (e ∙ since)) ∙ t)
     where
-      since : momentAt pages image m losses start i ≡ loadAt pages image m kind l losses before i
-      since = ap (λ (y : Moment). momentAt pages image m losses y i) fresh
+      since : momentAt board image m losses start i ≡ loadAt board image m kind l losses before i
+      since = ap (λ (y : Moment). momentAt board image m losses y i) fresh

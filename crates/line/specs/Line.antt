@@ -54,12 +54,12 @@ delivered board Loss.Unanswered l s f = effectAfter l f (loaderTakes board l s f
 
 -- the answer that the loader sends, and what of it arrives
 abbrev pub sends : ℕ → Loss → Loader → List ℕ → List ℕ → List ℕ
-sends board Loss.Whole l s f = answerBytes l (loaderTakes board l s f)
+sends board Loss.Whole l s f = answerBytes board l (loaderTakes board l s f)
 sends board Loss.Lost l s f = []
-sends board Loss.Unanswered l s f = answerBytes l (loaderTakes board l s f)
+sends board Loss.Unanswered l s f = answerBytes board l (loaderTakes board l s f)
 
 abbrev pub arrives : ℕ → Loss → Loader → List ℕ → List ℕ → List ℕ
-arrives board Loss.Whole l s f = answerBytes l (loaderTakes board l s f)
+arrives board Loss.Whole l s f = answerBytes board l (loaderTakes board l s f)
 arrives board Loss.Lost l s f = []
 arrives board Loss.Unanswered l s f = []
 
@@ -71,12 +71,12 @@ between board o x = momentWith (delivered board o (x .loader) (x .wire) (x .flas
 abbrev pub reply : ℕ → Loss → Moment → List ℕ
 reply board o x = arrives board o (x .loader) (x .wire) (x .flash)
 
-abbrev pub eventFrom : List ℕ → Event
-eventFrom b = classifyOf (eqb (length b) 0) b
+abbrev pub eventFrom : ℕ → List ℕ → Event
+eventFrom board b = classifyOf board (eqb (length b) 0) b
 
 -- the session's step
 abbrev pub stepped : ℕ → List ℕ → List ℕ → Loss → Moment → Answer Sent
-stepped board image m o x = stepOf board image m packetMost (x .session) (eventFrom (reply board o x))
+stepped board image m o x = stepOf board image m packetMost (x .session) (eventFrom board (reply board o x))
 
 abbrev pub stepsOn : Moment → Answer Sent → Moment
 stepsOn x (refused n) = x

@@ -2,9 +2,10 @@
 ghost use mathlib.Core.Path.{_≡_};
 ghost use Prim.Native.Nat.{_≤_};
 ghost use lib.ListN.{length};
-ghost use Rattle.basis.specs.Board.{answerMost, pages};
+ghost use Rattle.basis.specs.Board.{answerMost, pagesOf};
 ghost use Rattle.packet.specs.Packet.{packetMost};
 ghost use Rattle.line.specs.Line.{lossOf, lossAt, momentOn, Lent, Delivers, Exchanges};
+use basis::board::Board;
 use loader::state::Loader;
 use loader::take::take;
 use session::session::Session;
@@ -60,6 +61,7 @@ struct Delivered {
 
 // No answer is silence.
 pub fn exchange(
+    board: Board,
     link: Link,
     loss: Loss,
     image: &[u8],
@@ -69,21 +71,22 @@ pub fn exchange(
     answer: &mut [u8],
 ) -> Link
     requires { ⌜
-        (Lent pages (now image) (now map) (now flash) (now packet) (now answer)) × (link .len ≤ packetMost)
+        (Lent (pagesOf board) (now image) (now map) (now flash) (now packet) (now answer))
+        × (link .len ≤ packetMost)
         ⌝ }
     ensures { λ r. ⌜
         (let x = momentOn link (now (flash .entry)) (now (packet .entry)) in
-        Exchanges pages (now (image .entry)) (now (map .entry)) loss x (now (packet .entry))
+        Exchanges (pagesOf board) (now (image .entry)) (now (map .entry)) loss x (now (packet .entry))
         (now (answer .entry)) r (now (flash .exit)) (now (packet .exit)) (now (answer .exit)))
         ⌝ }
 {
     let loader = link.loader;
     let session = link.session;
     let len = link.len;
-    let delivered = deliver(loader, loss, &packet[..len], flash, answer);
+    let delivered = deliver(board, loader, loss, &packet[..len], flash, answer);
     let after = delivered.loader;
     let arrived = delivered.arrived;
-    match session.step(arrived == 0, &answer[..arrived], image, map, packet) {
+    match session.step_on(board, arrived == 0, &answer[..arrived], image, map, packet) {
         Stepped::Next(next) => {
             let session = next.session;
             Link {
@@ -102,6 +105,7 @@ pub fn exchange(
 
 // The loader's part of an exchange.
 fn deliver(
+    board: Board,
     loader: Loader,
     loss: Loss,
     packet: &[u8],
@@ -110,13 +114,13 @@ fn deliver(
 ) -> Delivered
     requires { ⌜ length (now answer) ≡ answerMost ⌝ }
     ensures { λ r. ⌜
-        Delivers pages loss loader (now (packet .entry)) (now (flash .entry)) (now (answer .entry))
+        Delivers (pagesOf board) loss loader (now (packet .entry)) (now (flash .entry)) (now (answer .entry))
         (r .loader) (r .arrived) (now (flash .exit)) (now (answer .exit))
         ⌝ }
 {
     match loss {
         Loss::Whole => {
-            let taken = take(loader, packet, flash, answer);
+            let taken = take(board, loader, packet, flash, answer);
             let after = taken.loader;
             Delivered {
                 loader: after,
@@ -125,7 +129,7 @@ fn deliver(
         }
         Loss::Lost => Delivered { loader, arrived: 0 },
         Loss::Unanswered => {
-            let taken = take(loader, packet, flash, answer);
+            let taken = take(board, loader, packet, flash, answer);
             let after = taken.loader;
             Delivered {
                 loader: after,

@@ -3,7 +3,8 @@ ghost use mathlib.Core.Path.{_≡_};
 ghost use mathlib.Core.Bool.{not};
 ghost use Prim.Native.Nat.{_+_, _<_, _≤_};
 ghost use lib.ListN.{length};
-ghost use Rattle.basis.specs.Board.{flashSize, answerMost, pages};
+ghost use Rattle.basis.specs.Board.{answerMost, pagesOf};
+ghost use Rattle.basis.specs.Units.{startOf};
 ghost use Rattle.order.specs.Plan.{total};
 ghost use Rattle.packet.specs.Packet.{packetMost};
 ghost use Rattle.line.specs.Line.{begun, momentAt, lossAt, rehearseOf, momentOn, Lent, Rehearses};
@@ -14,7 +15,7 @@ use crate::exchange::Link;
 use crate::exchange::Loss;
 use crate::exchange::exchange;
 use basis::board::ANSWER;
-use basis::board::SIZE;
+use basis::board::Board;
 use basis::kind::RunKind;
 use loader::state::Loader;
 use packet::build::PACKET;
@@ -35,6 +36,7 @@ pub enum Rehearsed {
 
 // Each byte of `losses` tells what befalls one exchange; past its end everything arrives.
 pub fn rehearse(
+    board: Board,
     kind: RunKind,
     loader: Loader,
     losses: &[u8],
@@ -43,17 +45,19 @@ pub fn rehearse(
     flash: &mut [u8],
 ) -> Rehearsed
     ensures { λ r. ⌜
-        (let x = rehearseOf pages (now (image .entry)) (now (map .entry)) kind loader
+        (let x = rehearseOf (pagesOf board) (now (image .entry)) (now (map .entry)) kind loader
         (lossAt (now (losses .entry))) (now (flash .entry)) in
         Rehearses x (now (flash .entry)) (paperRehearsed r) (now (flash .exit)))
         ⌝ }
 {
-    if flash.len() != SIZE {
+    let size = board.size();
+    if flash.len() != size {
         return Rehearsed::Refused(Refusal::Size);
     }
     let mut packet = [0u8; PACKET];
     let mut answer = [0u8; ANSWER];
     begin(
+        board,
         kind,
         loader,
         losses,
@@ -67,6 +71,7 @@ pub fn rehearse(
 
 // Starts the session and drives it. `packet` and `answer` are scratch, so nothing is promised of them.
 fn begin(
+    board: Board,
     kind: RunKind,
     loader: Loader,
     losses: &[u8],
@@ -77,17 +82,17 @@ fn begin(
     answer: &mut [u8],
 ) -> Rehearsed
     requires { ⌜
-        (length (now flash) ≡ flashSize)
+        (length (now flash) ≡ startOf (pagesOf board))
         × (length (now packet) ≡ packetMost)
         × (length (now answer) ≡ answerMost)
         ⌝ }
     ensures { λ r. ⌜
-        (let x = rehearseOf pages (now (image .entry)) (now (map .entry)) kind loader
+        (let x = rehearseOf (pagesOf board) (now (image .entry)) (now (map .entry)) kind loader
         (lossAt (now (losses .entry))) (now (flash .entry)) in
         Rehearses x (now (flash .entry)) (paperRehearsed r) (now (flash .exit)))
         ⌝ }
 {
-    match Session::start(kind, image, map, packet) {
+    match Session::start(board, kind, image, map, packet) {
         Stepped::Refused(why) => Rehearsed::Refused(why),
         Stepped::Next(next) => {
             let session = next.session;
@@ -96,7 +101,7 @@ fn begin(
                 session,
                 len: next.len,
             };
-            let last = drive(first, losses, image, map, flash, packet, answer);
+            let last = drive(board, first, losses, image, map, flash, packet, answer);
             let loader = last.loader;
             let session = last.session;
             Rehearsed::Ended(Load { loader, session })
@@ -106,6 +111,7 @@ fn begin(
 
 // Exchanges until the session has ended. `packet` holds the opening byte; then it and `answer` are scratch.
 fn drive(
+    board: Board,
     first: Link,
     losses: &[u8],
     image: &[u8],
@@ -115,23 +121,24 @@ fn drive(
     answer: &mut [u8],
 ) -> Link
     requires { ⌜
-        (Lent pages (now image) (now map) (now flash) (now packet) (now answer))
-        × (0 < namedCount pages (now map))
+        (Lent (pagesOf board) (now image) (now map) (now flash) (now packet) (now answer))
+        × (0 < namedCount (pagesOf board) (now map))
         × (first .len ≤ packetMost)
         × (momentOn first (now flash) (now packet)
-        ≡ begun pages (now map) (first .session .kind) (first .loader) (now flash))
+        ≡ begun (pagesOf board) (now map) (first .session .kind) (first .loader) (now flash))
         ⌝ }
     ensures { λ r. ⌜
         (let start = momentOn first (now (flash .entry)) (now (packet .entry)) in
-        let x = momentAt pages (now (image .entry)) (now (map .entry)) (lossAt (now (losses .entry))) start
-        (total pages (now (map .entry)) (first .session .kind) + 1) in
+        let x = momentAt (pagesOf board) (now (image .entry)) (now (map .entry))
+        (lossAt (now (losses .entry))) start (total (pagesOf board) (now (map .entry)) (first .session .kind) + 1) in
         (r .loader ≡ x .loader) × (r .session ≡ x .session) × (now (flash .exit) ≡ x .flash))
         ⌝ }
 {
     let mut link = first;
     let mut i = 0;
     while is_open(link) {
-        link = exchange(link, Loss::at(losses, i), image, map, flash, packet, answer);
+        let loss = Loss::at(losses, i);
+        link = exchange(board, link, loss, image, map, flash, packet, answer);
         i += 1;
     }
     link

@@ -90,11 +90,12 @@ unfoldable pub feedIn : ℕ → Fed → List ℕ → Fed
 feedIn size s [] = s
 feedIn size s (b ∷ t) = feedIn size (byteIn size s b) t
 
--- a stretch of the open line, never the last byte that came: as its bytes one by one, whatever image and map
-abbrev pub Keeps : ℕ → Progress → List ℕ → List ℕ → Progress → List ℕ → ℕ → Type 0
-Keeps size p line bytes q kept n =
+-- a stretch of the open line, never the last byte that came: as its bytes one by one, whatever the board
+abbrev pub Keeps : Progress → List ℕ → List ℕ → Progress → List ℕ → ℕ → Type 0
+Keeps p line bytes q kept n =
     (n ≤ length bytes - 1)
-    × ((image map : List ℕ) → state q kept image map ≡ feedIn size (state p line image map) (take n bytes))
+    × ((size : ℕ) (image map : List ℕ) → state q kept image map
+    ≡ feedIn size (state p line image map) (take n bytes))
 
 -- the line after the last 0A, as it stands
 unfoldable pub lastIn : ℕ → Text → List ℕ → List ℕ → List ℕ → Fed

@@ -2,7 +2,6 @@
 ghost use mathlib.Core.Path.{_≡_};
 ghost use Prim.Native.Nat.{_≤_};
 ghost use lib.ListN.{length};
-ghost use Rattle.basis.specs.Board.{pages};
 ghost use Rattle.basis.specs.Lists.{overlay};
 ghost use Rattle.listing.specs.Lines.{recordLine, logRoom, logLine};
 ghost use Rattle.service_log.specs.Log.{readOf};
@@ -20,7 +19,7 @@ pub const ROOM: usize = 139;
 pub fn log_line(input: &[u8], buffer: &mut [u8]) -> usize
     requires { ⌜ logRoom ≤ length (now buffer) ⌝ }
     ensures { λ r. ⌜
-        (let s = logLine (readOf pages (now (input .entry))) in
+        (let s = logLine (readOf (now (input .entry))) in
         (r ≡ length s) × (now (buffer .exit) ≡ overlay s (now (buffer .entry))))
         ⌝ }
 {

@@ -2,8 +2,9 @@
 ghost use mathlib.Core.Path.{_≡_};
 ghost use Prim.Native.Nat.{_+_, _*_, _≤_, _<_};
 ghost use lib.ListN.{length, drop};
-ghost use Rattle.basis.specs.Board.{mapSize, pages};
+ghost use Rattle.basis.specs.Board.{pagesOf};
 ghost use Rattle.basis.specs.Lists.{overlay, copyOf};
+ghost use Rattle.basis.specs.Units.{mapBytes};
 ghost use Rattle.basis.specs.declared.kind.RunKind.{RunKind};
 ghost use Rattle.order.specs.Plan.{plan, total};
 ghost use Rattle.packet.specs.Packet.{packetMost, command};
@@ -15,6 +16,7 @@ ghost use Rattle.listing.specs.Paper.{paperBegun};
 ghost use Rattle.listing.specs.Plan.{Listed, listingAt, listingBy, resetPacketAt, longestLine, sheetOf};
 use crate::numbers::decimal;
 use crate::numbers::last_field;
+use basis::board::Board;
 use basis::buffers::write;
 use basis::kind::RunKind;
 use image::writer::spell;
@@ -51,54 +53,56 @@ pub struct Sheet {
 
 impl Listing {
     // Refused as the session's start is.
-    pub fn start(image: &[u8], map: &[u8]) -> Begun
+    pub fn start(board: Board, image: &[u8], map: &[u8]) -> Begun
         ensures { λ r. ⌜
             paperBegun r
-            ≡ listingBy pages (now (map .entry))
-            (started pages (now (image .entry)) (now (map .entry)) packetMost RunKind.Reset)
+            ≡ listingBy (pagesOf board) (now (map .entry))
+            (started (pagesOf board) (now (image .entry)) (now (map .entry)) packetMost RunKind.Reset)
             ⌝ }
     {
         let mut packet = [0u8; PACKET];
-        Listing::start_with(image, map, &mut packet)
+        Listing::start_with(board, image, map, &mut packet)
     }
 
     // The packet's buffer is lent from another function: its 259 bytes would stand in every fact of this one.
-    fn start_with(image: &[u8], map: &[u8], packet: &mut [u8]) -> Begun
+    fn start_with(board: Board, image: &[u8], map: &[u8], packet: &mut [u8]) -> Begun
         ensures { λ r. ⌜
             paperBegun r
-            ≡ listingBy pages (now (map .entry))
-            (started pages (now (image .entry)) (now (map .entry)) (length (now (packet .entry)))
-            RunKind.Reset)
+            ≡ listingBy (pagesOf board) (now (map .entry))
+            (started (pagesOf board) (now (image .entry)) (now (map .entry))
+            (length (now (packet .entry))) RunKind.Reset)
             ⌝ }
     {
-        match Session::start(RunKind::Reset, image, map, packet) {
-            Stepped::Next(next) => Begun::Listing(Listing::opening(map, next.session)),
+        match Session::start(board, RunKind::Reset, image, map, packet) {
+            Stepped::Next(next) => Begun::Listing(Listing::opening(board, map, next.session)),
             Stepped::Refused(x) => Begun::Refused(x),
         }
     }
 
     // Nothing is listed yet.
-    fn opening(map: &[u8], session: Session) -> Listing
+    fn opening(board: Board, map: &[u8], session: Session) -> Listing
         requires { ⌜
-            (length (now map) ≡ mapSize) × (0 < namedCount pages (now map))
-            × (session .total ≡ total pages (now map) RunKind.Reset)
+            (length (now map) ≡ mapBytes (pagesOf board)) × (0 < namedCount (pagesOf board) (now map))
+            × (session .total ≡ total (pagesOf board) (now map) RunKind.Reset)
             ⌝ }
-        ensures { λ r. ⌜ r ≡ listingAt pages (now (map .entry)) 0 ⌝ }
+        ensures { λ r. ⌜ r ≡ listingAt (pagesOf board) (now (map .entry)) 0 ⌝ }
     {
         Listing {
-            next: Following::Step(first(map)),
+            next: Following::Step(first(board, map)),
             listed: 0,
             total: session.total,
         }
     }
 
     // Whole lines of the packets that are left, as long as the longest one has room.
-    pub fn sheet(self, image: &[u8], map: &[u8], buffer: &mut [u8]) -> Sheet
-        requires { ⌜ Listed pages (now image) (now map) self ⌝ }
+    pub fn sheet(self, board: Board, image: &[u8], map: &[u8], buffer: &mut [u8]) -> Sheet
+        requires { ⌜ Listed (pagesOf board) (now image) (now map) self ⌝ }
         ensures { λ r. ⌜
             (let g = sheetOf (length (now (buffer .entry))) (self .listed)
-            (drop (self .listed) (plan pages (now (image .entry)) (now (map .entry)) RunKind.Reset)) in
-            (r .listing ≡ listingAt pages (now (map .entry)) (g .listed)) × (r .end ≡ length (g .text))
+            (drop (self .listed)
+            (plan (pagesOf board) (now (image .entry)) (now (map .entry)) RunKind.Reset)) in
+            (r .listing ≡ listingAt (pagesOf board) (now (map .entry)) (g .listed))
+            × (r .end ≡ length (g .text))
             × (now (buffer .exit) ≡ overlay (g .text) (now (buffer .entry))))
             ⌝ }
     {
@@ -112,32 +116,42 @@ impl Listing {
             if buffer.len() - at < LONGEST {
                 return Sheet { listing, end: at };
             }
-            let line = listing.line(step, image, map, buffer, at);
+            let line = listing.line(board, step, image, map, buffer, at);
             listing = line.listing;
             at = line.end;
         }
     }
 
     // The next packet's line, from `at` on.
-    fn line(self, step: Step, image: &[u8], map: &[u8], buffer: &mut [u8], at: usize) -> Sheet
+    fn line(
+        self,
+        board: Board,
+        step: Step,
+        image: &[u8],
+        map: &[u8],
+        buffer: &mut [u8],
+        at: usize,
+    ) -> Sheet
         requires { ⌜
-            Listed pages (now image) (now map) self × (self .next ≡ Following.Step step)
+            Listed (pagesOf board) (now image) (now map) self × (self .next ≡ Following.Step step)
             × (at + longestLine ≤ length (now buffer))
             ⌝ }
         ensures { λ r. ⌜
             (let s = stepLine (self .listed + 1)
-            (resetPacketAt pages (now (image .entry)) (now (map .entry)) (self .listed)) in
-            (r .listing ≡ listingAt pages (now (map .entry)) (self .listed + 1)) × (r .end ≡ at + length s)
+            (resetPacketAt (pagesOf board) (now (image .entry)) (now (map .entry)) (self .listed)) in
+            (r .listing ≡ listingAt (pagesOf board) (now (map .entry)) (self .listed + 1))
+            × (r .end ≡ at + length s)
             × (now (buffer .exit) ≡ copyOf (now (buffer .entry)) at s) × (length s ≤ longestLine))
             ⌝ }
     {
         let mut packet = [0u8; PACKET];
-        self.line_with(step, image, map, &mut packet, buffer, at)
+        self.line_with(board, step, image, map, &mut packet, buffer, at)
     }
 
     // As `start_with`: the packet's buffer is lent.
     fn line_with(
         self,
+        board: Board,
         step: Step,
         image: &[u8],
         map: &[u8],
@@ -146,21 +160,22 @@ impl Listing {
         at: usize,
     ) -> Sheet
         requires { ⌜
-            Listed pages (now image) (now map) self × (self .next ≡ Following.Step step)
+            Listed (pagesOf board) (now image) (now map) self × (self .next ≡ Following.Step step)
             × (length (now packet) ≡ packetMost) × (at + longestLine ≤ length (now buffer))
             ⌝ }
         ensures { λ r. ⌜
             (let s = stepLine (self .listed + 1)
-            (resetPacketAt pages (now (image .entry)) (now (map .entry)) (self .listed)) in
-            (r .listing ≡ listingAt pages (now (map .entry)) (self .listed + 1)) × (r .end ≡ at + length s)
+            (resetPacketAt (pagesOf board) (now (image .entry)) (now (map .entry)) (self .listed)) in
+            (r .listing ≡ listingAt (pagesOf board) (now (map .entry)) (self .listed + 1))
+            × (r .end ≡ at + length s)
             × (now (buffer .exit) ≡ copyOf (now (buffer .entry)) at s) × (length s ≤ longestLine))
             ⌝ }
     {
         let listed = self.listed + 1;
-        let n = send(image, map, RunKind::Reset, step, packet);
+        let n = send(board, image, map, RunKind::Reset, step, packet);
         let end = step_line(buffer, at, listed as u64, &packet[..n]);
         let listing = Listing {
-            next: follow(map, RunKind::Reset, step),
+            next: follow(board, map, RunKind::Reset, step),
             listed,
             total: self.total,
         };

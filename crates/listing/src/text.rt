@@ -2,12 +2,14 @@
 ghost use mathlib.Core.Path.{_≡_};
 ghost use Prim.Native.Nat.{_≤_};
 ghost use lib.ListN.{length, set};
-ghost use Rattle.basis.specs.Board.{flashSize};
+ghost use Rattle.basis.specs.Board.{pagesOf};
+ghost use Rattle.basis.specs.Units.{startOf};
 ghost use Rattle.image.specs.Hex.{settled, startIn};
 ghost use Rattle.image.specs.Record.{pointed, noLine};
 ghost use Rattle.listing.specs.Text.{going, lineRoom};
 ghost use Rattle.listing.specs.Feed.{state, afterLine, columnIn, fedLine, oneMore, withOpen, endedLength, fedByte, byteIn, feedIn, Keeps, lastIn, shutOf, closeIn};
 ghost use Rattle.listing.specs.Paper.{paperReading};
+use basis::board::Board;
 use basis::buffers::first;
 use image::hex::Hex;
 use image::hex::Read;
@@ -45,15 +47,16 @@ struct Stretch {
 
 impl Reading {
     // A text at its start, with image and map as the hex reader starts them.
-    pub fn start(image: &mut [u8], map: &mut [u8]) -> Reading
+    pub fn start(board: Board, image: &mut [u8], map: &mut [u8]) -> Reading
         ensures { λ r. ⌜
-            (let o = settled (pointed noLine (startIn flashSize (now (image .entry)) (now (map .entry))))
-            (now (image .entry)) (now (map .entry)) in
+            (let i = now (image .entry) in
+            let m = now (map .entry) in
+            let o = settled (pointed noLine (startIn (startOf (pagesOf board)) i m)) i m in
             (paperReading r ≡ afterLine 0 (o .answer)) × (now (image .exit) ≡ o .image)
             × (now (map .exit) ≡ o .map))
             ⌝ }
     {
-        match Hex::start(image, map) {
+        match Hex::start(board, image, map) {
             Read::Taken(hex) => Reading::Open(Text {
                 hex,
                 lines: 0,
@@ -71,6 +74,7 @@ impl Reading {
     // The next bytes of the text, as many as came. After a refusal they count for nothing.
     pub fn feed(
         self,
+        board: Board,
         bytes: &[u8],
         line: &mut [u8; LINE],
         image: &mut [u8],
@@ -78,7 +82,7 @@ impl Reading {
     ) -> Reading
         ensures { λ r. ⌜
             state (paperReading r) (now (line .exit)) (now (image .exit)) (now (map .exit))
-            ≡ feedIn flashSize
+            ≡ feedIn (startOf (pagesOf board))
             (state (paperReading self) (now (line .entry)) (now (image .entry)) (now (map .entry)))
             (now (bytes .entry))
             ⌝ }
@@ -89,7 +93,7 @@ impl Reading {
             let stretch = reading.keep(&bytes[i..], line);
             let open = stretch.reading;
             i += stretch.len;
-            reading = open.byte(bytes[i], line, image, map);
+            reading = open.byte(board, bytes[i], line, image, map);
             i += 1;
         }
         reading
@@ -99,7 +103,7 @@ impl Reading {
     fn keep(self, bytes: &[u8], line: &mut [u8]) -> Stretch
         requires { ⌜ lineRoom ≤ length (now line) ⌝ }
         ensures { λ r. ⌜
-            Keeps flashSize (paperReading self) (now (line .entry)) (now (bytes .entry))
+            Keeps (paperReading self) (now (line .entry)) (now (bytes .entry))
             (paperReading (r .reading)) (now (line .exit)) (r .len)
             ⌝ }
     {
@@ -112,29 +116,29 @@ impl Reading {
         }
     }
 
-    fn byte(self, b: u8, line: &mut [u8], image: &mut [u8], map: &mut [u8]) -> Reading
+    fn byte(self, board: Board, b: u8, line: &mut [u8], image: &mut [u8], map: &mut [u8]) -> Reading
         ensures { λ r. ⌜
             state (paperReading r) (now (line .exit)) (now (image .exit)) (now (map .exit))
-            ≡ byteIn flashSize
+            ≡ byteIn (startOf (pagesOf board))
             (state (paperReading self) (now (line .entry)) (now (image .entry)) (now (map .entry))) b
             ⌝ }
     {
         match self {
-            Reading::Open(text) => text.byte(b, line, image, map),
+            Reading::Open(text) => text.byte(board, b, line, image, map),
             Reading::Refused(blame) => Reading::Refused(blame),
         }
     }
 
     // The text has ended: what stands after the last 0A is a line as it stands, and the reader is closed.
-    pub fn close(self, line: &[u8; LINE], image: &mut [u8], map: &mut [u8]) -> Reading
+    pub fn close(self, board: Board, line: &[u8; LINE], image: &mut [u8], map: &mut [u8]) -> Reading
         ensures { λ r. ⌜
             state (paperReading r) (now (line .entry)) (now (image .exit)) (now (map .exit))
-            ≡ closeIn flashSize
+            ≡ closeIn (startOf (pagesOf board))
             (state (paperReading self) (now (line .entry)) (now (image .entry)) (now (map .entry)))
             ⌝ }
     {
         match self {
-            Reading::Open(text) => text.last(line, image, map).shut(),
+            Reading::Open(text) => text.last(board, line, image, map).shut(),
             Reading::Refused(blame) => Reading::Refused(blame),
         }
     }
@@ -154,7 +158,7 @@ impl Text {
     // A stretch is gone through at once, since a byte at a time carries the whole state along.
     fn keep(self, bytes: &[u8], line: &mut [u8]) -> Stretch
         ensures { λ r. ⌜
-            Keeps flashSize (going self) (now (line .entry)) (now (bytes .entry)) (paperReading (r .reading))
+            Keeps (going self) (now (line .entry)) (now (bytes .entry)) (paperReading (r .reading))
             (now (line .exit)) (r .len)
             ⌝ }
     {
@@ -186,14 +190,15 @@ impl Text {
         Stretch { reading, len }
     }
 
-    fn byte(self, b: u8, line: &mut [u8], image: &mut [u8], map: &mut [u8]) -> Reading
+    fn byte(self, board: Board, b: u8, line: &mut [u8], image: &mut [u8], map: &mut [u8]) -> Reading
         ensures { λ r. ⌜
             state (paperReading r) (now (line .exit)) (now (image .exit)) (now (map .exit))
-            ≡ fedByte flashSize self b (now (line .entry)) (now (image .entry)) (now (map .entry))
+            ≡ fedByte (startOf (pagesOf board)) self b (now (line .entry)) (now (image .entry))
+            (now (map .entry))
             ⌝ }
     {
         if b == 0x0A {
-            return self.take(self.ended(), line, image, map);
+            return self.take(board, self.ended(), line, image, map);
         }
         let hex = self.hex;
         Reading::Open(Text {
@@ -218,31 +223,33 @@ impl Text {
     }
 
     // What stands after the last 0A; nothing is no line.
-    fn last(self, line: &[u8], image: &mut [u8], map: &mut [u8]) -> Reading
+    fn last(self, board: Board, line: &[u8], image: &mut [u8], map: &mut [u8]) -> Reading
         ensures { λ r. ⌜
             state (paperReading r) (now (line .entry)) (now (image .exit)) (now (map .exit))
-            ≡ lastIn flashSize self (now (line .entry)) (now (image .entry)) (now (map .entry))
+            ≡ lastIn (startOf (pagesOf board)) self (now (line .entry)) (now (image .entry))
+            (now (map .entry))
             ⌝ }
     {
         let n = self.len;
         if n == 0 {
             return Reading::Open(self);
         }
-        self.take(n, line, image, map)
+        self.take(board, n, line, image, map)
     }
 
     // One line of `n` bytes, as many of them as are kept: the next record.
-    fn take(self, n: usize, line: &[u8], image: &mut [u8], map: &mut [u8]) -> Reading
+    fn take(self, board: Board, n: usize, line: &[u8], image: &mut [u8], map: &mut [u8]) -> Reading
         ensures { λ r. ⌜
             state (paperReading r) (now (line .entry)) (now (image .exit)) (now (map .exit))
-            ≡ fedLine flashSize self n (now (line .entry)) (now (image .entry)) (now (map .entry))
+            ≡ fedLine (startOf (pagesOf board)) self n (now (line .entry)) (now (image .entry))
+            (now (map .entry))
             ⌝ }
     {
         let hex = self.hex;
         // no text has 2^64 lines
         let at = std::num::wrapping_add_u64(self.lines, 1);
         let kept = first(line, n);
-        match hex.record(kept, image, map) {
+        match hex.record(board, kept, image, map) {
             Read::Taken(next) => Reading::Open(Text {
                 hex: next,
                 lines: at,

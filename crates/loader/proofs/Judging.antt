@@ -4,8 +4,8 @@ use mathlib.Core.List.{List}
 use mathlib.Core.Path.{_≡_, sym, ap, subst}
 use native.Mathlib.Omega.{arith}
 use lib.ListN.{length, take, drop, length-take, length-drop}
-use Rattle.basis.specs.Board.{pages, flashSize}
 use Rattle.basis.specs.Refusals.{Answer, refused, given}
+use Rattle.basis.specs.Units.{startOf}
 use Rattle.loader.specs.Commands.{Effect}
 use Rattle.loader.specs.Deeds.{dataIn, deedOf, Fits, Judges}
 use Rattle.loader.specs.Paper.{paperRefusal}
@@ -24,14 +24,14 @@ module _ {board : ℕ} {l : Loader} {s f : List ℕ} {x : Answer Effect} where
   accepts e h = record { comes-to = sym e; can-apply = h }
 
 -- a deed is the one that it was found to be
-module _ {d k : Deed} (e : d ≡ k) (s : List ℕ) where
-  pub fits-as : Fits pages d s → Fits pages k s
-  fits-as = subst (λ (x : Deed). Fits pages x s) e
+module _ (board : ℕ) {d k : Deed} (e : d ≡ k) (s : List ℕ) where
+  pub fits-as : Fits board d s → Fits board k s
+  fits-as = subst (λ (x : Deed). Fits board x s) e
 
   pub applies : {next : Loader} {g : List ℕ} (l : Loader) (f : List ℕ)
-      → next ≡ deedOf pages k l s f .loader
-      → g ≡ deedOf pages k l s f .flash
-      → (next ≡ deedOf pages d l s f .loader) × (g ≡ deedOf pages d l s f .flash)
+      → next ≡ deedOf board k l s f .loader
+      → g ≡ deedOf board k l s f .flash
+      → (next ≡ deedOf board d l s f .loader) × (g ≡ deedOf board d l s f .flash)
   applies l f p q = rw e (p, q)
 
 -- a packet has as many bytes as it says
@@ -44,7 +44,8 @@ part-data s p =
     let e : p .at + p .len - p .at ≡ p .len = omega arith in
     ap (λ (n : ℕ). take n (drop (p .at) s)) e
 
-pub part-fits : (s f : List ℕ) (p : Packet) → p .at + p .len ≤ length s → p .address .0 + p .len ≤ flashSize
-    → length f ≡ flashSize
+pub part-fits : (board : ℕ) (s f : List ℕ) (p : Packet) → p .at + p .len ≤ length s
+    → p .address .0 + p .len ≤ startOf board
+    → length f ≡ startOf board
     → p .address .0 + length (take (p .at + p .len - p .at) (drop (p .at) s)) ≤ length f
-part-fits s f p h g l = rw (part-data s p, data-length s p h) (omega arith)
+part-fits board s f p h g l = rw (part-data s p, data-length s p h) (omega arith)

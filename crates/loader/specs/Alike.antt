@@ -28,7 +28,8 @@ unadded l =
 pub record TakenAlike (hide : Loader → Loader) (board : ℕ) (l k : Loader) (s f : List ℕ) (room : ℕ)
     : Type 0 where
   pub verdict-same : bare (takeOf board l s f room) ≡ bare (takeOf board k s f room)
-  pub answer-same : answerBytes l (takeOf board l s f room) ≡ answerBytes k (takeOf board k s f room)
+  pub answer-same : answerBytes board l (takeOf board l s f room)
+      ≡ answerBytes board k (takeOf board k s f room)
   pub flash-same : effectAfter l f (takeOf board l s f room) .flash
       ≡ effectAfter k f (takeOf board k s f room) .flash
   pub loader-same : hide (effectAfter l f (takeOf board l s f room) .loader)
@@ -57,7 +58,7 @@ courseFrom board l f (input s room ∷ es) =
     let x = takeOf board l s f room in
     let rest = courseFrom board (effectAfter l f x .loader) (effectAfter l f x .flash) es in
     record {
-      told = record { verdict = bare x; answer = answerBytes l x } ∷ rest .told;
+      told = record { verdict = bare x; answer = answerBytes board l x } ∷ rest .told;
       loader = rest .loader;
       flash = rest .flash;
     }

@@ -5,7 +5,7 @@ use mathlib.Core.List.{List, [], _∷_}
 use mathlib.Core.Path.{_≡_}
 use lib.Dec.{ltb, eqb}
 use lib.ListN.{length, getD, take, drop}
-use Rattle.basis.specs.Board.{greeting, answerMost, openingByte, ackByte, belByte}
+use Rattle.basis.specs.Board.{greetingOf, answerMost, openingByte, ackByte, belByte}
 use Rattle.basis.specs.Choice.{pick, both, either}
 use Rattle.basis.specs.Lists.{overlay}
 use Rattle.basis.specs.Refusals.{Answer, refused, given, _when_, first, bare}
@@ -63,21 +63,21 @@ sizesWrong board f room = either (not (eqb (length f) (startOf board))) (ltb roo
 unfoldable pub takeOf : ℕ → Loader → List ℕ → List ℕ → ℕ → Answer Effect
 takeOf board l s f room = first (20 when sizesWrong board f room ∷ []) (hearOf board l s f)
 
--- 20, 11, 1 and 2 are not answered
+-- 65, 20, 11, 1 and 2 are not answered
 abbrev pub quiet : ℕ → Bool
-quiet n = either (eqb n 20) (either (eqb n 11) (either (eqb n 1) (eqb n 2)))
+quiet n = either (eqb n 65) (either (eqb n 20) (either (eqb n 11) (either (eqb n 1) (eqb n 2))))
 
--- any other refusal answers BEL 07; acceptance answers the greeting where the loader was waiting, else ACK 06
-abbrev pub tellOf : Bool → Answer (Unit {0}) → List ℕ
-tellOf w (refused n) = pick (quiet n) [] (belByte ∷ [])
-tellOf w (given u) = pick w greeting (ackByte ∷ [])
+-- any other refusal answers BEL 07; acceptance the board's greeting where the loader was waiting, else ACK 06
+abbrev pub tellOf : ℕ → Bool → Answer (Unit {0}) → List ℕ
+tellOf board w (refused n) = pick (quiet n) [] (belByte ∷ [])
+tellOf board w (given u) = pick w (greetingOf board) (ackByte ∷ [])
 
-abbrev pub answerBytes : Loader → Answer Effect → List ℕ
-answerBytes l x = tellOf (waiting (l .condition)) (bare x)
+abbrev pub answerBytes : ℕ → Loader → Answer Effect → List ℕ
+answerBytes board l x = tellOf board (waiting (l .condition)) (bare x)
 
 -- what the entry shows: besides loader and flash, the answer bytes and how many they are
-pub record Takes (x : Answer Effect) (l : Loader) (f old : List ℕ)
+pub record Takes (board : ℕ) (x : Answer Effect) (l : Loader) (f old : List ℕ)
     (verdict : Answer (Unit {0})) (next : Loader) (answered : ℕ) (flash answer : List ℕ) : Type 0 where
   pub does-is : Does x l f verdict next flash
-  pub answered-is : answered ≡ length (answerBytes l x)
-  pub answer-is : answer ≡ overlay (answerBytes l x) old
+  pub answered-is : answered ≡ length (answerBytes board l x)
+  pub answer-is : answer ≡ overlay (answerBytes board l x) old

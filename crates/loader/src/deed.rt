@@ -1,14 +1,15 @@
 // What an accepted input does, and the one place where it is done; judging it only reads.
 ghost use mathlib.Core.Path.{_≡_};
 ghost use lib.ListN.{length};
-ghost use Rattle.basis.specs.Board.{pages, flashSize};
+ghost use Rattle.basis.specs.Board.{pagesOf};
+ghost use Rattle.basis.specs.Units.{startOf};
 ghost use Rattle.loader.specs.Commands.{addedOf};
 ghost use Rattle.loader.specs.Deeds.{Fits, deedOf};
 use crate::protection::Protection;
 use crate::state::Condition;
 use crate::state::Loader;
 use crate::verdict::Refusal;
-use basis::board::END;
+use basis::board::Board;
 use basis::units::Address;
 use packet::read::Packet;
 
@@ -35,10 +36,10 @@ pub enum Judged {
 }
 
 // An input changes loader and flash here and nowhere else.
-pub fn apply(deed: Deed, loader: Loader, input: &[u8], flash: &mut [u8]) -> Loader
-    requires { ⌜ (length (now flash) ≡ flashSize) × Fits pages deed (now input) ⌝ }
+pub fn apply(board: Board, deed: Deed, loader: Loader, input: &[u8], flash: &mut [u8]) -> Loader
+    requires { ⌜ (length (now flash) ≡ startOf (pagesOf board)) × Fits (pagesOf board) deed (now input) ⌝ }
     ensures { λ r. ⌜
-        (let x = deedOf pages deed loader (now (input .entry)) (now (flash .entry)) in
+        (let x = deedOf (pagesOf board) deed loader (now (input .entry)) (now (flash .entry)) in
         (r ≡ x .loader) × (now (flash .exit) ≡ x .flash))
         ⌝ }
 {
@@ -65,7 +66,7 @@ pub fn apply(deed: Deed, loader: Loader, input: &[u8], flash: &mut [u8]) -> Load
         Deed::Add(address) => {
             let sequence = loader.sequence;
             let so_far = sequence.added;
-            loader.with_added(added(so_far, address))
+            loader.with_added(added(board, so_far, address))
         }
         Deed::Close(key) => loader.joined(key),
         Deed::Leave => loader.with_condition(Condition::Left),
@@ -73,10 +74,11 @@ pub fn apply(deed: Deed, loader: Loader, input: &[u8], flash: &mut [u8]) -> Load
 }
 
 // The address past flash is read protection.
-fn added(protection: Protection, address: Address) -> Protection
-    ensures { λ r. ⌜ r ≡ addedOf pages protection (address .0) ⌝ }
+fn added(board: Board, protection: Protection, address: Address) -> Protection
+    ensures { λ r. ⌜ r ≡ addedOf (pagesOf board) protection (address .0) ⌝ }
 {
-    if address.0 < END {
+    let past = board.end();
+    if address.0 < past {
         protection.with_group(address.group())
     } else {
         protection.with_read()

@@ -1,6 +1,6 @@
 // E: pages become 0xFF, or everything does and all protection goes.
 ghost use mathlib.Core.Path.{_≡_};
-ghost use Rattle.basis.specs.Board.{pages};
+ghost use Rattle.basis.specs.Board.{pagesOf};
 ghost use Rattle.basis.specs.Refusals.{first};
 ghost use Rattle.loader.specs.Commands.{massErase, erasing, eraseRows, pagesErased};
 ghost use Rattle.loader.specs.Deeds.{JudgesAny};
@@ -8,14 +8,13 @@ use crate::deed::Deed;
 use crate::deed::Judged;
 use crate::state::Loader;
 use crate::verdict::Refusal;
-use basis::board::END;
+use basis::board::Board;
 use basis::board::PAGE;
-use basis::board::PAGES;
 use basis::units::Address;
 use basis::units::Page;
 
-pub fn erase(loader: Loader, address: Address, count: u8) -> Judged
-    ensures { λ r. ⌜ JudgesAny pages r loader (erasing pages loader (address .0) count) ⌝ }
+pub fn erase(board: Board, loader: Loader, address: Address, count: u8) -> Judged
+    ensures { λ r. ⌜ JudgesAny (pagesOf board) r loader (erasing (pagesOf board) loader (address .0) count) ⌝ }
 {
     if loader.sequence.opened {
         return Judged::Refused(Refusal::Sequence);
@@ -24,7 +23,7 @@ pub fn erase(loader: Loader, address: Address, count: u8) -> Judged
     if is_mass(address, count) {
         return Judged::Accepted(Deed::MassErase);
     }
-    erase_pages(loader, address, count)
+    erase_pages(board, loader, address, count)
 }
 
 fn is_mass(address: Address, count: u8) -> bool
@@ -34,21 +33,23 @@ fn is_mass(address: Address, count: u8) -> bool
 }
 
 // 7 and 8 of an erase of pages.
-fn erase_pages(loader: Loader, address: Address, count: u8) -> Judged
+fn erase_pages(board: Board, loader: Loader, address: Address, count: u8) -> Judged
     ensures { λ r. ⌜
-        (let a = address .0 in
-        JudgesAny pages r loader (λ f. first (eraseRows pages loader a count) (pagesErased loader a count f)))
+        (let b = pagesOf board in let a = address .0 in
+        JudgesAny b r loader (λ f. first (eraseRows b loader a count) (pagesErased loader a count f)))
         ⌝ }
 {
+    let pages = board.pages();
+    let past = board.end();
     let page = address.page();
     let end = page.0 + count as u32;
     if count == 0 {
         return Judged::Refused(Refusal::Address);
     }
-    if END <= address.0 {
+    if past <= address.0 {
         return Judged::Refused(Refusal::Address);
     }
-    if PAGES < end {
+    if pages < end {
         return Judged::Refused(Refusal::Address);
     }
     let protection = loader.protection;

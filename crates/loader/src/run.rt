@@ -1,5 +1,5 @@
 // R: the loader is left.
-ghost use Rattle.basis.specs.Board.{pages};
+ghost use Prim.Native.Nat.{ℕ};
 ghost use Rattle.loader.specs.Commands.{keeping, running};
 ghost use Rattle.loader.specs.Deeds.{JudgesAny};
 use crate::deed::Deed;
@@ -10,7 +10,7 @@ use basis::units::Address;
 
 // Address 0 jumps, address 1 resets by software.
 pub fn run(loader: Loader, address: Address) -> Judged
-    ensures { λ r. ⌜ JudgesAny pages r loader (λ f. keeping f (running loader (address .0))) ⌝ }
+    ensures { λ r. ⌜ ((b : ℕ) → JudgesAny b r loader (λ f. keeping f (running loader (address .0)))) ⌝ }
 {
     if loader.sequence.opened {
         return Judged::Refused(Refusal::Sequence);

@@ -2,9 +2,10 @@
 ghost use mathlib.Core.Path.{_≡_};
 ghost use Prim.Native.Nat.{_≤_};
 ghost use lib.ListN.{length};
-ghost use Rattle.basis.specs.Board.{pages, flashSize, answerMost};
+ghost use Rattle.basis.specs.Board.{pagesOf, answerMost};
 ghost use Rattle.basis.specs.Lists.{overlay};
 ghost use Rattle.basis.specs.Refusals.{refused};
+ghost use Rattle.basis.specs.Units.{startOf};
 ghost use Rattle.loader.specs.Deeds.{Judges};
 ghost use Rattle.loader.specs.Paper.{paperRefusal, paperVerdict};
 ghost use Rattle.loader.specs.Take.{waiting, opensBoard, serveOf, hearOf, takeOf, quiet, tellOf, Takes};
@@ -20,9 +21,8 @@ use crate::verdict::Verdict;
 use basis::board::ACK;
 use basis::board::ANSWER;
 use basis::board::BEL;
-use basis::board::GREETING;
+use basis::board::Board;
 use basis::board::OPENING;
-use basis::board::SIZE;
 use basis::buffers::write;
 use packet::read::Reading;
 use packet::read::read;
@@ -34,30 +34,37 @@ pub struct Taken {
     pub answered: usize,
 }
 
-pub fn take(loader: Loader, input: &[u8], flash: &mut [u8], answer: &mut [u8]) -> Taken
+pub fn take(
+    board: Board,
+    loader: Loader,
+    input: &[u8],
+    flash: &mut [u8],
+    answer: &mut [u8],
+) -> Taken
     ensures { λ r. ⌜
         (let f = now (flash .entry) in
-        let x = takeOf pages loader (now (input .entry)) f (length (now (answer .entry))) in
-        Takes x loader f (now (answer .entry)) (paperVerdict (r .verdict)) (r .loader)
+        let x = takeOf (pagesOf board) loader (now (input .entry)) f (length (now (answer .entry))) in
+        Takes (pagesOf board) x loader f (now (answer .entry)) (paperVerdict (r .verdict)) (r .loader)
         (r .answered) (now (flash .exit)) (now (answer .exit)))
         ⌝ }
 {
-    if flash.len() != SIZE {
+    let size = board.size();
+    if flash.len() != size {
         return wrong_sizes(loader);
     }
     if answer.len() < ANSWER {
         return wrong_sizes(loader);
     }
-    match hear(loader, input, flash) {
+    match hear(board, loader, input, flash) {
         Judged::Accepted(deed) => Taken {
-            loader: apply(deed, loader, input, flash),
+            loader: apply(board, deed, loader, input, flash),
             verdict: Verdict::Accepted,
-            answered: tell(is_waiting(loader), Verdict::Accepted, answer),
+            answered: tell(board, is_waiting(loader), Verdict::Accepted, answer),
         },
         Judged::Refused(why) => Taken {
             loader,
             verdict: Verdict::Refused(why),
-            answered: tell(is_waiting(loader), Verdict::Refused(why), answer),
+            answered: tell(board, is_waiting(loader), Verdict::Refused(why), answer),
         },
     }
 }
@@ -87,11 +94,11 @@ fn is_waiting(loader: Loader) -> bool
 }
 
 // What the condition lets in.
-fn hear(loader: Loader, input: &[u8], flash: &[u8]) -> Judged
-    requires { ⌜ length (now flash) ≡ flashSize ⌝ }
+fn hear(board: Board, loader: Loader, input: &[u8], flash: &[u8]) -> Judged
+    requires { ⌜ length (now flash) ≡ startOf (pagesOf board) ⌝ }
     ensures { λ r. ⌜
         (let s = now (input .entry) in let f = now (flash .entry) in
-        Judges pages r loader s f (hearOf pages loader s f))
+        Judges (pagesOf board) r loader s f (hearOf (pagesOf board) loader s f))
         ⌝ }
 {
     let condition = loader.condition;
@@ -102,7 +109,7 @@ fn hear(loader: Loader, input: &[u8], flash: &[u8]) -> Judged
             }
             Judged::Accepted(Deed::Serve)
         }
-        Condition::Serving => serve(loader, input, flash),
+        Condition::Serving => serve(board, loader, input, flash),
         Condition::Left => Judged::Refused(Refusal::Unheard),
     }
 }
@@ -113,11 +120,11 @@ fn opens_board(input: &[u8]) -> bool
     input.len() == 1 && input[0] == OPENING
 }
 
-fn serve(loader: Loader, input: &[u8], flash: &[u8]) -> Judged
-    requires { ⌜ length (now flash) ≡ flashSize ⌝ }
+fn serve(board: Board, loader: Loader, input: &[u8], flash: &[u8]) -> Judged
+    requires { ⌜ length (now flash) ≡ startOf (pagesOf board) ⌝ }
     ensures { λ r. ⌜
         (let s = now (input .entry) in let f = now (flash .entry) in
-        Judges pages r loader s f (serveOf pages loader s f))
+        Judges (pagesOf board) r loader s f (serveOf (pagesOf board) loader s f))
         ⌝ }
 {
     match read(input) {
@@ -125,23 +132,23 @@ fn serve(loader: Loader, input: &[u8], flash: &[u8]) -> Judged
         Reading::Packet(packet) => {
             let at = packet.at;
             let end = at + packet.len;
-            judge(loader, packet, &input[at..end], flash)
+            judge(board, loader, packet, &input[at..end], flash)
         }
     }
 }
 
 // The answer bytes of a verdict, and how many.
-fn tell(waiting: bool, verdict: Verdict, answer: &mut [u8]) -> usize
+fn tell(board: Board, waiting: bool, verdict: Verdict, answer: &mut [u8]) -> usize
     requires { ⌜ answerMost ≤ length (now answer) ⌝ }
     ensures { λ r. ⌜
-        (r ≡ length (tellOf waiting (paperVerdict verdict)))
-        × (now (answer .exit) ≡ overlay (tellOf waiting (paperVerdict verdict)) (now (answer .entry)))
+        (let told = tellOf (pagesOf board) waiting (paperVerdict verdict) in
+        (r ≡ length told) × (now (answer .exit) ≡ overlay told (now (answer .entry))))
         ⌝ }
 {
     match verdict {
         Verdict::Accepted => {
             if waiting {
-                write(answer, &GREETING);
+                write(answer, &board.greeting());
                 return ANSWER;
             }
             answer[0] = ACK;

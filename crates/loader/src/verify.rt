@@ -3,8 +3,9 @@ ghost use mathlib.Core.Path.{_≡_};
 ghost use mathlib.Core.List.{List};
 ghost use Prim.Native.Nat.{ℕ, _+_, _≤_};
 ghost use lib.ListN.{length};
-ghost use Rattle.basis.specs.Board.{pages, flashSize};
+ghost use Rattle.basis.specs.Board.{pagesOf};
 ghost use Rattle.basis.specs.Refusals.{given, first};
+ghost use Rattle.basis.specs.Units.{startOf};
 ghost use Rattle.loader.specs.Commands.{verifyRows, keeping};
 ghost use Rattle.loader.specs.Deeds.{Judges};
 ghost use Rattle.loader.specs.Verify.{equalsOf};
@@ -13,21 +14,22 @@ use crate::deed::Judged;
 use crate::state::Loader;
 use crate::verdict::Refusal;
 use crate::write::past_end;
+use basis::board::Board;
 use basis::units::Address;
 use packet::turn::restored;
 
-pub fn verify(loader: Loader, address: Address, turned: &[u8], flash: &[u8]) -> Judged
-    requires { ⌜ length (now flash) ≡ flashSize ⌝ }
+pub fn verify(board: Board, loader: Loader, address: Address, turned: &[u8], flash: &[u8]) -> Judged
+    requires { ⌜ length (now flash) ≡ startOf (pagesOf board) ⌝ }
     ensures { λ r. ⌜
         (let f = now (flash .entry) in
-        let rows = verifyRows pages loader (address .0) (now (turned .entry)) f in
-        (s : List ℕ) → Judges pages r loader s f (keeping f (first rows (given loader))))
+        let rows = verifyRows (pagesOf board) loader (address .0) (now (turned .entry)) f in
+        (s : List ℕ) → Judges (pagesOf board) r loader s f (keeping f (first rows (given loader))))
         ⌝ }
 {
     if loader.sequence.opened {
         return Judged::Refused(Refusal::Sequence);
     }
-    if past_end(address, turned.len()) {
+    if past_end(board, address, turned.len()) {
         return Judged::Refused(Refusal::Address);
     }
     if loader.protection.read {

@@ -4,22 +4,24 @@ ghost use mathlib.Core.List.{List};
 ghost use Prim.Native.Nat.{ℕ, _+_, _≤_};
 ghost use lib.Dec.{ltb};
 ghost use lib.ListN.{length};
-ghost use Rattle.basis.specs.Board.{pages, flashSize};
+ghost use Rattle.basis.specs.Board.{pagesOf};
+ghost use Rattle.basis.specs.Units.{startOf};
 ghost use Rattle.loader.specs.Commands.{writing};
 ghost use Rattle.loader.specs.Deeds.{dataIn, Judges};
 use crate::deed::Deed;
 use crate::deed::Judged;
 use crate::state::Loader;
 use crate::verdict::Refusal;
+use basis::board::Board;
 use basis::board::GROUP;
-use basis::board::SIZE;
 use basis::units::Address;
 use packet::read::Packet;
 
-pub fn write(loader: Loader, packet: Packet) -> Judged
+pub fn write(board: Board, loader: Loader, packet: Packet) -> Judged
     ensures { λ r. ⌜
         ((s f : List ℕ) → packet .at + packet .len ≤ length s
-        → Judges pages r loader s f (writing pages loader (packet .address .0) (dataIn s packet) f))
+        → Judges (pagesOf board) r loader s f
+        (writing (pagesOf board) loader (packet .address .0) (dataIn s packet) f))
         ⌝ }
 {
     let address = packet.address;
@@ -27,7 +29,7 @@ pub fn write(loader: Loader, packet: Packet) -> Judged
     if loader.sequence.opened {
         return Judged::Refused(Refusal::Sequence);
     }
-    if past_end(address, size) {
+    if past_end(board, address, size) {
         return Judged::Refused(Refusal::Address);
     }
     let protection = loader.protection;
@@ -39,11 +41,12 @@ pub fn write(loader: Loader, packet: Packet) -> Judged
 }
 
 // The range of W and of V.
-pub fn past_end(address: Address, size: usize) -> bool
-    ensures { λ r. ⌜ r ≡ ltb flashSize (address .0 + size) ⌝ }
+pub fn past_end(board: Board, address: Address, size: usize) -> bool
+    ensures { λ r. ⌜ r ≡ ltb (startOf (pagesOf board)) (address .0 + size) ⌝ }
 {
-    if SIZE < size {
+    let past = board.size();
+    if past < size {
         return true;
     }
-    SIZE - size < address.0 as usize
+    past - size < address.0 as usize
 }

@@ -12,7 +12,7 @@ use runs::survey::Surveyed;
 
 // Every E and every W.
 pub fn before_verify(all: Counts) -> u32
-    requires { ⌜ (all .runs < 2 ^ 16) × (all .pieces < 2 ^ 16) ⌝ }
+    requires { ⌜ (all .runs < 2 ^ 20) × (all .pieces < 2 ^ 20) ⌝ }
     ensures { λ r. ⌜ r ≡ all .runs + all .pieces ⌝ }
 {
     all.runs + all.pieces
@@ -20,7 +20,7 @@ pub fn before_verify(all: Counts) -> u32
 
 // Each run once, each piece twice.
 fn before_r(all: Counts) -> u32
-    requires { ⌜ (all .runs < 2 ^ 16) × (all .pieces < 2 ^ 16) ⌝ }
+    requires { ⌜ (all .runs < 2 ^ 20) × (all .pieces < 2 ^ 20) ⌝ }
     ensures { λ r. ⌜ r ≡ all .runs + 2 * all .pieces ⌝ }
 {
     all.runs + 2 * all.pieces
@@ -28,7 +28,7 @@ fn before_r(all: Counts) -> u32
 
 // With R, where the run kind sends it.
 pub fn total(all: Counts, kind: RunKind) -> u32
-    requires { ⌜ (all .runs < 2 ^ 16) × (all .pieces < 2 ^ 16) ⌝ }
+    requires { ⌜ (all .runs < 2 ^ 20) × (all .pieces < 2 ^ 20) ⌝ }
     ensures { λ r. ⌜ r ≡ all .runs + 2 * all .pieces + rCount kind ⌝ }
 {
     before_r(all) + r_count(kind)
@@ -57,7 +57,7 @@ pub fn sends_r(kind: RunKind) -> bool
 // Whether the step's packet is out after `k` acknowledgements, by the survey at the step's place.
 pub fn stands(found: Surveyed, kind: RunKind, step: Step, k: u32) -> bool
     requires { ⌜
-        (found .all .runs < 2 ^ 16) × (found .all .pieces < 2 ^ 16) × (found .below .pieces < 2 ^ 16)
+        (found .all .runs < 2 ^ 20) × (found .all .pieces < 2 ^ 20) × (found .below .pieces < 2 ^ 20)
         ⌝ }
     ensures { λ r. ⌜ r ≡ standsBy found kind step k ⌝ }
 {

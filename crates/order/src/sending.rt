@@ -1,17 +1,18 @@
 // The packet of a step, built into the caller's buffer.
 ghost use mathlib.Core.Path.{_≡_};
 ghost use mathlib.Core.Bool.{true};
-ghost use Prim.Native.Nat.{_+_, _≤_};
+ghost use Prim.Native.Nat.{_+_, _*_, _%_, _≤_};
 ghost use lib.ListN.{length, getD};
-ghost use Rattle.basis.specs.Board.{flashSize, mapSize, pages};
+ghost use Rattle.basis.specs.Board.{pagesOf, pagesMost};
 ghost use Rattle.basis.specs.Lists.{overlay};
+ghost use Rattle.basis.specs.Units.{startOf, mapBytes};
 ghost use Rattle.packet.specs.Packet.{packet, packetMost};
 ghost use Rattle.packet.specs.Table.{listed, inShape};
 ghost use Rattle.runs.specs.Pieces.{pieceStarts, runStarts};
 ghost use Rattle.order.specs.Steps.{atStart, packetOf};
 ghost use Rattle.order.specs.Plan.{carriesPiece, pieceBytes, erasePacket, runPacket};
 use crate::step::Step;
-use basis::board::PAGES;
+use basis::board::Board;
 use basis::kind::RunKind;
 use basis::units::Address;
 use basis::units::Page;
@@ -26,42 +27,51 @@ use runs::places::PIECE;
 use runs::places::row_len;
 
 // Gives the packet's length.
-pub fn send(image: &[u8], map: &[u8], kind: RunKind, step: Step, buffer: &mut [u8]) -> usize
+pub fn send(
+    board: Board,
+    image: &[u8],
+    map: &[u8],
+    kind: RunKind,
+    step: Step,
+    buffer: &mut [u8],
+) -> usize
     requires { ⌜
-        (length (now image) ≡ flashSize) × (length (now map) ≡ mapSize) × (packetMost ≤ length (now buffer))
-        × (atStart pages (now map) step ≡ true)
+        (length (now image) ≡ startOf (pagesOf board)) × (length (now map) ≡ mapBytes (pagesOf board))
+        × (packetMost ≤ length (now buffer)) × (atStart (pagesOf board) (now map) step ≡ true)
         ⌝ }
     ensures { λ r. ⌜
-        (let p = packetOf pages (now (image .entry)) (now (map .entry)) kind step in
+        (let p = packetOf (pagesOf board) (now (image .entry)) (now (map .entry)) kind step in
         (r ≡ length p) × (now (buffer .exit) ≡ overlay p (now (buffer .entry))))
         ⌝ }
 {
     match step {
-        Step::Erase(page) => send_erase(map, page, buffer),
+        Step::Erase(page) => send_erase(board, map, page, buffer),
         Step::Write(address) => send_piece(image, map, WRITE, address, buffer),
         Step::Verify(address) => send_piece(image, map, VERIFY, address, buffer),
         Step::Run => send_run(kind, buffer),
     }
 }
 
-fn send_erase(map: &[u8], page: Page, buffer: &mut [u8]) -> usize
+fn send_erase(board: Board, map: &[u8], page: Page, buffer: &mut [u8]) -> usize
     requires { ⌜
-        (length (now map) ≡ mapSize) × (packetMost ≤ length (now buffer))
-        × (runStarts pages (now map) (page .0) ≡ true)
+        (length (now map) ≡ mapBytes (pagesOf board)) × (packetMost ≤ length (now buffer))
+        × (runStarts (pagesOf board) (now map) (page .0) ≡ true)
         ⌝ }
     ensures { λ r. ⌜
-        (let p = erasePacket pages (now (map .entry)) (page .0) in
+        (let p = erasePacket (pagesOf board) (now (map .entry)) (page .0) in
         (r ≡ length p) × (now (buffer .exit) ≡ overlay p (now (buffer .entry))))
         ⌝ }
 {
-    let count = [page_row_len(map, page, PAGES) as u8];
+    let pages = board.pages();
+    let count = [page_row_len(map, page, pages) as u8];
     put(buffer, ERASE, page.start(), &count)
 }
 
 // W or V.
 fn send_piece(image: &[u8], map: &[u8], command: u8, address: Address, buffer: &mut [u8]) -> usize
     requires { ⌜
-        (length (now image) ≡ flashSize) × (length (now map) ≡ mapSize) × (packetMost ≤ length (now buffer))
+        (length (now image) ≡ 8 * length (now map)) × (length (now map) % 64 ≡ 0)
+        × (length (now image) ≤ startOf pagesMost) × (packetMost ≤ length (now buffer))
         × (carriesPiece command ≡ true) × (pieceStarts (now map) (address .0) ≡ true)
         ⌝ }
     ensures { λ r. ⌜

@@ -3,8 +3,9 @@
 ghost use Prim.Native.Nat.{_≤_};
 ghost use lib.ListN.{length};
 ghost use Rattle.listing.specs.Plan.{longestLine};
-use basis::board::MAP;
-use basis::board::SIZE;
+use basis::board::Board;
+use basis::board::PAGE;
+use basis::board::SHORT_PAGES;
 use basis::buffers::first;
 use libc::STDERR_FILENO;
 use libc::STDIN_FILENO;
@@ -16,6 +17,11 @@ use listing::plan::total_line;
 use listing::refusals::refusal_at;
 use listing::text::LINE;
 use listing::text::Reading;
+
+// The program is for the short board.
+const SIZE: usize = (SHORT_PAGES * PAGE) as usize;
+
+const MAP: usize = SIZE / 8;
 
 // What one read of the input comes to.
 enum Chunk {
@@ -35,12 +41,17 @@ fn main() {
 fn run(buffer: &mut [u8], line: &mut [u8; LINE], image: &mut [u8], map: &mut [u8])
     requires { ⌜ longestLine ≤ length (now buffer) ⌝ }
 {
-    let started = Reading::start(image, map);
+    let started = Reading::start(Board::Short, image, map);
     let Chunk::Done(reading) = read_all(started, buffer, line, image, map) else {
         io::write_all(STDERR_FILENO, b"plan: standard input cannot be read\n");
         return;
     };
-    if !answer(reading.close(line, image, map), buffer, image, map) {
+    if !answer(
+        reading.close(Board::Short, line, image, map),
+        buffer,
+        image,
+        map,
+    ) {
         io::write_all(STDERR_FILENO, b"plan: standard output cannot be written\n");
     }
 }
@@ -84,7 +95,7 @@ fn read_chunk(
     if n == 0 {
         return Chunk::Done(reading);
     }
-    match reading.feed(&buffer[..n], line, image, map) {
+    match reading.feed(Board::Short, &buffer[..n], line, image, map) {
         Reading::Open(text) => Chunk::More(Reading::Open(text)),
         Reading::Refused(blame) => Chunk::Done(Reading::Refused(blame)),
     }
@@ -107,7 +118,7 @@ fn print(image: &[u8], map: &[u8], buffer: &mut [u8]) -> bool
     requires { ⌜ longestLine ≤ length (now buffer) ⌝ }
 {
     // a file that closed names a byte, so its listing is never refused
-    let Begun::Listing(begun) = Listing::start(image, map) else {
+    let Begun::Listing(begun) = Listing::start(Board::Short, image, map) else {
         return false;
     };
     let head = head_line(buffer);
@@ -116,7 +127,7 @@ fn print(image: &[u8], map: &[u8], buffer: &mut [u8]) -> bool
     }
     let mut listing = begun;
     while listing.listed < listing.total {
-        let sheet = listing.sheet(image, map, buffer);
+        let sheet = listing.sheet(Board::Short, image, map, buffer);
         listing = sheet.listing;
         if !put(buffer, sheet.end) {
             return false;

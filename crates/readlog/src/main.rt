@@ -8,7 +8,7 @@ use libc::STDIN_FILENO;
 use libc::STDOUT_FILENO;
 use listing::log::ROOM;
 use listing::log::log_line;
-use service_log::read::RECORD;
+use service_log::read::MOST;
 
 enum Input {
     Bytes(usize),
@@ -16,8 +16,8 @@ enum Input {
 }
 
 fn main() {
-    // one byte more than a record has, to tell a longer input
-    let mut input = [0u8; RECORD + 1];
+    // one byte more than the longest record has, to tell a longer input
+    let mut input = [0u8; MOST + 1];
     let mut line = [0u8; ROOM];
     run(&mut input, &mut line);
 }

@@ -1,9 +1,9 @@
 // The survey: one walk over the map that counts what a file has, and ranks a place among it.
 ghost use mathlib.Core.Path.{_≡_};
-ghost use Prim.Native.Nat.{_*_, _<_, _≤_};
+ghost use Prim.Native.Nat.{_*_, _^_, _<_, _≤_};
 ghost use lib.ListN.{length};
-ghost use Rattle.basis.specs.Board.{flashSize, mapSize, pages};
-ghost use Rattle.basis.specs.Units.{startOf};
+ghost use Rattle.basis.specs.Board.{pagesOf};
+ghost use Rattle.basis.specs.Units.{startOf, mapBytes};
 ghost use Rattle.runs.specs.Map.{named};
 ghost use Rattle.runs.specs.Pieces.{pieceMost};
 ghost use Rattle.runs.specs.Survey.{surveyOf};
@@ -13,7 +13,7 @@ use crate::walks::Tallies;
 use crate::walks::over_pages;
 use crate::walks::over_places;
 use crate::walks::over_words;
-use basis::board::PAGES;
+use basis::board::Board;
 use basis::units::Address;
 use basis::units::Page;
 
@@ -40,10 +40,11 @@ pub struct Surveyed {
 
 // Surveys the whole map in three stretches: below the page of `at`, that page, and behind it.
 // The page's words up to `at` are taken once more, to rank `at` itself.
-pub fn survey(map: &[u8], at: Address) -> Surveyed
-    requires { ⌜ (length (now map) ≡ mapSize) × (at .0 < flashSize) ⌝ }
-    ensures { λ r. ⌜ r ≡ surveyOf pages (now (map .entry)) (at .0) ⌝ }
+pub fn survey(board: Board, map: &[u8], at: Address) -> Surveyed
+    requires { ⌜ (length (now map) ≡ mapBytes (pagesOf board)) × (at .0 < startOf (pagesOf board)) ⌝ }
+    ensures { λ r. ⌜ r ≡ surveyOf (pagesOf board) (now (map .entry)) (at .0) ⌝ }
 {
+    let pages = board.pages();
     let none = Tally {
         passed: 0,
         pieces: 0,
@@ -55,9 +56,9 @@ pub fn survey(map: &[u8], at: Address) -> Surveyed
     };
     let page = at.page();
     let behind = Page(page.0 + 1);
-    let below = over_pages(map, start, Page(0), page);
-    let here = over_pages(map, below, page, behind);
-    let all = over_pages(map, here, behind, Page(PAGES));
+    let below = over_pages(pages, map, start, Page(0), page);
+    let here = over_pages(pages, map, below, page, behind);
+    let all = over_pages(pages, map, here, behind, Page(pages));
     let place = up_to(map, below.bytes, page, at);
     let next = over_places(map, place, at, Address(at.0 + 1));
     Surveyed {
@@ -78,7 +79,7 @@ pub fn survey(map: &[u8], at: Address) -> Surveyed
 // From the tally of the addresses below a page to that of the addresses below one of the page's.
 fn up_to(map: &[u8], tally: Tally, page: Page, at: Address) -> Tally
     requires { ⌜
-        (startOf (page .0) ≤ at .0) × (at .0 < flashSize) × (length (now map) ≡ mapSize)
+        (startOf (page .0) ≤ at .0) × (at .0 ≤ 8 * length (now map)) × (at .0 < 2 ^ 30)
         × (tally ≡ tallyAt (named (now map)) pieceMost (startOf (page .0)))
         ⌝ }
     ensures { λ r. ⌜ r ≡ tallyAt (named (now (map .entry))) pieceMost (at .0) ⌝ }

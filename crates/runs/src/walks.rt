@@ -2,7 +2,6 @@
 ghost use mathlib.Core.Path.{_≡_};
 ghost use Prim.Native.Nat.{_+_, _*_, _^_, _<_, _≤_};
 ghost use lib.ListN.{length};
-ghost use Rattle.basis.specs.Board.{pages};
 ghost use Rattle.basis.specs.Units.{startOf};
 ghost use Rattle.runs.specs.Map.{named};
 ghost use Rattle.runs.specs.Pieces.{pieceMost};
@@ -12,7 +11,6 @@ use crate::map::named;
 use crate::places::PIECE;
 use crate::tally::Tally;
 use crate::words::word;
-use basis::board::PAGES;
 use basis::units::Address;
 use basis::units::Page;
 
@@ -57,13 +55,13 @@ pub fn over_places(map: &[u8], tally: Tally, from: Address, to: Address) -> Tall
     t
 }
 
-// From what a walk has met below the page `from` to what it has met below the page `to`.
-pub fn over_pages(map: &[u8], met: Tallies, from: Page, to: Page) -> Tallies
+// From what a walk has met below the page `from` to what it has met below the page `to`, on a board of so many pages.
+pub fn over_pages(board: u32, map: &[u8], met: Tallies, from: Page, to: Page) -> Tallies
     requires { ⌜
-        (from .0 ≤ to .0) × (startOf (to .0) ≤ 8 * length (now map)) × (to .0 < 2 ^ 16)
-        × (met ≡ talliesAt pages (now map) (from .0))
+        (from .0 ≤ to .0) × (startOf (to .0) ≤ 8 * length (now map)) × (to .0 < 2 ^ 16) × (0 < board)
+        × (met ≡ talliesAt board (now map) (from .0))
         ⌝ }
-    ensures { λ r. ⌜ r ≡ talliesAt pages (now (map .entry)) (to .0) ⌝ }
+    ensures { λ r. ⌜ r ≡ talliesAt board (now (map .entry)) (to .0) ⌝ }
 {
     let mut bytes = met.bytes;
     let mut pages = met.pages;
@@ -73,7 +71,7 @@ pub fn over_pages(map: &[u8], met: Tallies, from: Page, to: Page) -> Tallies
         // Eight words to a page.
         let first = 8 * (page as usize);
         let next = over_words(map, bytes, first, first + 8);
-        pages = pages.took(bytes.passed < next.passed, PAGES);
+        pages = pages.took(bytes.passed < next.passed, board);
         bytes = next;
         page += 1;
     }

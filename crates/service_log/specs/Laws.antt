@@ -1,3 +1,4 @@
+pub mod Big
 pub mod FalseRecords
 pub mod Log
 pub mod Sessions

@@ -1,31 +1,35 @@
--- The log record, big-endian: length 0x0008, version 01, outcome, packets
--- acknowledged, packet total, named bytes (two bytes each).
-use Prim.Native.Nat.{ℕ, _/_, _%_}
+-- The log record, big-endian: length 0x0008, version 01, outcome, packets acknowledged, packet total, named
+-- bytes (two bytes each); for the long board length 0x000E, version 02 and four bytes each.
+use Prim.Native.Nat.{ℕ, _+_, _*_}
 use mathlib.Core.Bool.{Bool, not}
-use mathlib.Core.List.{List, [], _∷_}
+use mathlib.Core.List.{List, [], _∷_, _++_}
 use lib.Dec.{eqb, leb, ltb}
 use lib.ListN.{length, getD}
+use Rattle.basis.specs.Board.{pagesOf, boardOf, versionOf, countBytes, logLength, boardLogged}
 use Rattle.basis.specs.Choice.{pick, both, either}
 use Rattle.basis.specs.Lists.{pairAt}
-use Rattle.basis.specs.Refusals.{Answer, given, _when_, first}
+use Rattle.basis.specs.Refusals.{Answer, refused, given, _when_, first, onBoard}
 use Rattle.basis.specs.Units.{startOf}
+use Rattle.basis.specs.declared.board.Board.{Board}
+use Rattle.basis.specs.declared.board.Known.{Known}
 use Rattle.basis.specs.declared.kind.RunKind.{RunKind}
 use Rattle.events.specs.Endings.{paperOutcome, endingFor}
 use Rattle.session.specs.Phases.{ended}
 use Rattle.session.specs.declared.phase.Phase.{Phase}
 use Rattle.session.specs.declared.session.Session.{Session}
+use Rattle.service_log.specs.Big.{bigOf, bigAt, fitsIn}
 use Rattle.service_log.specs.declared.read.Record.{Record}
 
--- how many bytes a record has
-abbrev pub recordSize : ℕ
-recordSize = 10
+-- how many bytes a board's record has: two more than its length field says
+abbrev pub recordSize : Board → ℕ
+recordSize b = 2 + logLength b
 
--- what its length field says: how many bytes follow the field
-abbrev pub recordLength : ℕ
-recordLength = 8
+-- no board's has fewer, and none more
+abbrev pub recordLeast : ℕ
+recordLeast = 10
 
-abbrev pub recordVersion : ℕ
-recordVersion = 1
+abbrev pub recordMost : ℕ
+recordMost = 16
 
 -- outcome 0 valid, 1 verified and held
 abbrev pub good : ℕ → Bool
@@ -40,8 +44,8 @@ abbrev pub few : ℕ → ℕ → Bool
 few o t = either (ltb t 3) (both (eqb o 0) (eqb t 3))
 
 -- a false record, of outcome o, with k of t packets acknowledged and n bytes: outcome unknown, total too
--- small, bytes 0 or above the board's (63,488), acknowledged above total, outcome 0 or 1 unless acknowledged
--- equals total and the reverse (the `pick`), outcome 42 with any acknowledged
+-- small, bytes 0 or above the board's (63,488 or 126,976), acknowledged above total, outcome 0 or 1 unless
+-- acknowledged equals total and the reverse (the `pick`), outcome 42 with any acknowledged
 unfoldable pub isFalseOf : ℕ → ℕ → ℕ → ℕ → ℕ → Bool
 isFalseOf board o k t n =
     either (not (known o))
@@ -55,54 +59,73 @@ isFalseOf board o k t n =
 
 -- how a session ended: 0 valid, 1 verified and held, 40 to 43; 45, which no record has, for one that is
 -- unfinished, or whose ending is not its run kind's
-abbrev pub loggedOutcomeOf : RunKind → Phase → ℕ
-loggedOutcomeOf kind Phase.Greeting = 45
-loggedOutcomeOf kind (Phase.Out s) = 45
-loggedOutcomeOf kind (Phase.Ended o) = pick (endingFor kind o) (paperOutcome o) 45
+abbrev pub outcomeOf : RunKind → Phase → ℕ
+outcomeOf kind Phase.Greeting = 45
+outcomeOf kind (Phase.Out s) = 45
+outcomeOf kind (Phase.Ended o) = pick (endingFor kind o) (paperOutcome o) 45
 
-abbrev pub twoBytes : ℕ → Bool
-twoBytes x = ltb x 65536
+-- and 45 where there is no such board
+abbrev pub outcomeOn : Known → RunKind → Phase → ℕ
+outcomeOn Known.Unknown kind phase = 45
+outcomeOn (Known.Board b) kind phase = outcomeOf kind phase
 
-abbrev pub fitTwo : ℕ → ℕ → ℕ → Bool
-fitTwo k t n = both (twoBytes k) (both (twoBytes t) (twoBytes n))
+abbrev pub loggedOutcomeOf : Session → ℕ
+loggedOutcomeOf s = outcomeOn (boardOf (s .board)) (s .kind) (s .phase)
 
--- the ten bytes of outcome o, with k of t packets acknowledged and n bytes
-abbrev pub recordBytes : ℕ → ℕ → ℕ → ℕ → List ℕ
-recordBytes o k t n =
-    recordLength / 256 ∷ recordLength % 256 ∷ recordVersion ∷ o
-    ∷ k / 256 % 256 ∷ k % 256 ∷ t / 256 % 256 ∷ t % 256 ∷ n / 256 % 256 ∷ n % 256 ∷ []
+-- the three counts fit w bytes each
+abbrev pub countsFit : ℕ → ℕ → ℕ → ℕ → Bool
+countsFit w k t n = both (fitsIn w k) (both (fitsIn w t) (fitsIn w n))
 
--- writing a session into a buffer of so many bytes: 45 for one that is
+-- a board's record of outcome o, with k of t packets acknowledged and n bytes
+unfoldable pub recordBytes : Board → ℕ → ℕ → ℕ → ℕ → List ℕ
+recordBytes b o k t n =
+    let w = countBytes b in
+    bigOf 2 (logLength b) ++ (versionOf b ∷ o ∷ []) ++ bigOf w k ++ bigOf w t ++ bigOf w n
+
+-- writing a session of a board into a buffer of so many bytes: 45 for one that is
 -- unfinished, or whose counts do not fit, or would read as 53, as does an ending that no session of its run
 -- kind has; then 20
-unfoldable pub writeOf : ℕ → ℕ → Session → Answer (List ℕ)
-writeOf board room s =
+unfoldable pub writeOn : Board → ℕ → Session → Answer (List ℕ)
+writeOn b room s =
+    let o = outcomeOf (s .kind) (s .phase) in
     first
     (45 when not (ended (s .phase))
-    ∷ 45 when not (fitTwo (s .acknowledged) (s .total) (s .named))
-    ∷ 45 when isFalseOf board (loggedOutcomeOf (s .kind) (s .phase)) (s .acknowledged) (s .total) (s .named)
-    ∷ 20 when ltb room recordSize ∷ [])
-    (given (recordBytes (loggedOutcomeOf (s .kind) (s .phase)) (s .acknowledged) (s .total) (s .named)))
+    ∷ 45 when not (countsFit (countBytes b) (s .acknowledged) (s .total) (s .named))
+    ∷ 45 when isFalseOf (pagesOf b) o (s .acknowledged) (s .total) (s .named)
+    ∷ 20 when ltb room (recordSize b) ∷ [])
+    (given (recordBytes b o (s .acknowledged) (s .total) (s .named)))
 
--- what an input says
-abbrev pub recordAt : List ℕ → Record
-recordAt s =
+-- a session carries its board: 65 where there is no such board
+abbrev pub writeOf : ℕ → Session → Answer (List ℕ)
+writeOf room s = onBoard (boardOf (s .board)) (λ (b : Board). writeOn b room s)
+
+-- what an input says, with counts of w bytes
+abbrev pub recordAt : ℕ → List ℕ → Record
+recordAt w s =
     record {
       version = getD s 2 0;
       outcome = getD s 3 0;
-      acknowledged = pairAt s 4;
-      total = pairAt s 6;
-      bytes = pairAt s 8;
+      acknowledged = bigAt w s 4;
+      total = bigAt w s (4 + w);
+      bytes = bigAt w s (4 + 2 * w);
     }
 
--- reading: 50 under 10 bytes, 51 length field other than 8 or input longer than 10 bytes, 52 version,
--- 53 a false record
-unfoldable pub readOf : ℕ → List ℕ → Answer Record
-readOf board s =
+-- reading by the board that the length field tells: 51 an input not two bytes longer than it says,
+-- 52 version not the length's, 53 a false record
+unfoldable pub readOn : Board → List ℕ → Answer Record
+readOn b s =
+    let r = recordAt (countBytes b) s in
     first
-    (50 when ltb (length s) recordSize
-    ∷ 51 when not (eqb (pairAt s 0) recordLength)
-    ∷ 51 when ltb recordSize (length s)
-    ∷ 52 when not (eqb (getD s 2 0) recordVersion)
-    ∷ 53 when isFalseOf board (getD s 3 0) (pairAt s 4) (pairAt s 6) (pairAt s 8) ∷ [])
-    (given (recordAt s))
+    (51 when not (eqb (length s) (recordSize b))
+    ∷ 52 when not (eqb (r .version) (versionOf b))
+    ∷ 53 when isFalseOf (pagesOf b) (r .outcome) (r .acknowledged) (r .total) (r .bytes) ∷ [])
+    (given r)
+
+-- 51 where the length field is neither 8 nor 0x000E
+abbrev pub readBy : Known → List ℕ → Answer Record
+readBy Known.Unknown s = refused 51
+readBy (Known.Board b) s = readOn b s
+
+-- reading: 50 under 10 bytes, then by the length field
+unfoldable pub readOf : List ℕ → Answer Record
+readOf s = first (50 when ltb (length s) recordLeast ∷ []) (readBy (boardLogged (pairAt s 0)) s)

@@ -9,6 +9,7 @@ use Rattle.service_log.specs.declared.write.Written.{Written}
 
 -- the refusal's number
 abbrev pub paperUnwritten : Unwritten → ℕ
+paperUnwritten Unwritten.Board = 65
 paperUnwritten Unwritten.Unfit = 45
 paperUnwritten Unwritten.NoRoom = 20
 

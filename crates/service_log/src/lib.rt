@@ -1,4 +1,5 @@
-// The service log: one record of ten bytes about a session that has ended, written and read.
+// The service log: one record about a session that has ended, written and read.
+mod big;
 pub mod read;
 pub mod truth;
 pub mod write;

@@ -1,18 +1,25 @@
 // The reader: what a record says, or why it is none.
 ghost use mathlib.Core.Path.{_≡_};
-ghost use Rattle.basis.specs.Board.{pages};
-ghost use Rattle.service_log.specs.Log.{readOf};
+ghost use Prim.Native.Nat.{_≤_};
+ghost use Rattle.service_log.specs.Log.{recordSize, recordLeast, recordMost, readOn, readOf};
 ghost use Rattle.service_log.specs.Paper.{paperUnread, paperReading};
+use crate::big::big_at;
 use crate::truth::is_false;
+use basis::board::Board;
+use basis::board::Known;
 use basis::buffers::pair_at;
 
-// How many bytes a record has.
-pub const RECORD: usize = 10;
+// No record has fewer bytes, and none more.
+pub const LEAST: usize = 10;
 
-// What its length field says: how many bytes follow the field.
-pub const LENGTH: u16 = 8;
+pub const MOST: usize = 16;
 
-pub const VERSION: u8 = 1;
+// How many bytes a board's record has: two more than its length field says.
+pub fn record_size(board: Board) -> usize
+    ensures { λ r. ⌜ (r ≡ recordSize board) × (recordLeast ≤ r) × (r ≤ recordMost) ⌝ }
+{
+    2 + board.log_length()
+}
 
 // What a session came to: `acknowledged` of `total` packets, over a file of so many bytes.
 pub struct Record {
@@ -50,27 +57,37 @@ impl Unread {
     }
 }
 
+// The length field tells the board.
 pub fn read(input: &[u8]) -> Reading
-    ensures { λ r. ⌜ paperReading r ≡ readOf pages (now (input .entry)) ⌝ }
+    ensures { λ r. ⌜ paperReading r ≡ readOf (now (input .entry)) ⌝ }
 {
-    if input.len() < RECORD {
+    if input.len() < LEAST {
         return Reading::Refused(Unread::Short);
     }
-    if pair_at(input, 0) != LENGTH {
-        return Reading::Refused(Unread::Length);
+    match Board::logged(pair_at(input, 0)) {
+        Known::Board(board) => read_on(board, input),
+        Known::Unknown => Reading::Refused(Unread::Length),
     }
-    if RECORD < input.len() {
+}
+
+fn read_on(board: Board, input: &[u8]) -> Reading
+    ensures { λ r. ⌜ paperReading r ≡ readOn board (now (input .entry)) ⌝ }
+{
+    let size = record_size(board);
+    let right = board.log_version();
+    let width = board.count_bytes();
+    if input.len() != size {
         return Reading::Refused(Unread::Length);
     }
     let version = input[2];
-    if version != VERSION {
+    if version != right {
         return Reading::Refused(Unread::Version);
     }
     let outcome = input[3];
-    let acknowledged = pair_at(input, 4) as u32;
-    let total = pair_at(input, 6) as u32;
-    let bytes = pair_at(input, 8) as u32;
-    if is_false(outcome, acknowledged, total, bytes) {
+    let acknowledged = big_at(input, 4, width);
+    let total = big_at(input, 4 + width, width);
+    let bytes = big_at(input, 4 + 2 * width, width);
+    if is_false(board, outcome, acknowledged, total, bytes) {
         return Reading::Refused(Unread::False);
     }
     Reading::Record(Record {

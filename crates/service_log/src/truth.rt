@@ -1,12 +1,13 @@
 // What no record may say: the writer refuses it of a session, the reader of its input.
 ghost use mathlib.Core.Path.{_≡_};
-ghost use Rattle.basis.specs.Board.{pages};
+ghost use Rattle.basis.specs.Board.{pagesOf};
 ghost use Rattle.service_log.specs.Log.{known, few, isFalseOf};
-use basis::board::END;
+use basis::board::Board;
 
-pub fn is_false(outcome: u8, acknowledged: u32, total: u32, bytes: u32) -> bool
-    ensures { λ r. ⌜ r ≡ isFalseOf pages outcome acknowledged total bytes ⌝ }
+pub fn is_false(board: Board, outcome: u8, acknowledged: u32, total: u32, bytes: u32) -> bool
+    ensures { λ r. ⌜ r ≡ isFalseOf (pagesOf board) outcome acknowledged total bytes ⌝ }
 {
+    let most = board.end();
     if !is_known(outcome) {
         return true;
     }
@@ -16,7 +17,7 @@ pub fn is_false(outcome: u8, acknowledged: u32, total: u32, bytes: u32) -> bool
     if bytes == 0 {
         return true;
     }
-    if END < bytes {
+    if most < bytes {
         return true;
     }
     if total < acknowledged {

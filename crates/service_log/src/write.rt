@@ -1,16 +1,18 @@
-// The writer: a session that has ended, as ten bytes in the caller's buffer.
+// The writer: a session that has ended, as its board's record in the caller's buffer.
 ghost use mathlib.Core.Path.{_≡_};
+ghost use Prim.Native.Nat.{_≤_};
 ghost use lib.ListN.{length};
-ghost use Rattle.basis.specs.Board.{pages};
 ghost use Rattle.basis.specs.Lists.{overlay};
 ghost use Rattle.basis.specs.Refusals.{counted, written};
-ghost use Rattle.service_log.specs.Log.{loggedOutcomeOf, fitTwo, writeOf};
+ghost use Rattle.service_log.specs.Log.{recordSize, outcomeOf, loggedOutcomeOf, countsFit, recordBytes, writeOn, writeOf};
 ghost use Rattle.session.specs.declared.phase.Phase.{Phase};
 ghost use Rattle.service_log.specs.Paper.{paperUnwritten, paperWritten};
-use crate::read::LENGTH;
-use crate::read::RECORD;
-use crate::read::VERSION;
+use crate::big::fits_in;
+use crate::big::put_big;
+use crate::read::record_size;
 use crate::truth::is_false;
+use basis::board::Board;
+use basis::board::Known;
 use basis::buffers::write as put;
 use basis::kind::RunKind;
 use events::ending::Outcome;
@@ -25,6 +27,8 @@ pub enum Written {
 
 // Why a session is not written.
 pub enum Unwritten {
+    // There is no such board.
+    Board,
     // The session is unfinished or its ending not its run kind's, or its counts make no record.
     Unfit,
     // The buffer is shorter than a record.
@@ -36,6 +40,7 @@ impl Unwritten {
         ensures { λ r. ⌜ r ≡ paperUnwritten self ⌝ }
     {
         match self {
+            Unwritten::Board => 65,
             Unwritten::Unfit => 45,
             Unwritten::NoRoom => 20,
         }
@@ -44,47 +49,89 @@ impl Unwritten {
 
 pub fn write(session: Session, buffer: &mut [u8]) -> Written
     ensures { λ r. ⌜
-        (let b = writeOf pages (length (now (buffer .entry))) session in
+        (let b = writeOf (length (now (buffer .entry))) session in
         (paperWritten r ≡ counted b) × (now (buffer .exit) ≡ overlay (written b) (now (buffer .entry))))
         ⌝ }
 {
+    match Board::of(session.board) {
+        Known::Board(board) => write_on(board, session, buffer),
+        Known::Unknown => Written::Refused(Unwritten::Board),
+    }
+}
+
+fn write_on(board: Board, session: Session, buffer: &mut [u8]) -> Written
+    ensures { λ r. ⌜
+        (let b = writeOn board (length (now (buffer .entry))) session in
+        (paperWritten r ≡ counted b) × (now (buffer .exit) ≡ overlay (written b) (now (buffer .entry))))
+        ⌝ }
+{
+    let size = record_size(board);
+    let width = board.count_bytes();
     let phase = session.phase;
     if !phase.ended() {
         return Written::Refused(Unwritten::Unfit);
     }
     let kind = session.kind;
-    let outcome = logged_outcome(kind, phase);
+    let outcome = outcome_of(kind, phase);
     let acknowledged = session.acknowledged;
     let total = session.total;
     let bytes = session.named;
-    if !fit_two(acknowledged, total, bytes) {
+    if !counts_fit(width, acknowledged, total, bytes) {
         return Written::Refused(Unwritten::Unfit);
     }
-    if is_false(outcome, acknowledged, total, bytes) {
+    if is_false(board, outcome, acknowledged, total, bytes) {
         return Written::Refused(Unwritten::Unfit);
     }
-    if buffer.len() < RECORD {
+    if buffer.len() < size {
         return Written::Refused(Unwritten::NoRoom);
     }
-    let record = [
-        (LENGTH / 256) as u8,
-        (LENGTH % 256) as u8,
-        VERSION,
-        outcome,
-        (acknowledged / 256 % 256) as u8,
-        (acknowledged % 256) as u8,
-        (total / 256 % 256) as u8,
-        (total % 256) as u8,
-        (bytes / 256 % 256) as u8,
-        (bytes % 256) as u8,
-    ];
-    put(buffer, &record);
-    Written::Record(RECORD)
+    put_record(board, outcome, acknowledged, total, bytes, buffer);
+    Written::Record(size)
 }
 
-// The outcome's number; 45, which no record has, where there is none yet, and for another run kind's ending.
-pub fn logged_outcome(kind: RunKind, phase: Phase) -> u8
-    ensures { λ r. ⌜ r ≡ loggedOutcomeOf kind phase ⌝ }
+fn put_record(
+    board: Board,
+    outcome: u8,
+    acknowledged: u32,
+    total: u32,
+    bytes: u32,
+    buffer: &mut [u8],
+)
+    requires { ⌜ recordSize board ≤ length (now buffer) ⌝ }
+    ensures { λ _. ⌜
+        now (buffer .exit) ≡ overlay (recordBytes board outcome acknowledged total bytes) (now (buffer .entry))
+        ⌝ }
+{
+    let length = board.log_length();
+    let version = board.log_version();
+    let width = board.count_bytes();
+    let front = [
+        (length / 256 % 256) as u8,
+        (length % 256) as u8,
+        version,
+        outcome,
+    ];
+    put(buffer, &front);
+    put_big(buffer, 4, width, acknowledged);
+    put_big(buffer, 4 + width, width, total);
+    put_big(buffer, 4 + 2 * width, width, bytes);
+}
+
+// The outcome's number; 45, which no record has, where there is no such board.
+pub fn logged_outcome(session: Session) -> u8
+    ensures { λ r. ⌜ r ≡ loggedOutcomeOf session ⌝ }
+{
+    let kind = session.kind;
+    let phase = session.phase;
+    match Board::of(session.board) {
+        Known::Board(_) => outcome_of(kind, phase),
+        Known::Unknown => 45,
+    }
+}
+
+// 45 where there is no outcome yet, and for another run kind's ending.
+fn outcome_of(kind: RunKind, phase: Phase) -> u8
+    ensures { λ r. ⌜ r ≡ outcomeOf kind phase ⌝ }
 {
     match phase {
         Phase::Greeting => 45,
@@ -94,7 +141,7 @@ pub fn logged_outcome(kind: RunKind, phase: Phase) -> u8
 }
 
 fn own_number(kind: RunKind, outcome: Outcome) -> u8
-    ensures { λ r. ⌜ r ≡ loggedOutcomeOf kind (Phase.Ended outcome) ⌝ }
+    ensures { λ r. ⌜ r ≡ outcomeOf kind (Phase.Ended outcome) ⌝ }
 {
     if outcome.suits(kind) {
         return outcome.number();
@@ -102,15 +149,16 @@ fn own_number(kind: RunKind, outcome: Outcome) -> u8
     45
 }
 
-// Whether the counts fit two bytes each.
-fn fit_two(acknowledged: u32, total: u32, bytes: u32) -> bool
-    ensures { λ r. ⌜ r ≡ fitTwo acknowledged total bytes ⌝ }
+// Whether the counts fit `width` bytes each.
+fn counts_fit(width: usize, acknowledged: u32, total: u32, bytes: u32) -> bool
+    requires { ⌜ width ≤ 4 ⌝ }
+    ensures { λ r. ⌜ r ≡ countsFit width acknowledged total bytes ⌝ }
 {
-    if 65536 <= acknowledged {
+    if !fits_in(width, acknowledged) {
         return false;
     }
-    if 65536 <= total {
+    if !fits_in(width, total) {
         return false;
     }
-    bytes < 65536
+    fits_in(width, bytes)
 }

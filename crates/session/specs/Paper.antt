@@ -9,6 +9,7 @@ use Rattle.session.specs.declared.session.Stepped.{Stepped}
 
 -- the refusal's number
 abbrev pub paperRefusal : Refusal → ℕ
+paperRefusal Refusal.Board = 65
 paperRefusal Refusal.Size = 20
 paperRefusal Refusal.Empty = 32
 paperRefusal Refusal.Ended = 44

@@ -5,12 +5,14 @@ use mathlib.Core.List.{List, [], _∷_, _++_}
 use mathlib.Core.Path.{_≡_}
 use lib.Dec.{eqb, leb, ltb}
 use lib.ListN.{length}
-use Rattle.basis.specs.Board.{openingByte}
+use Rattle.basis.specs.Board.{openingByte, pagesOf, boardOf}
 use Rattle.basis.specs.Choice.{pick, both}
-use Rattle.basis.specs.Refusals.{Answer, refused, given, _when_, first}
+use Rattle.basis.specs.Refusals.{Answer, refused, given, _when_, first, onBoard}
 use Rattle.basis.specs.Units.{startOf, mapBytes, rightSizesIn}
+use Rattle.basis.specs.declared.board.Board.{Board}
 use Rattle.basis.specs.declared.kind.RunKind.{RunKind}
 use Rattle.events.specs.Endings.{goesOn, acknowledges, endingOf, failing, endsAt, asked}
+use Rattle.events.specs.Events.{classifyOf}
 use Rattle.events.specs.declared.ending.Awaited.{Awaited}
 use Rattle.events.specs.declared.ending.Outcome.{Outcome}
 use Rattle.events.specs.declared.event.Event.{Event}
@@ -29,6 +31,7 @@ use Rattle.session.specs.declared.session.Session.{Session}
 abbrev pub sessionWith : ℕ → List ℕ → RunKind → Phase → ℕ → Session
 sessionWith board m kind phase k =
     record {
+      board = board;
       kind = kind;
       phase = phase;
       acknowledged = k;
@@ -60,8 +63,7 @@ abbrev pub sentBytes : Answer Sent → List ℕ
 sentBytes (refused n) = []
 sentBytes (given x) = x .packet
 
--- an image of the board's size (63,488 bytes), a map of one bit
--- for each (7,936), a packet buffer of at least 259
+-- an image of the board's size, a map of one bit for each byte, a packet buffer of at least 259
 abbrev pub rightSizes : ℕ → ℕ → ℕ → ℕ → Bool
 rightSizes board image m packet = both (rightSizesIn (startOf board) image m) (leb packetMost packet)
 
@@ -77,6 +79,7 @@ started board image m room kind =
 abbrev pub movedOf : Session → Phase → ℕ → Session
 movedOf s phase n =
     record {
+      board = s .board;
       kind = s .kind;
       phase = phase;
       acknowledged = s .acknowledged + n;
@@ -114,12 +117,16 @@ cameAt board m kind (Phase.Ended o) k = endsAt (asked kind) (total board m kind)
 
 -- a start and events over the file lead to such a session:
 -- the file names a byte, the counts are the file's, and the phase is one to which they lead
-unfoldable pub fitsOf : ℕ → List ℕ → Session → Bool
-fitsOf board m s =
+unfoldable pub cameOf : ℕ → List ℕ → Session → Bool
+cameOf board m s =
     both (ltb 0 (namedCount board m))
     (both (eqb (s .named) (namedCount board m))
     (both (eqb (s .total) (total board m (s .kind)))
     (cameAt board m (s .kind) (s .phase) (s .acknowledged))))
+
+-- such a session, and on its own board
+unfoldable pub fitsOf : ℕ → List ℕ → Session → Bool
+fitsOf board m s = both (eqb (s .board) board) (cameOf board m s)
 
 -- a step: 20, 44 after the end, 46 for a file that is not the session's, else the event is taken
 unfoldable pub stepOf : ℕ → List ℕ → List ℕ → ℕ → Session → Event → Answer Sent
@@ -129,6 +136,12 @@ stepOf board image m room s e =
     ∷ 44 when ended (s .phase)
     ∷ 46 when not (fitsOf board m s) ∷ [])
     (given (sentOf board image m s e))
+
+-- a session carries its board: 65 where there is no such board, else a step on it, by its greeting
+abbrev pub stepBy : List ℕ → List ℕ → ℕ → Session → Bool → List ℕ → Answer Sent
+stepBy image m room s silent answer =
+    onBoard (boardOf (s .board))
+    (λ (b : Board). stepOf (pagesOf b) image m room s (classifyOf (pagesOf b) silent answer))
 
 -- a series of events over one file; one after the end changes nothing
 unfoldable pub series : ℕ → List ℕ → Session → List Event → Session
@@ -150,6 +163,10 @@ provedOf board m s a =
     (20 when not (eqb (length m) (mapBytes board))
     ∷ 46 when not (fitsOf board m s) ∷ [])
     (given (marked board m (s .acknowledged) a))
+
+-- and by the board that the session carries: 65 first
+abbrev pub provedBy : List ℕ → Session → ℕ → Answer Bool
+provedBy m s a = onBoard (boardOf (s .board)) (λ (b : Board). provedOf (pagesOf b) m s a)
 
 -- ---- what the laws speak by
 

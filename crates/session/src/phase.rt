@@ -3,10 +3,12 @@ ghost use mathlib.Core.Path.{_≡_};
 ghost use mathlib.Core.Bool.{true};
 ghost use Prim.Native.Nat.{_≤_};
 ghost use lib.ListN.{length};
-ghost use Rattle.basis.specs.Board.{flashSize, mapSize, pages};
+ghost use Rattle.basis.specs.Board.{pagesOf};
 ghost use Rattle.basis.specs.Lists.{overlay};
+ghost use Rattle.basis.specs.Units.{startOf, mapBytes};
 ghost use Rattle.packet.specs.Packet.{packetMost};
 ghost use Rattle.session.specs.Phases.{ended, awaitsOf, packetOut, reachedOf, afterOf, onStart, cursorOf};
+use basis::board::Board;
 use basis::kind::RunKind;
 use basis::units::Address;
 use events::ending::Awaited;
@@ -49,24 +51,24 @@ impl Phase {
     }
 
     // The address that the cursor names: 0 where the phase has none.
-    pub fn cursor(self) -> Address
-        ensures { λ r. ⌜ r .0 ≡ cursorOf pages self ⌝ }
+    pub fn cursor(self, board: Board) -> Address
+        ensures { λ r. ⌜ r .0 ≡ cursorOf (pagesOf board) self ⌝ }
     {
         match self {
             Phase::Greeting => Address(0),
-            Phase::Out(step) => place(step),
+            Phase::Out(step) => place(board, step),
             Phase::Ended(_) => Address(0),
         }
     }
 
     // What a session waits for once the right answer has come.
-    pub fn after(self, map: &[u8], kind: RunKind) -> Phase
-        requires { ⌜ (length (now map) ≡ mapSize) × (onStart pages (now map) self ≡ true) ⌝ }
-        ensures { λ r. ⌜ r ≡ afterOf pages (now (map .entry)) kind self ⌝ }
+    pub fn after(self, board: Board, map: &[u8], kind: RunKind) -> Phase
+        requires { ⌜ (length (now map) ≡ mapBytes (pagesOf board)) × (onStart (pagesOf board) (now map) self ≡ true) ⌝ }
+        ensures { λ r. ⌜ r ≡ afterOf (pagesOf board) (now (map .entry)) kind self ⌝ }
     {
         match self {
-            Phase::Greeting => Phase::Out(first(map)),
-            Phase::Out(step) => Phase::reached(kind, follow(map, kind, step)),
+            Phase::Greeting => Phase::Out(first(board, map)),
+            Phase::Out(step) => Phase::reached(kind, follow(board, map, kind, step)),
             Phase::Ended(outcome) => Phase::Ended(outcome),
         }
     }
@@ -82,19 +84,26 @@ impl Phase {
     }
 
     // Gives the packet's length: none while the greeting is awaited, and an ending sends none.
-    pub fn send(self, image: &[u8], map: &[u8], kind: RunKind, buffer: &mut [u8]) -> usize
+    pub fn send(
+        self,
+        board: Board,
+        image: &[u8],
+        map: &[u8],
+        kind: RunKind,
+        buffer: &mut [u8],
+    ) -> usize
         requires { ⌜
-            (length (now image) ≡ flashSize) × (length (now map) ≡ mapSize)
-            × (packetMost ≤ length (now buffer)) × (onStart pages (now map) self ≡ true)
+            (length (now image) ≡ startOf (pagesOf board)) × (length (now map) ≡ mapBytes (pagesOf board))
+            × (packetMost ≤ length (now buffer)) × (onStart (pagesOf board) (now map) self ≡ true)
             ⌝ }
         ensures { λ r. ⌜
-            (let p = packetOut pages (now (image .entry)) (now (map .entry)) kind self in
+            (let p = packetOut (pagesOf board) (now (image .entry)) (now (map .entry)) kind self in
             (r ≡ length p) × (now (buffer .exit) ≡ overlay p (now (buffer .entry))))
             ⌝ }
     {
         match self {
             Phase::Greeting => 0,
-            Phase::Out(step) => send(image, map, kind, step, buffer),
+            Phase::Out(step) => send(board, image, map, kind, step, buffer),
             Phase::Ended(_) => 0,
         }
     }

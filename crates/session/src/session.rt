@@ -3,19 +3,20 @@ ghost use mathlib.Core.Path.{_≡_};
 ghost use mathlib.Core.Bool.{true};
 ghost use Prim.Native.Nat.{_+_, _^_, _<_, _≤_};
 ghost use lib.ListN.{length};
-ghost use Rattle.basis.specs.Board.{flashSize, mapSize, pages};
+ghost use Rattle.basis.specs.Board.{pagesOf};
 ghost use Rattle.basis.specs.Choice.{pick};
 ghost use Rattle.basis.specs.Lists.{overlay};
+ghost use Rattle.basis.specs.Units.{startOf, mapBytes};
 ghost use Rattle.events.specs.Endings.{endsAt, asked};
 ghost use Rattle.events.specs.Events.{classifyOf};
 ghost use Rattle.events.specs.declared.ending.Awaited.{Awaited};
 ghost use Rattle.packet.specs.Packet.{packetMost};
 ghost use Rattle.session.specs.Paper.{paperRefusal, paperStepped, paperMark};
 ghost use Rattle.session.specs.Phases.{onStart};
-ghost use Rattle.session.specs.Session.{measured, sentBytes, rightSizes, started, movedOf, overOf, heardBy, tookOf, sentOf, fitsOf, stepOf, marked, provedOf};
+ghost use Rattle.session.specs.Session.{measured, sentBytes, rightSizes, started, movedOf, overOf, heardBy, tookOf, sentOf, cameOf, fitsOf, stepOf, stepBy, marked, provedOf, provedBy};
 use crate::phase::Phase;
-use basis::board::END;
-use basis::board::MAP;
+use basis::board::Board;
+use basis::board::Known;
 use basis::board::OPENING;
 use basis::kind::RunKind;
 use basis::units::Address;
@@ -31,8 +32,9 @@ use packet::build::PACKET;
 use runs::map::named;
 use runs::survey::survey;
 
-// `acknowledged` of `total` packets are; `named` is how many bytes the file has.
+// `board` is its number of pages; `acknowledged` of `total` packets are; `named` is how many bytes the file has.
 pub struct Session {
+    pub board: u32,
     pub kind: RunKind,
     pub phase: Phase,
     pub acknowledged: u32,
@@ -47,6 +49,8 @@ pub struct Next {
 }
 
 pub enum Refusal {
+    // There is no such board.
+    Board,
     // The image, the map or the packet buffer has the wrong size.
     Size,
     // The map names nothing.
@@ -61,6 +65,7 @@ impl Refusal {
         ensures { λ r. ⌜ r ≡ paperRefusal self ⌝ }
     {
         match self {
+            Refusal::Board => 65,
             Refusal::Size => 20,
             Refusal::Empty => 32,
             Refusal::Ended => 44,
@@ -82,24 +87,32 @@ pub enum Mark {
 
 impl Session {
     // Writes the byte that opens the board, and waits for its greeting.
-    pub fn start(kind: RunKind, image: &[u8], map: &[u8], buffer: &mut [u8]) -> Stepped
+    pub fn start(
+        board: Board,
+        kind: RunKind,
+        image: &[u8],
+        map: &[u8],
+        buffer: &mut [u8],
+    ) -> Stepped
         ensures { λ r. ⌜
-            (let a = started pages (now (image .entry)) (now (map .entry)) (length (now (buffer .entry)))
-            kind in
+            (let a = started (pagesOf board) (now (image .entry)) (now (map .entry))
+            (length (now (buffer .entry))) kind in
             (paperStepped r ≡ measured a)
             × (now (buffer .exit) ≡ overlay (sentBytes a) (now (buffer .entry))))
             ⌝ }
     {
-        if !right_sizes(image.len(), map.len(), buffer.len()) {
+        let pages = board.pages();
+        if !right_sizes(board, image.len(), map.len(), buffer.len()) {
             return Stepped::Refused(Refusal::Size);
         }
-        let found = survey(map, Address(0));
+        let found = survey(board, map, Address(0));
         let all = found.all;
         if all.named == 0 {
             return Stepped::Refused(Refusal::Empty);
         }
         buffer[0] = OPENING;
         let session = Session {
+            board: pages,
             kind,
             phase: Phase::Greeting,
             acknowledged: 0,
@@ -119,55 +132,98 @@ impl Session {
         buffer: &mut [u8],
     ) -> Stepped
         ensures { λ r. ⌜
-            (let e = classifyOf silent (now (answer .entry)) in
-            let a = stepOf pages (now (image .entry)) (now (map .entry)) (length (now (buffer .entry)))
-            self e in
+            (let a = stepBy (now (image .entry)) (now (map .entry)) (length (now (buffer .entry)))
+            self silent (now (answer .entry)) in
             (paperStepped r ≡ measured a)
             × (now (buffer .exit) ≡ overlay (sentBytes a) (now (buffer .entry))))
             ⌝ }
     {
-        if !right_sizes(image.len(), map.len(), buffer.len()) {
+        match Board::of(self.board) {
+            Known::Board(board) => self.step_on(board, silent, answer, image, map, buffer),
+            Known::Unknown => Stepped::Refused(Refusal::Board),
+        }
+    }
+
+    // The same on a board that is known; a session of another does not fit.
+    pub fn step_on(
+        self,
+        board: Board,
+        silent: bool,
+        answer: &[u8],
+        image: &[u8],
+        map: &[u8],
+        buffer: &mut [u8],
+    ) -> Stepped
+        ensures { λ r. ⌜
+            (let e = classifyOf (pagesOf board) silent (now (answer .entry)) in
+            let a = stepOf (pagesOf board) (now (image .entry)) (now (map .entry))
+            (length (now (buffer .entry))) self e in
+            (paperStepped r ≡ measured a)
+            × (now (buffer .exit) ≡ overlay (sentBytes a) (now (buffer .entry))))
+            ⌝ }
+    {
+        if !right_sizes(board, image.len(), map.len(), buffer.len()) {
             return Stepped::Refused(Refusal::Size);
         }
         let phase = self.phase;
         if phase.ended() {
             return Stepped::Refused(Refusal::Ended);
         }
-        if !self.fits(map) {
+        if !self.fits(board, map) {
             return Stepped::Refused(Refusal::Foreign);
         }
-        let event = classify(silent, answer);
-        Stepped::Next(self.sent(event, image, map, buffer))
+        let event = classify(board, silent, answer);
+        Stepped::Next(self.sent(board, event, image, map, buffer))
     }
 
     // Whether the byte is marked proved, over the file that the session came from.
     pub fn proved(self, map: &[u8], address: Address) -> Mark
-        ensures { λ r. ⌜ paperMark r ≡ provedOf pages (now (map .entry)) self (address .0) ⌝ }
+        ensures { λ r. ⌜ paperMark r ≡ provedBy (now (map .entry)) self (address .0) ⌝ }
     {
-        if map.len() != MAP {
+        match Board::of(self.board) {
+            Known::Board(board) => self.proved_on(board, map, address),
+            Known::Unknown => Mark::Refused(Refusal::Board),
+        }
+    }
+
+    fn proved_on(self, board: Board, map: &[u8], address: Address) -> Mark
+        ensures { λ r. ⌜ paperMark r ≡ provedOf (pagesOf board) (now (map .entry)) self (address .0) ⌝ }
+    {
+        let size = board.map();
+        if map.len() != size {
             return Mark::Refused(Refusal::Size);
         }
-        let fits = self.fits(map);
+        let fits = self.fits(board, map);
         if !fits {
             return Mark::Refused(Refusal::Foreign);
         }
-        if marked(map, self.acknowledged, address) {
+        if marked(board, map, self.acknowledged, address) {
             return Mark::Proved;
         }
         Mark::Unproved
     }
 
-    // Whether some start and events over this file lead here; one pass tells.
-    fn fits(self, map: &[u8]) -> bool
-        requires { ⌜ length (now map) ≡ mapSize ⌝ }
-        ensures { λ r. ⌜ r ≡ fitsOf pages (now (map .entry)) self ⌝ }
+    // Whether the board is the session's, and some start and events over this file lead here.
+    fn fits(self, board: Board, map: &[u8]) -> bool
+        requires { ⌜ length (now map) ≡ mapBytes (pagesOf board) ⌝ }
+        ensures { λ r. ⌜ r ≡ fitsOf (pagesOf board) (now (map .entry)) self ⌝ }
     {
+        let pages = board.pages();
+        self.board == pages && self.came(board, map)
+    }
+
+    // One pass over the map tells.
+    fn came(self, board: Board, map: &[u8]) -> bool
+        requires { ⌜ length (now map) ≡ mapBytes (pagesOf board) ⌝ }
+        ensures { λ r. ⌜ r ≡ cameOf (pagesOf board) (now (map .entry)) self ⌝ }
+    {
+        let past = board.end();
         let phase = self.phase;
-        let at = phase.cursor();
-        if END <= at.0 {
+        let at = phase.cursor(board);
+        if past <= at.0 {
             return false;
         }
-        let found = survey(map, at);
+        let found = survey(board, map, at);
         let all = found.all;
         if all.named == 0 {
             return false;
@@ -195,68 +251,68 @@ impl Session {
     }
 
     // An event that is not refused.
-    fn sent(self, event: Event, image: &[u8], map: &[u8], buffer: &mut [u8]) -> Next
+    fn sent(self, board: Board, event: Event, image: &[u8], map: &[u8], buffer: &mut [u8]) -> Next
         requires { ⌜
-            (length (now image) ≡ flashSize) × (length (now map) ≡ mapSize)
-            × (packetMost ≤ length (now buffer)) × (fitsOf pages (now map) self ≡ true)
+            (length (now image) ≡ startOf (pagesOf board)) × (length (now map) ≡ mapBytes (pagesOf board))
+            × (packetMost ≤ length (now buffer)) × (fitsOf (pagesOf board) (now map) self ≡ true)
             ⌝ }
         ensures { λ r. ⌜
-            (let a = sentOf pages (now (image .entry)) (now (map .entry)) self event in
+            (let a = sentOf (pagesOf board) (now (image .entry)) (now (map .entry)) self event in
             (r .session ≡ a .session) × (r .len ≡ length (a .packet))
             × (now (buffer .exit) ≡ overlay (a .packet) (now (buffer .entry))))
             ⌝ }
     {
-        let session = self.took(event, map);
+        let session = self.took(board, event, map);
         let kind = self.kind;
         let phase = session.phase;
-        let len = phase.send(image, map, kind, buffer);
+        let len = phase.send(board, image, map, kind, buffer);
         Next { session, len }
     }
 
     // The event awaited goes on along the file, and all else ends the session.
-    fn took(self, event: Event, map: &[u8]) -> Session
+    fn took(self, board: Board, event: Event, map: &[u8]) -> Session
         requires { ⌜
-            (length (now map) ≡ mapSize) × (onStart pages (now map) (self .phase) ≡ true)
+            (length (now map) ≡ mapBytes (pagesOf board)) × (onStart (pagesOf board) (now map) (self .phase) ≡ true)
             × (self .acknowledged < 2 ^ 31)
             ⌝ }
-        ensures { λ r. ⌜ r ≡ tookOf pages (now (map .entry)) self event ⌝ }
+        ensures { λ r. ⌜ r ≡ tookOf (pagesOf board) (now (map .entry)) self event ⌝ }
     {
         let phase = self.phase;
         match phase.awaits() {
-            Awaited::Greeting => self.greeted(event, map),
-            Awaited::Ack => self.answered(event, map),
+            Awaited::Greeting => self.greeted(board, event, map),
+            Awaited::Ack => self.answered(board, event, map),
         }
     }
 
     // The greeting acknowledges no packet.
-    fn greeted(self, event: Event, map: &[u8]) -> Session
+    fn greeted(self, board: Board, event: Event, map: &[u8]) -> Session
         requires { ⌜
-            (length (now map) ≡ mapSize) × (onStart pages (now map) (self .phase) ≡ true)
+            (length (now map) ≡ mapBytes (pagesOf board)) × (onStart (pagesOf board) (now map) (self .phase) ≡ true)
             × (self .acknowledged < 2 ^ 31)
             ⌝ }
-        ensures { λ r. ⌜ r ≡ heardBy pages (now (map .entry)) self Awaited.Greeting event ⌝ }
+        ensures { λ r. ⌜ r ≡ heardBy (pagesOf board) (now (map .entry)) self Awaited.Greeting event ⌝ }
     {
         let kind = self.kind;
         let phase = self.phase;
         let Event::Greeting = event else {
             return self.over(Awaited::Greeting, event);
         };
-        self.moved(phase.after(map, kind), 0)
+        self.moved(phase.after(board, map, kind), 0)
     }
 
-    fn answered(self, event: Event, map: &[u8]) -> Session
+    fn answered(self, board: Board, event: Event, map: &[u8]) -> Session
         requires { ⌜
-            (length (now map) ≡ mapSize) × (onStart pages (now map) (self .phase) ≡ true)
+            (length (now map) ≡ mapBytes (pagesOf board)) × (onStart (pagesOf board) (now map) (self .phase) ≡ true)
             × (self .acknowledged < 2 ^ 31)
             ⌝ }
-        ensures { λ r. ⌜ r ≡ heardBy pages (now (map .entry)) self Awaited.Ack event ⌝ }
+        ensures { λ r. ⌜ r ≡ heardBy (pagesOf board) (now (map .entry)) self Awaited.Ack event ⌝ }
     {
         let kind = self.kind;
         let phase = self.phase;
         let Event::Ack = event else {
             return self.over(Awaited::Ack, event);
         };
-        self.moved(phase.after(map, kind), 1)
+        self.moved(phase.after(board, map, kind), 1)
     }
 
     fn over(self, awaited: Awaited, event: Event) -> Session
@@ -272,6 +328,7 @@ impl Session {
     {
         let kind = self.kind;
         Session {
+            board: self.board,
             kind,
             phase,
             acknowledged: self.acknowledged + more,
@@ -282,27 +339,28 @@ impl Session {
 }
 
 // Whether the byte is marked after `k` acknowledgements: the V of its piece is among them.
-fn marked(map: &[u8], k: u32, address: Address) -> bool
-    requires { ⌜ length (now map) ≡ mapSize ⌝ }
-    ensures { λ r. ⌜ r ≡ marked pages (now (map .entry)) k (address .0) ⌝ }
+fn marked(board: Board, map: &[u8], k: u32, address: Address) -> bool
+    requires { ⌜ length (now map) ≡ mapBytes (pagesOf board) ⌝ }
+    ensures { λ r. ⌜ r ≡ marked (pagesOf board) (now (map .entry)) k (address .0) ⌝ }
 {
-    if END <= address.0 {
+    let past = board.end();
+    if past <= address.0 {
         return false;
     }
     if !named(map, address) {
         return false;
     }
-    let found = survey(map, address);
+    let found = survey(board, map, address);
     let all = found.all;
     let below = found.below;
     let pieces = below.pieces + one(found.piece);
     before_verify(all) + pieces <= k
 }
 
-fn right_sizes(image: usize, map: usize, packet: usize) -> bool
-    ensures { λ r. ⌜ r ≡ rightSizes pages image map packet ⌝ }
+fn right_sizes(board: Board, image: usize, map: usize, packet: usize) -> bool
+    ensures { λ r. ⌜ r ≡ rightSizes (pagesOf board) image map packet ⌝ }
 {
-    basis::board::right_sizes(image, map) && PACKET <= packet
+    board.right_sizes(image, map) && PACKET <= packet
 }
 
 fn one(counts: bool) -> u32

@@ -2,38 +2,79 @@
 use Prim.Native.Nat.{ℕ}
 use mathlib.Core.Bool.{Bool, true, false}
 use mathlib.Core.List.{List, [], _∷_}
-use mathlib.Core.Path.{_≡_, refl}
-use Rattle.basis.specs.Board.{greeting, ackByte, belByte}
+use mathlib.Core.Path.{_≡_, refl, sym, ap}
+use borrow.Author.Tests.{eq-eqb, eqb-true}
+use lib.Dec.{eqb}
+use lib.ListN.{length, getD, take, drop}
+use Rattle.basis.specs.Board.{pagesOf, greetingOf, answerMost, ackByte, belByte}
+use Rattle.basis.specs.Laws.Boards.{greetings-differ}
+use Rattle.basis.specs.Laws.Choice.{decide, both-true, true-false}
+use Rattle.basis.specs.declared.board.Board.{Board}
 use Rattle.events.specs.Events.{sameOf, greetsOf, classifyOf, isGreeting, isAck}
 use Rattle.events.specs.declared.event.Event.{Event}
 
-pub greeting-heard : classifyOf false greeting ≡ Event.Greeting
-unfolding classifyOf greetsOf sameOf
-greeting-heard = refl
+same-self : (s : List ℕ) → sameOf s s ≡ true
+unfolding sameOf
+same-self [] = refl
+same-self (x ∷ s) = rw (eq-eqb x x refl) (same-self s)
 
-pub ack-heard : classifyOf false (ackByte ∷ []) ≡ Event.Ack
-unfolding classifyOf greetsOf sameOf
-ack-heard = refl
+same-equal : (s t : List ℕ) → sameOf s t ≡ true → s ≡ t
+unfolding sameOf
+same-equal [] [] e = refl
+same-equal [] (y ∷ t) e = absurd (true-false (sym e))
+same-equal (x ∷ s) [] e = absurd (true-false (sym e))
+same-equal (x ∷ s) (y ∷ t) e =
+    let b = both-true (eqb x y) (sameOf s t) e in rw (eqb-true x y (b .0), same-equal s t (b .1))
 
-pub bel-heard : classifyOf false (belByte ∷ []) ≡ Event.Bel
-unfolding classifyOf greetsOf sameOf
-bel-heard = refl
+module _ (board : ℕ) where
+  pub greeting-heard : classifyOf board false (greetingOf board) ≡ Event.Greeting
+  unfolding classifyOf greetsOf
+  greeting-heard = rw (same-self (take 15 (greetingOf board)), same-self (drop 22 (greetingOf board)))
 
-pub silence-heard : (b : List ℕ) → classifyOf true b ≡ Event.Silence
-unfolding classifyOf
-silence-heard b = refl
+  pub ack-heard : classifyOf board false (ackByte ∷ []) ≡ Event.Ack
+  unfolding classifyOf greetsOf sameOf
+  ack-heard = refl
 
-pub none-heard : classifyOf false [] ≡ Event.Other
-unfolding classifyOf greetsOf sameOf
-none-heard = refl
+  pub bel-heard : classifyOf board false (belByte ∷ []) ≡ Event.Bel
+  unfolding classifyOf greetsOf sameOf
+  bel-heard = refl
 
--- each event is brought about by some answer, or by silence
-pub event-comes : (e : Event) → (silent : Bool) × (b : List ℕ) × (classifyOf silent b ≡ e)
-event-comes Event.Greeting = (false, greeting, greeting-heard)
-event-comes Event.Ack = (false, ackByte ∷ [], ack-heard)
-event-comes Event.Bel = (false, belByte ∷ [], bel-heard)
-event-comes Event.Other = (false, [], none-heard)
-event-comes Event.Silence = (true, [], silence-heard [])
+  pub silence-heard : (b : List ℕ) → classifyOf board true b ≡ Event.Silence
+  unfolding classifyOf
+  silence-heard b = refl
+
+  pub none-heard : classifyOf board false [] ≡ Event.Other
+  unfolding classifyOf greetsOf sameOf
+  none-heard = refl
+
+  -- each event is brought about by some answer, or by silence
+  pub event-comes : (e : Event) → (silent : Bool) × (b : List ℕ) × (classifyOf board silent b ≡ e)
+  event-comes Event.Greeting = (false, greetingOf board, greeting-heard)
+  event-comes Event.Ack = (false, ackByte ∷ [], ack-heard)
+  event-comes Event.Bel = (false, belByte ∷ [], bel-heard)
+  event-comes Event.Other = (false, [], none-heard)
+  event-comes Event.Silence = (true, [], silence-heard [])
+
+-- the greeting of another board is none
+foreign : (a b : Board) → (a ≡ b → ⊥) → greetsOf (pagesOf a) (greetingOf (pagesOf b)) ≡ false
+unfolding greetsOf
+foreign a b other =
+    decide (greetsOf (pagesOf a) (greetingOf (pagesOf b)))
+    (λ t. absurd (other (greetings-differ a b (sym (ap (λ (s : List ℕ). getD s 12 0) (fronts t))))))
+    (λ t. t)
+  where
+    fronts : greetsOf (pagesOf a) (greetingOf (pagesOf b)) ≡ true
+        → take 15 (greetingOf (pagesOf b)) ≡ take 15 (greetingOf (pagesOf a))
+    fronts t =
+        let x = both-true (eqb (length (greetingOf (pagesOf b))) answerMost) _ t in
+        same-equal _ _ (both-true
+        (sameOf (take 15 (greetingOf (pagesOf b))) (take 15 (greetingOf (pagesOf a)))) _
+        (x .1) .0)
+
+pub other-board : (a b : Board) → (a ≡ b → ⊥)
+    → classifyOf (pagesOf a) false (greetingOf (pagesOf b)) ≡ Event.Other
+unfolding classifyOf sameOf
+other-board a b other = rw (foreign a b other)
 
 -- it is the one awaited, or is not
 pub ack-or : {R : Type 0} (e : Event) → (e ≡ Event.Ack → R) → (isAck e ≡ false → R) → R

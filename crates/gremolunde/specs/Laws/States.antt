@@ -1,5 +1,6 @@
 -- What is shown of a state stands for that state, so a caller who
 -- passes on what was handed back goes the paper's way.
+use Prim.Native.Nat.{ℕ}
 use mathlib.Core.Bool.{Bool, true, false}
 use mathlib.Core.Path.{_≡_, refl}
 use Rattle.basis.specs.Laws.RunKinds.{kind-back}
@@ -34,8 +35,8 @@ loader-back l =
       key = l .key;
     }
 
-pub hex-back : (h : Hex) → hexMeant (hexShown h) ≡ h
-hex-back h =
+pub hex-back : (board : ℕ) (h : Hex) → hexMeant (hexShown board h) ≡ h
+hex-back board h =
     λ i. record {
       linear = h .linear;
       segment = h .segment;
@@ -59,6 +60,7 @@ phase-back (Phase.Ended Outcome.Other) = refl
 pub session-back : (s : Session) → sessionMeant (sessionShown s) ≡ s
 session-back s =
     λ i. record {
+      board = s .board;
       kind = kind-back (s .kind) i;
       phase = phase-back (s .phase) i;
       acknowledged = s .acknowledged;

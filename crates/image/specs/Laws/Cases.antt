@@ -1,18 +1,22 @@
--- The paper's records, start records and columns, read by a fresh reader on a board of 272 bytes.
+-- The paper's records, start records and columns, read by a fresh reader on a board of 272 bytes;
+-- and records written.
 use Prim.Native.Nat.{ℕ, _*_}
 use mathlib.Core.Bool.{Bool, true, false}
 use mathlib.Core.List.{List, [], _∷_, _++_}
 use mathlib.Core.Path.{_≡_, refl}
 use lib.Dec.{eqb}
-use lib.ListN.{getD, set, replicate}
+use lib.ListN.{length, getD, set, replicate}
 use Rattle.basis.specs.Choice.{both, all, any}
+use Rattle.basis.specs.Units.{startOf}
 use Rattle.basis.specs.Refusals.{Answer, refused, given, first}
 use Rattle.basis.specs.Sums.{plainSum, sumOf}
 use Rattle.image.specs.Digits.{digitOf, digitsBefore, decoded}
 use Rattle.basis.specs.Lists.{stored}
 use Rattle.image.specs.Hex.{File, fresh, recordIn}
 use Rattle.image.specs.Record.{columnOf, Pointed, wrong, right, pointed}
-use Rattle.image.specs.Writer.{letterOf, spelt}
+use Rattle.image.specs.RoundTrip.{lines, recordsMost}
+use Rattle.image.specs.Writer.{letterOf, spelt, Step, step, text, stepFrom}
+use Rattle.runs.specs.Runs.{len, next}
 use Rattle.runs.specs.Map.{named, nameOf, nameAllOf}
 
 -- a line, read, and a record of these bytes
@@ -98,3 +102,62 @@ cases =
 pub record-cases : all cases ≡ true
 unfolding first recordIn columnOf digitOf digitsBefore decoded stored any nameAllOf named nameOf plainSum sumOf letterOf spelt
 record-cases = refl
+
+-- ---- what is written
+
+-- :020000040000FA
+abbrev upperZero : List ℕ
+upperZero =
+    0x3A ∷ 0x30 ∷ 0x32 ∷ 0x30 ∷ 0x30 ∷ 0x30 ∷ 0x30 ∷ 0x30 ∷ 0x34
+    ∷ 0x30 ∷ 0x30 ∷ 0x30 ∷ 0x30 ∷ 0x46 ∷ 0x41 ∷ 0x0A ∷ []
+
+-- :02000500FFFFFB
+abbrev dataFive : List ℕ
+dataFive =
+    0x3A ∷ 0x30 ∷ 0x32 ∷ 0x30 ∷ 0x30 ∷ 0x30 ∷ 0x35 ∷ 0x30 ∷ 0x30
+    ∷ 0x46 ∷ 0x46 ∷ 0x46 ∷ 0x46 ∷ 0x46 ∷ 0x42 ∷ 0x0A ∷ []
+
+-- :00000001FF
+abbrev endText : List ℕ
+endText =
+    0x3A ∷ 0x30 ∷ 0x30 ∷ 0x30 ∷ 0x30 ∷ 0x30 ∷ 0x30 ∷ 0x30 ∷ 0x31
+    ∷ 0x46 ∷ 0x46 ∷ 0x0A ∷ []
+
+-- :020000040001F9
+abbrev upperOne : List ℕ
+upperOne =
+    0x3A ∷ 0x30 ∷ 0x32 ∷ 0x30 ∷ 0x30 ∷ 0x30 ∷ 0x30 ∷ 0x30 ∷ 0x34
+    ∷ 0x30 ∷ 0x30 ∷ 0x30 ∷ 0x31 ∷ 0x46 ∷ 0x39 ∷ 0x0A ∷ []
+
+-- :01000000FF00
+abbrev dataOne : List ℕ
+dataOne =
+    0x3A ∷ 0x30 ∷ 0x31 ∷ 0x30 ∷ 0x30 ∷ 0x30 ∷ 0x30 ∷ 0x30 ∷ 0x30
+    ∷ 0x46 ∷ 0x46 ∷ 0x30 ∷ 0x30 ∷ 0x0A ∷ []
+
+-- of a file of 272 bytes with the places 5 and 6 named
+abbrev fromLow : ℕ → ℕ → Step
+fromLow a u = stepFrom 272 (replicate 272 0xFF) (0x60 ∷ replicate 33 0) a u
+
+-- of one of 0x10010 bytes with the place 0x10000 named
+abbrev fromHigh : ℕ → ℕ → Step
+fromHigh a u = stepFrom 0x10010 (replicate 0x10010 0xFF) (replicate 0x2000 0 ++ (0x01 ∷ 0x00 ∷ [])) a u
+
+-- a given upper half other than the place's gets its 04 record, the address kept; then the data record comes
+pub writer-cases :
+    (fromLow 3 1 ≡ step upperZero 3 0)
+    × (fromLow 3 0 ≡ step dataFive 7 0)
+    × (fromHigh 0xFFFF 0 ≡ step upperOne 0xFFFF 1)
+    × (fromHigh 0xFFFF 1 ≡ step dataOne 0x10001 1)
+    × (fromLow 7 1 ≡ step endText 273 1)
+    × (fromLow 273 1 ≡ step [] 273 1)
+unfolding stepFrom text sumOf plainSum letterOf spelt named len next
+writer-cases = (refl, refl, refl, refl, refl, refl)
+
+-- a file that names every second byte has as many records as a file can have; what that is on the two boards
+pub most-cases :
+    (length (lines 32 (replicate 32 0xFF) (replicate 4 0x55) 0 0 100) ≡ recordsMost 32)
+    × (recordsMost (startOf 124) ≡ 31745)
+    × (recordsMost (startOf 248) ≡ 63490)
+unfolding lines stepFrom text sumOf plainSum letterOf spelt named len next
+most-cases = (refl, refl, refl)

@@ -107,10 +107,10 @@ close-determined = determined paperRead read-one
 -- writing
 written-one : (r s : Written) → paperWritten r ≡ paperWritten s → r ≡ s
 written-one (written.Refused x) (written.Refused y) e = ap written.Refused (refusal-one x y (refused-one e))
-written-one (written.Refused x) (written.Record n a) e = absurd (apart e)
-written-one (written.Record n a) (written.Refused y) e = absurd (apart (sym e))
-written-one (written.Record n a) (written.Record m b) e =
-    let g = given-one e in λ i. written.Record (g i .length) (record { 0 = g i .next })
+written-one (written.Refused x) (written.Record n a u) e = absurd (apart e)
+written-one (written.Record n a u) (written.Refused y) e = absurd (apart (sym e))
+written-one (written.Record n a u) (written.Record m b v) e =
+    let g = given-one e in λ i. written.Record (g i .length) (record { 0 = g i .next }) (g i .upper)
 
 pub write-determined : (a : Answer Step) (r s : Written) (x y old : List ℕ)
     → (paperWritten r ≡ measured a) × (x ≡ overlay (textBytes a) old)

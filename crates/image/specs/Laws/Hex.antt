@@ -225,6 +225,25 @@ module _ (size : ℕ) (h : Hex) (image map : List ℕ)
       )
       (data-placed size h b image map fits free)
 
+  -- a record of another type that has its shape
+  pub other-taken : (b : List ℕ)
+      → Bytes b
+      → length b ≡ 5 + count b
+      → sumOf b ≡ 0
+      → shapeOf b ≡ given tt
+      → isData b ≡ false
+      → recordIn size h (0x3A ∷ spelt b) image map ≡ given (file (otherOf h b) image map)
+  other-taken b bytes long sum shape other =
+      record-cut size h image map (0x3A ∷ spelt b) right going
+      ∙ rw (
+        spelling-characters b bytes long,
+        spelt-bytes b bytes,
+        apply-cut size h image map (length (0x3A ∷ spelt b)) b,
+        spelling-framing b bytes long sum,
+        shape,
+        other,
+      )
+
   -- the end record
   pub end-taken : recordIn size h (line 0 1 []) image map
       ≡ given (file (hex (h .linear) (h .segment) true (h .taken)) image map)

@@ -1,14 +1,15 @@
--- Laws of the writer's characters.
+-- Laws of the writer's characters and steps.
 use Prim.Native.Nat.{ℕ, suc, _+_, _*_, _/_, _%_, _<_}
 use mathlib.Core.Path.{_≡_, refl}
 use mathlib.Core.List.{List, [], _∷_, _++_}
 use native.Mathlib.Omega.{arith}
 use lib.ListN.{length}
 use borrow.Author.Tests.{lt-ltb}
-use Rattle.basis.specs.Lists.{Bytes}
+use Rattle.basis.specs.Lists.{Bytes, overlay}
 use Rattle.basis.specs.Laws.Computed.{agree}
 use Rattle.image.specs.Digits.{digitOf, digitsBefore, decoded}
-use Rattle.image.specs.Writer.{letterOf, spelt}
+use Rattle.basis.specs.Refusals.{Answer, given}
+use Rattle.image.specs.Writer.{letterOf, spelt, Step, measured, textBytes}
 
 pub length-spelt : (s : List ℕ) → length (spelt s) ≡ 2 * length s
 unfolding spelt
@@ -61,3 +62,11 @@ spelt-bytes (x ∷ s) h =
       e,
       spelt-bytes s (λ k. h (suc k)),
     )
+
+-- what was told and written, where that is a step
+pub step-told : (w : Answer Step) (s : Step) (n : ℕ) (old new : List ℕ) → w ≡ given s
+    → n ≡ length (s .text)
+    → new ≡ overlay (s .text) old
+    → (given (record { length = n; next = s .next; upper = s .upper }) ≡ measured w)
+    × (new ≡ overlay (textBytes w) old)
+step-told w s n old new e l b = (rw (e, l), rw e b)

@@ -5,7 +5,7 @@ use mathlib.Core.List.{List, [], _∷_}
 use mathlib.Core.Path.{_≡_, refl, sym, ap, _∙_}
 use borrow.Author.Tests.{eq-eqb}
 use lib.ListN.{length}
-use Rattle.basis.specs.Board.{greeting, openingByte, ackByte, belByte}
+use Rattle.basis.specs.Board.{greetingOf, openingByte, ackByte, belByte}
 use Rattle.basis.specs.Choice.{pick}
 use Rattle.basis.specs.Laws.Choice.{true-false}
 use Rattle.basis.specs.Refusals.{Answer, refused, given, bare}
@@ -36,37 +36,41 @@ use Rattle.packet.specs.Packet.{packetMost}
 -- ---- what the session hears
 
 -- no answer is silence
-pub silence-is : (b : List ℕ) → b ≡ [] → eventFrom b ≡ Event.Silence
-silence-is b e = ap eventFrom e ∙ silence-heard []
+pub silence-is : (board : ℕ) (b : List ℕ) → b ≡ [] → eventFrom board b ≡ Event.Silence
+silence-is board b e = ap (eventFrom board) e ∙ silence-heard board []
 
-refusal-heard : (n : ℕ) → isAck (eventFrom (tellOf false (refused n))) ≡ false
-refusal-heard n = go (quiet n)
+refusal-heard : (board n : ℕ) → isAck (eventFrom board (tellOf board false (refused n))) ≡ false
+refusal-heard board n = go (quiet n)
   where
-    go : (q : Bool) → isAck (eventFrom (pick q [] (belByte ∷ []))) ≡ false
-    go true = ap isAck (silence-heard [])
-    go false = ap isAck bel-heard
+    go : (q : Bool) → isAck (eventFrom board (pick q [] (belByte ∷ []))) ≡ false
+    go true = ap isAck (silence-heard board [])
+    go false = ap isAck (bel-heard board)
 
 -- an ACK comes from a loader that has let the packet through, and nothing was lost
 pub acked : (board : ℕ) (o : Loss) (l : Loader) (s f : List ℕ) → l .condition ≡ Serving
-    → eventFrom (arrives board o l s f) ≡ Event.Ack
+    → eventFrom board (arrives board o l s f) ≡ Event.Ack
     → (o ≡ Loss.Whole) × (e : Effect) × (loaderTakes board l s f ≡ given e)
 acked board Loss.Whole l s f c h =
-    let w = ap (λ (w : Bool). eventFrom (tellOf w (bare (loaderTakes board l s f)))) (ap waiting c) in
+    let w = ap (λ (w : Bool). eventFrom board (tellOf board w (bare (loaderTakes board l s f))))
+    (ap waiting c) in
     go (loaderTakes board l s f) refl (sym (ap isAck (sym w ∙ h)))
   where
-    go : (x : Answer Effect) → loaderTakes board l s f ≡ x → true ≡ isAck (eventFrom (tellOf false (bare x)))
+    go : (x : Answer Effect) → loaderTakes board l s f ≡ x
+        → true ≡ isAck (eventFrom board (tellOf board false (bare x)))
         → (Loss.Whole ≡ Loss.Whole) × (e : Effect) × (loaderTakes board l s f ≡ given e)
-    go (refused n) e t = absurd (true-false (t ∙ refusal-heard n))
+    go (refused n) e t = absurd (true-false (t ∙ refusal-heard board n))
     go (given y) e t = (refl, y, e)
-acked board Loss.Lost l s f c h = absurd (true-false (sym (ap isAck (sym (silence-heard []) ∙ h))))
-acked board Loss.Unanswered l s f c h = absurd (true-false (sym (ap isAck (sym (silence-heard []) ∙ h))))
+acked board Loss.Lost l s f c h = absurd (true-false (sym (ap isAck (sym (silence-heard board []) ∙ h))))
+acked board Loss.Unanswered l s f c h =
+    absurd (true-false (sym (ap isAck (sym (silence-heard board []) ∙ h))))
 
 -- and what it lets through it acknowledges
 pub let-acked : (board : ℕ) (l : Loader) (s f : List ℕ) (e : Effect) → l .condition ≡ Serving
-    → loaderTakes board l s f ≡ given e → eventFrom (arrives board Loss.Whole l s f) ≡ Event.Ack
+    → loaderTakes board l s f ≡ given e → eventFrom board (arrives board Loss.Whole l s f) ≡ Event.Ack
 let-acked board l s f e c q =
-    ap (λ (x : Answer Effect). eventFrom (answerBytes l x)) q
-    ∙ ap (λ (w : Bool). eventFrom (pick w greeting (ackByte ∷ []))) (ap waiting c) ∙ ack-heard
+    ap (λ (x : Answer Effect). eventFrom board (answerBytes board l x)) q
+    ∙ ap (λ (w : Bool). eventFrom board (pick w (greetingOf board) (ackByte ∷ []))) (ap waiting c)
+    ∙ ack-heard board
 
 -- ---- where the session stands then
 
@@ -101,7 +105,7 @@ module _ (board : ℕ) (image m : List ℕ) (file : Loadable board image m) (kin
     here = standing board image m kind e k
 
     abbrev heard : Event
-    heard = eventFrom (reply board o here)
+    heard = eventFrom board (reply board o here)
 
     abbrev next : Session → Moment
     next = went board image m kind (served board image m kind o e k)
@@ -139,7 +143,7 @@ module _ (board : ℕ) (image m : List ℕ) (file : Loadable board image m) (kin
     start = begun board m kind l f
 
     abbrev first-heard : Event
-    first-heard = eventFrom (reply board o start)
+    first-heard = eventFrom board (reply board o start)
 
     abbrev first-next : Session → Moment
     first-next = went board image m kind (opened board o l f)

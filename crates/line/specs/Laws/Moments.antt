@@ -234,13 +234,13 @@ module _ (board : ℕ) (few : board ≤ 255) (image m before : List ℕ) (file :
       ap (λ (y : Moment). exchangeOf board image m o y .session .phase) q
       ∙ ap (λ (y : Moment). y .session .phase) (taken-first board image m file kind o l before)
       ∙ ap (λ (v : Event). tookOf board m (atGreeting board m kind) v .phase)
-      (silence-is _ (sym (ap (reply board o) q) ∙ r))
+      (silence-is board _ (sym (ap (reply board o) q) ∙ r))
       ∙ silence-ends board m (atGreeting board m kind)
   hushed o n x (stands e k z b s h q) t r =
       ap (λ (y : Moment). exchangeOf board image m o y .session .phase) q
       ∙ ap (λ (y : Moment). y .session .phase) (taken board image m file kind o e k b)
       ∙ ap (λ (v : Event). tookOf board m (stateAt board m kind k) v .phase)
-      (silence-is _ (sym (ap (reply board o) q) ∙ r))
+      (silence-is board _ (sym (ap (reply board o) q) ∙ r))
       ∙ silence-ends board m (stateAt board m kind k)
   hushed o n x (ends e u k h v q) t r = not-open q refl t
 
@@ -301,7 +301,8 @@ module _ (board : ℕ) (few : board ≤ 255) (image m before : List ℕ) (file :
       served-is : served board image m kind Loss.Whole (serves-at f) k ≡ passing .0
       served-is = ap (λ (x : Answer Effect). effectAfter (serving l) f x) (passing .1 .let-is)
 
-      hears : eventFrom (reply board Loss.Whole (standing board image m kind (serves-at f) k)) ≡ Event.Ack
+      hears : eventFrom board (reply board Loss.Whole (standing board image m kind (serves-at f) k))
+          ≡ Event.Ack
       hears = let-acked board (serving l) _ f (passing .0) refl (passing .1 .let-is)
 
     -- the exchange that follows
@@ -327,7 +328,8 @@ module _ (board : ℕ) (few : board ≤ 255) (image m before : List ℕ) (file :
               ∙ ap (λ (o : Loss). exchangeOf board image m o (load 0)) (whole 0)
               ∙ ap (exchangeOf board image m Loss.Whole) begins
               ∙ on-greeting board image m file kind Loss.Whole l before
-              (ap (λ (x : Answer Effect). eventFrom (answerBytes (resetOf l) x)) greets ∙ greeting-heard)
+              (ap (λ (x : Answer Effect). eventFrom board (answerBytes board (resetOf l) x)) greets
+              ∙ greeting-heard board)
               ∙ ap (λ (x : Answer Effect). standing board image m kind (effectAfter (resetOf l) before x) 0)
               greets;
         }

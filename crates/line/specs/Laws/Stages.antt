@@ -204,7 +204,7 @@ module _ (board : ℕ) (few : board ≤ 255) (image m before : List ℕ) (file :
   planned : 0 < total board m kind
   planned = total-some board m (file .long) (file .some) kind
 
-  silent-stage : (o : Loss) → eventFrom (reply board o start) ≡ Event.Silence
+  silent-stage : (o : Loss) → eventFrom board (reply board o start) ≡ Event.Silence
       → At 1 (exchangeOf board image m o start)
   silent-stage o h =
       let s = on-silence board image m file kind o l before h in
@@ -219,15 +219,16 @@ module _ (board : ℕ) (few : board ≤ 255) (image m before : List ℕ) (file :
       (ap (λ (x : Answer Effect). effectAfter (resetOf l) before x .loader) g)
       (opening-holds board image m before (file .long) _ (first-flash board Loss.Whole l before size) size)
       (on-greeting board image m file kind Loss.Whole l before
-      (ap (λ (x : Answer Effect). eventFrom (answerBytes (resetOf l) x)) g ∙ greeting-heard))
-  first-stage Loss.Lost = silent-stage Loss.Lost (silence-is [] refl)
-  first-stage Loss.Unanswered = silent-stage Loss.Unanswered (silence-is [] refl)
+      (ap (λ (x : Answer Effect). eventFrom board (answerBytes board (resetOf l) x)) g
+      ∙ greeting-heard board))
+  first-stage Loss.Lost = silent-stage Loss.Lost (silence-is board [] refl)
+  first-stage Loss.Unanswered = silent-stage Loss.Unanswered (silence-is board [] refl)
 
   -- ACK goes on or ends as was asked, all else ends
   next-stage : (o : Loss) (e : Effect) (k : ℕ) → k < total board m kind → e .loader ≡ serving l
       → Holds board image m before k (e .flash)
       → At (suc (k + 1)) (exchangeOf board image m o (standing board image m kind e k))
-  next-stage o e k b s h = ack-or (eventFrom (reply board o here)) on-it off-it
+  next-stage o e k b s h = ack-or (eventFrom board (reply board o here)) on-it off-it
     where
       here : Moment
       here = standing board image m kind e k
@@ -235,7 +236,7 @@ module _ (board : ℕ) (few : board ≤ 255) (image m before : List ℕ) (file :
       serves : Serves (e .loader)
       serves = rw s (serving-serves l)
 
-      off-it : isAck (eventFrom (reply board o here)) ≡ false
+      off-it : isAck (eventFrom board (reply board o here)) ≡ false
           → At (suc (k + 1)) (exchangeOf board image m o here)
       off-it t =
           let r = on-else board image m file kind o e k b t in
@@ -243,7 +244,8 @@ module _ (board : ℕ) (few : board ≤ 255) (image m before : List ℕ) (file :
           (served-holds board few image m before file kind (e .loader) serves o (e .flash) k h b)
           (fails-ends kind (r .0) k (r .1) (total board m kind) b) (r .2)
 
-      on-it : eventFrom (reply board o here) ≡ Event.Ack → At (suc (k + 1)) (exchangeOf board image m o here)
+      on-it : eventFrom board (reply board o here) ≡ Event.Ack
+          → At (suc (k + 1)) (exchangeOf board image m o here)
       on-it t =
           let c : (o ≡ Loss.Whole) × (x : Effect)
           × (loaderTakes board (e .loader) (packetAt board image m kind k) (e .flash) ≡ given x)

@@ -52,9 +52,9 @@ verdict-one Accepted (Refused y) e = absurd (apart (sym e))
 verdict-one (Refused x) Accepted e = absurd (apart e)
 verdict-one (Refused x) (Refused y) e = ap Refused (refusal-one x y (refused-one e))
 
-pub take-determined : {x : Answer Effect} {l : Loader} {f old : List ℕ}
+pub take-determined : {board : ℕ} {x : Answer Effect} {l : Loader} {f old : List ℕ}
     (v w : Verdict) (m n : Loader) (i j : ℕ) (g h a b : List ℕ)
-    → Takes x l f old (paperVerdict v) m i g a → Takes x l f old (paperVerdict w) n j h b
+    → Takes board x l f old (paperVerdict v) m i g a → Takes board x l f old (paperVerdict w) n j h b
     → (v ≡ w) × (m ≡ n) × (i ≡ j) × (g ≡ h) × (a ≡ b)
 take-determined v w m n i j g h a b p q = (
   determined paperVerdict verdict-one v w (p .does-is .verdict-is) (q .does-is .verdict-is),

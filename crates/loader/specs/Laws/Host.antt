@@ -11,15 +11,15 @@ use Rattle.basis.specs.Choice.{pick}
 use Rattle.basis.specs.Refusals.{Answer, given, first}
 use Rattle.basis.specs.Units.{startOf}
 use Rattle.loader.specs.Commands.{effectAfter, keeping, erasing, writing, verifyRows, running, obeyOf, Effect, protecting}
-use Rattle.loader.specs.Laws.Commands.{obey-erase, obey-write, obey-verify, obey-run, keeping-is}
+use Rattle.loader.specs.Laws.Commands.{obey-erase, obey-write, obey-verify, obey-protect, obey-run, keeping-is}
 use Rattle.loader.specs.Laws.Take.{heard-waiting, heard-serving, served-packet, take-heard, any-input}
 use Rattle.loader.specs.State.{withCondition}
 use Rattle.loader.specs.Take.{takeOf, sentData}
 use Rattle.loader.specs.declared.state.Condition.the-variants.{Waiting, Serving}
 use Rattle.loader.specs.declared.state.Loader.{Loader}
-use Rattle.packet.specs.Laws.Packet.{packet-data, carried-plainly, read-erase, read-write, read-verify, read-run}
+use Rattle.packet.specs.Laws.Packet.{packet-data, carried-plainly, read-packet, read-erase, read-write, read-verify, read-run}
 use Rattle.packet.specs.Packet.{carriedOf, packet, Parts, said, readOf}
-use Rattle.packet.specs.Table.{eraseByte, writeByte, verifyByte, protectByte, runByte}
+use Rattle.packet.specs.Table.{eraseByte, writeByte, verifyByte, protectByte, runByte, protectType}
 use Rattle.packet.specs.Turn.{turnedOf}
 
 module _ (board : ℕ) (l : Loader) (f : List ℕ) (room : ℕ) (size : length f ≡ startOf board)
@@ -57,6 +57,13 @@ module _ (board : ℕ) (l : Loader) (f : List ℕ) (room : ℕ) (size : length f
           ≡ keeping f (first (verifyRows board l a (map turnedOf d) f) (given l))
       sent-verify d p q =
           sent verifyByte a d (read-verify a h d p q) ∙ obey-verify board l a (map (carriedOf verifyByte) d) f
+
+      -- P, which the host never sends
+      pub sent-protect : (t : ℕ) → protectType t ≡ true
+          → takeOf board l (packet protectByte a (t ∷ [])) f room ≡ keeping f (protecting board l a t)
+      sent-protect t e =
+          sent protectByte a (t ∷ []) (read-packet protectByte a (t ∷ []) h refl e)
+          ∙ obey-protect board l a (t ∷ []) f
 
       pub sent-run : takeOf board l (packet runByte a []) f room ≡ keeping f (running l a)
       sent-run = sent runByte a [] (read-run a h) ∙ obey-run board l a [] f

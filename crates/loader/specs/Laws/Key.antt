@@ -199,7 +199,7 @@ module _ (hide : Loader → Loader) (v : View hide) (l k : Loader) (q : hide l �
         go a =
             record {
               verdict-same = verdict a;
-              answer-same = ap₂ tellOf (ap waiting condition-same) (verdict a);
+              answer-same = ap₂ (tellOf board) (ap waiting condition-same) (verdict a);
               flash-same = flash a;
               loader-same = loader a;
             }

@@ -1,5 +1,5 @@
 -- How large a total can be, for every map: two pieces never start side by side.
-use Prim.Native.Nat.{ℕ, zero, suc, _+_, _*_, _^_, _≤_, _<_}
+use Prim.Native.Nat.{ℕ, zero, suc, _+_, _*_, _≤_, _<_}
 use mathlib.Core.Bool.{Bool, true, false}
 use mathlib.Core.List.{List}
 use mathlib.Core.Path.{_≡_, sym, _∙_}
@@ -44,10 +44,6 @@ pieces-half board m =
 
 pub total-most : (board : ℕ) (m : List ℕ) (kind : RunKind) → total board m kind ≤ board + startOf board + 2
 total-most board m kind = omega (arith, pieces-half board m, runs-most board m, r-most kind)
-
--- two bytes hold the total of a board of up to 127 pages
-pub total-fits : (board : ℕ) (m : List ℕ) (kind : RunKind) → board ≤ 127 → total board m kind < 2 ^ 16
-total-fits board m kind short = omega (arith, total-most board m kind)
 
 pub named-fits : (board : ℕ) (m : List ℕ) → namedCount board m ≤ startOf board
 named-fits board m = count-le (named m) (startOf board)

@@ -4,7 +4,8 @@ use mathlib.Core.Path.{refl, sym, ap, _∙_, _≡_}
 use native.Mathlib.Omega.{arith}
 use borrow.Author.Needs.{needs}
 use lib.ListN.{length}
-use Rattle.basis.specs.Board.{pages}
+use Rattle.basis.specs.Board.{pagesOf}
+use Rattle.basis.specs.declared.board.Board.{Board}
 use Rattle.listing.specs.Laws.Plan.{begun-listed, sheet-listed, sheet-falls}
 use Rattle.listing.specs.Paper.{paperBegun}
 use Rattle.listing.specs.Plan.{Listed}
@@ -13,7 +14,7 @@ use Rattle.plan.proofs.print.Tie as tie
 
 abbrev Inv-loop : tie.InvT-loop
 Inv-loop image map buffer₀ head listing₀ buffer listing =
-    (length buffer ≡ length buffer₀) × Listed pages image map listing
+    (length buffer ≡ length buffer₀) × Listed (pagesOf Board.Short) image map listing
 
 abbrev μ-loop : tie.MeasureT-loop
 μ-loop image map buffer₀ head listing₀ buffer listing = listing .total - listing .listed
@@ -36,7 +37,7 @@ loop-holds : tie.Need-loop-holds Inv-loop μ-loop
 loop-holds c =
     let told = c .before .before .before .before .before .before .before .before in (
       refl,
-      begun-listed pages _ _ _ _
+      begun-listed _ _ _ _ _
           (sym (ap paperBegun (told .begun .given .1)) ∙ told .before .before .start .ensures),
     )
 
@@ -44,7 +45,7 @@ loop-less : tie.Need-loop-less Inv-loop μ-loop
 loop-less c =
     let s = sheet-at c in
     let l = loop-at s in
-    sheet-falls pages _ _ _ (l .loop .inv .1) _ _ (s .sheet .ensures .0)
+    sheet-falls _ _ _ _ (l .loop .inv .1) _ _ (s .sheet .ensures .0)
     (omega (arith, l .loop .inv .0, head-at l .head-line .kept .0, entry l .pre))
     (s .before .before .if2 .taken)
 
@@ -52,8 +53,8 @@ loop-again : tie.Need-loop-again Inv-loop μ-loop
 loop-again c =
     let s = sheet-at c in
     let l = loop-at s in (
-      omega (arith, l .loop .inv .0, s .sheet .kept .1 .1 .1 .0),
-      sheet-listed pages _ _ _ (l .loop .inv .1) _ _ (s .sheet .ensures .0),
+      omega (arith, l .loop .inv .0, s .sheet .kept .1 .1 .1 .1 .0),
+      sheet-listed _ _ _ _ (l .loop .inv .1) _ _ (s .sheet .ensures .0),
     )
 
 pub print-spec : {M : Type 1} → statement M

@@ -16,10 +16,11 @@ use Rattle.service_log.specs.declared.write.Written.{Written}
 
 -- the refusal of a number
 unwrittenBy : ℕ → Unwritten
-unwrittenBy n = pick (eqb n 45) Unwritten.Unfit Unwritten.NoRoom
+unwrittenBy n = pick (eqb n 65) Unwritten.Board (pick (eqb n 45) Unwritten.Unfit Unwritten.NoRoom)
 
 unwritten-back : (x : Unwritten) → unwrittenBy (paperUnwritten x) ≡ x
 unfolding unwrittenBy
+unwritten-back Unwritten.Board = refl
 unwritten-back Unwritten.Unfit = refl
 unwritten-back Unwritten.NoRoom = refl
 

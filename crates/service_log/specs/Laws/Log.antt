@@ -1,99 +1,125 @@
 -- Laws of the log: each row of its two tables, and what is given where no row holds.
-use Prim.Native.Nat.{ℕ, _≤_, _<_}
+use Prim.Native.Nat.{ℕ, _+_, _*_, _≤_, _<_}
 use mathlib.Core.Bool.{true, false, not}
 use mathlib.Core.List.{List}
-use mathlib.Core.Path.{_≡_, sym, ap, _∙_}
-use borrow.Author.Tests.{eq-eqb, ne-eqb, lt-ltb, le-ltb}
-use lib.ListN.{length, getD}
+use mathlib.Core.Path.{_≡_, refl, sym, ap, _∙_}
+use native.Mathlib.Omega.{arith}
+use borrow.Author.Tests.{eq-eqb, ne-eqb, lt-ltb, le-ltb, ltb-true, ltb-false}
+use lib.Dec.{ltb}
+use lib.ListN.{length, getD, take, length-append, length-take}
+use lib.Seq.{take-all}
+use Rattle.basis.specs.Board.{pagesOf, versionOf, countBytes, boardLogged}
+use Rattle.basis.specs.Laws.Boards.{counts-fit}
+use Rattle.basis.specs.Laws.Choice.{decide}
 use Rattle.basis.specs.Laws.Refusals.{skip, stop, done}
 use Rattle.basis.specs.Lists.{pairAt}
 use Rattle.basis.specs.Refusals.{refused, given}
+use Rattle.basis.specs.declared.board.Board.{Board}
+use Rattle.basis.specs.declared.board.Known.{Known}
 use Rattle.session.specs.Phases.{ended}
 use Rattle.session.specs.declared.session.Session.{Session}
-use Rattle.service_log.specs.Log.{recordSize, recordLength, recordVersion, isFalseOf, loggedOutcomeOf, fitTwo, recordBytes, writeOf, readOf}
+use Rattle.service_log.specs.Big.{bigOf, bigAt}
+use Rattle.service_log.specs.Laws.Big.{big-length}
+use Rattle.service_log.specs.Log.{recordSize, recordLeast, recordMost, isFalseOf, outcomeOf, countsFit, recordBytes, writeOn, readOn, readBy, readOf}
 
 -- ---- writing
 
-module _ (board : ℕ) (room : ℕ) (s : Session) where
-  pub write-unfinished : ended (s .phase) ≡ false → writeOf board room s ≡ refused 45
-  unfolding writeOf
+pub record-length : (b : Board) (o k t n : ℕ) → length (recordBytes b o k t n) ≡ recordSize b
+unfolding recordBytes bigOf
+record-length b o k t n =
+    let w = countBytes b in
+    simp length-append (omega (arith, big-length w k, big-length w t, big-length w n))
+
+module _ (b : Board) (room : ℕ) (s : Session) where
+  pub write-unfinished : ended (s .phase) ≡ false → writeOn b room s ≡ refused 45
+  unfolding writeOn
   write-unfinished e = stop 45 _ _ _ (ap not e)
 
   module _ (e₁ : ended (s .phase) ≡ true) where
-    pub write-wide : fitTwo (s .acknowledged) (s .total) (s .named) ≡ false
-        → writeOf board room s ≡ refused 45
-    unfolding writeOf
+    pub write-wide : countsFit (countBytes b) (s .acknowledged) (s .total) (s .named) ≡ false
+        → writeOn b room s ≡ refused 45
+    unfolding writeOn
     write-wide e = skip 45 _ _ _ (ap not e₁) ∙ stop 45 _ _ _ (ap not e)
 
-    module _ (e₂ : fitTwo (s .acknowledged) (s .total) (s .named) ≡ true) (o : ℕ)
-        (is : o ≡ loggedOutcomeOf (s .kind) (s .phase)) where
-      pub write-false : isFalseOf board o (s .acknowledged) (s .total) (s .named) ≡ true
-          → writeOf board room s ≡ refused 45
-      unfolding writeOf
+    module _ (e₂ : countsFit (countBytes b) (s .acknowledged) (s .total) (s .named) ≡ true) (o : ℕ)
+        (is : o ≡ outcomeOf (s .kind) (s .phase)) where
+      pub write-false : isFalseOf (pagesOf b) o (s .acknowledged) (s .total) (s .named) ≡ true
+          → writeOn b room s ≡ refused 45
+      unfolding writeOn
       write-false e = skip 45 _ _ _ (ap not e₁) ∙ skip 45 _ _ _ (ap not e₂) ∙ stop 45 _ _ _ (rw is at e)
 
-      module _ (e₃ : isFalseOf board o (s .acknowledged) (s .total) (s .named) ≡ false) where
-        pub write-small : room < recordSize → writeOf board room s ≡ refused 20
-        unfolding writeOf
+      module _ (e₃ : isFalseOf (pagesOf b) o (s .acknowledged) (s .total) (s .named) ≡ false) where
+        pub write-small : room < recordSize b → writeOn b room s ≡ refused 20
+        unfolding writeOn
         write-small l =
             skip 45 _ _ _ (ap not e₁) ∙ skip 45 _ _ _ (ap not e₂) ∙ skip 45 _ _ _ (rw is at e₃)
             ∙ stop 20 _ _ _ (lt-ltb _ _ l)
 
-        pub write-given : recordSize ≤ room
-            → writeOf board room s ≡ given (recordBytes o (s .acknowledged) (s .total) (s .named))
-        unfolding writeOf
+        pub write-given : recordSize b ≤ room
+            → writeOn b room s ≡ given (recordBytes b o (s .acknowledged) (s .total) (s .named))
+        unfolding writeOn
         write-given l =
             skip 45 _ _ _ (ap not e₁) ∙ skip 45 _ _ _ (ap not e₂) ∙ skip 45 _ _ _ (rw is at e₃)
             ∙ skip 20 _ _ _ (le-ltb _ _ l) ∙ done _
-            ∙ ap (λ (x : ℕ). given (recordBytes x (s .acknowledged) (s .total) (s .named))) (sym is)
+            ∙ ap (λ (x : ℕ). given (recordBytes b x (s .acknowledged) (s .total) (s .named))) (sym is)
 
 -- ---- reading
 
-module _ (board : ℕ) (s : List ℕ) where
-  pub read-short : length s < recordSize → readOf board s ≡ refused 50
+module _ (s : List ℕ) where
+  pub read-short : length s < recordLeast → readOf s ≡ refused 50
   unfolding readOf
   read-short l = stop 50 _ _ _ (lt-ltb _ _ l)
 
-  module _ (l₁ : recordSize ≤ length s) where
-    pub read-length : (pairAt s 0 ≡ recordLength → ⊥) → readOf board s ≡ refused 51
-    unfolding readOf
-    read-length n = skip 50 _ _ _ (le-ltb _ _ l₁) ∙ stop 51 _ _ _ (ap not (ne-eqb _ _ n))
+  pub read-by : recordLeast ≤ length s → readOf s ≡ readBy (boardLogged (pairAt s 0)) s
+  unfolding readOf
+  read-by l = skip 50 _ _ _ (le-ltb _ _ l) ∙ done _
 
-    module _ (e₂ : pairAt s 0 ≡ recordLength) where
-      pub read-long : recordSize < length s → readOf board s ≡ refused 51
-      unfolding readOf
-      read-long l =
-          skip 50 _ _ _ (le-ltb _ _ l₁) ∙ skip 51 _ _ _ (ap not (eq-eqb _ _ e₂))
-          ∙ stop 51 _ _ _ (lt-ltb _ _ l)
+module _ (b : Board) (s : List ℕ) where
+  pub read-length : (length s ≡ recordSize b → ⊥) → readOn b s ≡ refused 51
+  unfolding readOn
+  read-length n = stop 51 _ _ _ (ap not (ne-eqb _ _ n))
 
-      module _ (l₃ : length s ≤ recordSize) where
-        pub read-version : (getD s 2 0 ≡ recordVersion → ⊥) → readOf board s ≡ refused 52
-        unfolding readOf
-        read-version n =
-            skip 50 _ _ _ (le-ltb _ _ l₁) ∙ skip 51 _ _ _ (ap not (eq-eqb _ _ e₂))
-            ∙ skip 51 _ _ _ (le-ltb _ _ l₃) ∙ stop 52 _ _ _ (ap not (ne-eqb _ _ n))
+  module _ (e₁ : length s ≡ recordSize b) where
+    pub read-version : (getD s 2 0 ≡ versionOf b → ⊥) → readOn b s ≡ refused 52
+    unfolding readOn
+    read-version n = skip 51 _ _ _ (ap not (eq-eqb _ _ e₁)) ∙ stop 52 _ _ _ (ap not (ne-eqb _ _ n))
 
-        -- the counts as they were joined
-        module _ (e₄ : getD s 2 0 ≡ recordVersion) {k t n : ℕ} (ek : k ≡ pairAt s 4) (et : t ≡ pairAt s 6)
-            (en : n ≡ pairAt s 8) where
-          pub read-false : isFalseOf board (getD s 3 0) k t n ≡ true → readOf board s ≡ refused 53
-          unfolding readOf
-          read-false e =
-              skip 50 _ _ _ (le-ltb _ _ l₁) ∙ skip 51 _ _ _ (ap not (eq-eqb _ _ e₂))
-              ∙ skip 51 _ _ _ (le-ltb _ _ l₃) ∙ skip 52 _ _ _ (ap not (eq-eqb _ _ e₄))
-              ∙ stop 53 _ _ _ (rw (ek, et, en) at e)
+    -- the counts as they were joined, of w bytes each
+    module _ (e₂ : getD s 2 0 ≡ versionOf b) {w k t n : ℕ} (ew : w ≡ countBytes b) (ek : k ≡ bigAt w s 4)
+        (et : t ≡ bigAt w s (4 + w)) (en : n ≡ bigAt w s (4 + 2 * w)) where
+      pub read-false : isFalseOf (pagesOf b) (getD s 3 0) k t n ≡ true → readOn b s ≡ refused 53
+      unfolding readOn
+      read-false e =
+          skip 51 _ _ _ (ap not (eq-eqb _ _ e₁)) ∙ skip 52 _ _ _ (ap not (eq-eqb _ _ e₂))
+          ∙ stop 53 _ _ _ (rw (ek, et, en, ew) at e)
 
-          pub read-given : isFalseOf board (getD s 3 0) k t n ≡ false
-              → readOf board s
-              ≡ given (record {
-                version = getD s 2 0;
-                outcome = getD s 3 0;
-                acknowledged = k;
-                total = t;
-                bytes = n;
-              })
-          unfolding readOf
-          read-given e =
-              skip 50 _ _ _ (le-ltb _ _ l₁) ∙ skip 51 _ _ _ (ap not (eq-eqb _ _ e₂))
-              ∙ skip 51 _ _ _ (le-ltb _ _ l₃) ∙ skip 52 _ _ _ (ap not (eq-eqb _ _ e₄))
-              ∙ skip 53 _ _ _ (rw (ek, et, en) at e) ∙ done _ ∙ rw (ek, et, en)
+      pub read-given : isFalseOf (pagesOf b) (getD s 3 0) k t n ≡ false
+          → readOn b s
+          ≡ given (record {
+            version = getD s 2 0;
+            outcome = getD s 3 0;
+            acknowledged = k;
+            total = t;
+            bytes = n;
+          })
+      unfolding readOn
+      read-given e =
+          skip 51 _ _ _ (ap not (eq-eqb _ _ e₁)) ∙ skip 52 _ _ _ (ap not (eq-eqb _ _ e₂))
+          ∙ skip 53 _ _ _ (rw (ek, et, en, ew) at e) ∙ done _ ∙ rw (ek, et, en, ew)
+
+-- an input that is longer than any record
+pub read-long : (s : List ℕ) → recordMost < length s → readOf s ≡ refused 51
+read-long s l = read-by s (omega arith) ∙ go (boardLogged (pairAt s 0))
+  where
+    go : (x : Known) → readBy x s ≡ refused 51
+    go Known.Unknown = refl
+    go (Known.Board b) = let fit = counts-fit b in read-length b s (λ e. omega arith)
+
+-- so a reader need take no more than one byte behind it
+pub read-first : (s : List ℕ) → readOf (take (recordMost + 1) s) ≡ readOf s
+read-first s =
+    decide (ltb recordMost (length s))
+    (λ t. let l = ltb-true recordMost (length s) t in
+    read-long (take (recordMost + 1) s) (simp length-take (omega arith)) ∙ sym (read-long s l))
+    (λ t. let l = ltb-false recordMost (length s) t in
+    ap readOf (take-all (recordMost + 1) s (omega arith)))

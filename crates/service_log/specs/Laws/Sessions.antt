@@ -1,68 +1,133 @@
 -- What is written reads back, a record that reads as valid or held says that all is acknowledged, and the log
 -- of a session tells its file's own counts.
-use Prim.Native.Nat.{ℕ, _≤_, _<_}
+use Prim.Native.Nat.{ℕ, _+_, _*_, _^_, _≤_, _<_}
 use mathlib.Core.Bool.{true, false, not}
-use mathlib.Core.List.{List}
+use mathlib.Core.List.{List, [], _∷_, _++_, append-assoc, append-nil}
 use mathlib.Core.Path.{_≡_, refl, sym, ap, _∙_}
 use native.Mathlib.Omega.{arith}
 use borrow.Author.Tests.{eq-eqb, ne-eqb, eqb-true, ltb-true, lt-ltb, le-ltb, leb-true, le-leb, not-false}
 use lib.Dec.{eqb, ltb}
-use lib.ListN.{length, getD}
+use lib.ListN.{length, length-append}
+use Rattle.basis.specs.Board.{pagesOf, boardOf, versionOf, countBytes, logLength, boardLogged}
 use Rattle.basis.specs.Choice.{pick, both}
+use Rattle.basis.specs.Laws.Boards.{board-by, board-back, logged-back, counts-fit, counts-hold}
 use Rattle.basis.specs.Laws.Choice.{decide, both-true, both-second, either-none, true-false}
-use Rattle.basis.specs.Laws.Refusals.{passed, done, given-one}
+use Rattle.basis.specs.Laws.Refusals.{passed, done, given-one, apart}
 use Rattle.basis.specs.Lists.{pairAt}
-use Rattle.basis.specs.Refusals.{Answer, given}
+use Rattle.basis.specs.Refusals.{Answer, refused, given, onBoard}
 use Rattle.basis.specs.Units.{startOf, mapBytes}
+use Rattle.basis.specs.declared.board.Board.{Board}
+use Rattle.basis.specs.declared.board.Known.{Known}
 use Rattle.basis.specs.declared.kind.RunKind.{RunKind}
 use Rattle.events.specs.Endings.{paperOutcome, asked, endingFor, failing}
 use Rattle.events.specs.Laws.Endings.{fails-suits, asked-good, asked-suits}
 use Rattle.events.specs.declared.ending.Outcome.{Outcome}
 use Rattle.events.specs.declared.event.Event.{Event}
 use Rattle.order.specs.Laws.Kinds.{r-one}
-use Rattle.order.specs.Laws.Totals.{total-fits, packets-least, named-fits}
+use Rattle.order.specs.Laws.Totals.{total-most, packets-least, named-fits}
 use Rattle.order.specs.Plan.{sendsR, total}
 use Rattle.runs.specs.Pieces.{namedCount}
 use Rattle.session.specs.Laws.Series.{came}
 use Rattle.session.specs.Phases.{ended}
-use Rattle.session.specs.Session.{sessionWith, asAsked, Came, waits, stands, fails, ends, atGreeting, series}
+use Rattle.session.specs.Session.{sessionWith, Came, waits, stands, fails, ends, atGreeting, series}
 use Rattle.session.specs.declared.phase.Phase.{Phase}
 use Rattle.session.specs.declared.session.Session.{Session}
+use Rattle.service_log.specs.Big.{bigOf, bigAt, fitsIn}
+use Rattle.service_log.specs.Laws.Big.{big-length, big-back}
 use Rattle.service_log.specs.Laws.FalseRecords.{false-good, true-greeted, false-ungreeted}
-use Rattle.service_log.specs.Laws.Log.{write-given, read-given}
-use Rattle.service_log.specs.Log.{recordSize, recordVersion, good, known, few, isFalseOf, loggedOutcomeOf, twoBytes, fitTwo, recordBytes, writeOf, recordAt, readOf}
+use Rattle.service_log.specs.Laws.Log.{record-length, write-given, read-by, read-given}
+use Rattle.service_log.specs.Log.{recordSize, good, known, few, isFalseOf, outcomeOf, outcomeOn, loggedOutcomeOf, countsFit, recordBytes, writeOn, writeOf, recordAt, readOn, readBy, readOf}
 use Rattle.service_log.specs.declared.read.Record.{Record}
 
 -- ---- what is written reads back
 
-abbrev pub said : ℕ → ℕ → ℕ → ℕ → Record
-said o k t n = record { version = recordVersion; outcome = o; acknowledged = k; total = t; bytes = n }
+abbrev pub said : Board → ℕ → ℕ → ℕ → ℕ → Record
+said b o k t n = record { version = versionOf b; outcome = o; acknowledged = k; total = t; bytes = n }
 
-pub read-back : (board : ℕ) (o k t n : ℕ) → fitTwo k t n ≡ true → isFalseOf board o k t n ≡ false
-    → readOf board (recordBytes o k t n) ≡ given (said o k t n)
-read-back board o k t n f e =
-    let a = both-true (twoBytes k) (both (twoBytes t) (twoBytes n)) f in
-    let b = both-true (twoBytes t) (twoBytes n) (a .1) in
-    let lk = ltb-true k 65536 (a .0) in
-    let lt = ltb-true t 65536 (b .0) in
-    let ln = ltb-true n 65536 (b .1) in
-    read-given board (recordBytes o k t n) (omega arith) refl (omega arith) refl (omega arith) (omega arith)
-    (omega arith) e
+module _ (b : Board) (o k t n : ℕ) where
+  -- the four bytes before the counts, and how many bytes each count has
+  abbrev front : List ℕ
+  front = bigOf 2 (logLength b) ++ (versionOf b ∷ o ∷ [])
 
-pub written-reads : (board : ℕ) (room : ℕ) (s : Session) (w : List ℕ) → writeOf board room s ≡ given w
-    → readOf board w
-    ≡ given (said (loggedOutcomeOf (s .kind) (s .phase)) (s .acknowledged) (s .total) (s .named))
-unfolding writeOf
-written-reads board room s w e =
+  abbrev w : ℕ
+  w = countBytes b
+
+  -- its length field tells its board
+  record-board : boardLogged (pairAt (recordBytes b o k t n) 0) ≡ Known.Board b
+  unfolding recordBytes bigOf
+  record-board =
+      let fit = counts-fit b in
+      let e : pairAt (recordBytes b o k t n) 0 ≡ logLength b = omega (arith, fit .0, fit .1) in
+      ap boardLogged e ∙ logged-back b
+
+  -- each count stands in its place
+  acknowledged-back : k < 256 ^ w → k ≡ bigAt w (recordBytes b o k t n) 4
+  unfolding recordBytes bigOf
+  acknowledged-back l =
+      sym (ap (λ (s : List ℕ). bigAt w s 4) (append-assoc (front ++ bigOf w k) (bigOf w t) (bigOf w n))
+      ∙ big-back w k front (bigOf w t ++ bigOf w n) 4 refl l)
+
+  total-back : t < 256 ^ w → t ≡ bigAt w (recordBytes b o k t n) (4 + w)
+  unfolding recordBytes bigOf
+  total-back l =
+      let p : length (front ++ bigOf w k) ≡ 4 + w = simp length-append (omega (arith, big-length w k)) in
+      sym (big-back w t (front ++ bigOf w k) (bigOf w n) (4 + w) p l)
+
+  bytes-back : n < 256 ^ w → n ≡ bigAt w (recordBytes b o k t n) (4 + 2 * w)
+  unfolding recordBytes bigOf
+  bytes-back l =
+      let p : length (front ++ bigOf w k ++ bigOf w t) ≡ 4 + 2 * w =
+      simp length-append (omega (arith, big-length w k, big-length w t)) in
+      sym (ap (λ (s : List ℕ). bigAt w s (4 + 2 * w)) (sym (append-nil (recordBytes b o k t n)))
+      ∙ big-back w n (front ++ bigOf w k ++ bigOf w t) [] (4 + 2 * w) p l)
+
+  pub read-back : countsFit w k t n ≡ true → isFalseOf (pagesOf b) o k t n ≡ false
+      → readOf (recordBytes b o k t n) ≡ given (said b o k t n)
+  unfolding recordBytes bigOf
+  read-back f e =
+      let fit = counts-fit b in
+      let p = both-true (fitsIn w k) (both (fitsIn w t) (fitsIn w n)) f in
+      let q = both-true (fitsIn w t) (fitsIn w n) (p .1) in
+      let long = record-length b o k t n in
+      read-by (recordBytes b o k t n) (omega (arith, fit .0))
+      ∙ ap (λ (x : Known). readBy x (recordBytes b o k t n)) record-board
+      ∙ read-given b (recordBytes b o k t n) long refl refl
+      (acknowledged-back (ltb-true k (256 ^ w) (p .0))) (total-back (ltb-true t (256 ^ w) (q .0)))
+      (bytes-back (ltb-true n (256 ^ w) (q .1))) e
+
+-- on a board
+on-reads : (b : Board) (room : ℕ) (s : Session) (w : List ℕ) → writeOn b room s ≡ given w
+    → readOf w
+    ≡ given (said b (outcomeOf (s .kind) (s .phase)) (s .acknowledged) (s .total) (s .named))
+unfolding writeOn
+on-reads b room s w e =
     let p₁ = passed _ _ _ _ e in
     let p₂ = passed _ _ _ _ (p₁ .1) in
     let p₃ = passed _ _ _ _ (p₂ .1) in
     let p₄ = passed _ _ _ _ (p₃ .1) in
     let g = given-one (sym (done _) ∙ p₄ .1) in
-    ap (readOf board) (sym g)
-    ∙ read-back board (loggedOutcomeOf (s .kind) (s .phase)) (s .acknowledged) (s .total) (s .named)
+    ap readOf (sym g)
+    ∙ read-back b (outcomeOf (s .kind) (s .phase)) (s .acknowledged) (s .total) (s .named)
     (not-false _ (p₂ .0))
     (p₃ .0)
+
+-- a session that is written has a board, and reads back with its version, its outcome and its counts
+pub written-reads : (room : ℕ) (s : Session) (w : List ℕ) → writeOf room s ≡ given w
+    → (b : Board) × (s .board ≡ pagesOf b)
+    × (readOf w ≡ given (said b (loggedOutcomeOf s) (s .acknowledged) (s .total) (s .named)))
+written-reads room s w e = go (boardOf (s .board)) refl e
+  where
+    go : (x : Known) → boardOf (s .board) ≡ x → onBoard x (λ (b : Board). writeOn b room s) ≡ given w
+        → (b : Board) × (s .board ≡ pagesOf b)
+        × (readOf w ≡ given (said b (loggedOutcomeOf s) (s .acknowledged) (s .total) (s .named)))
+    go Known.Unknown q e = absurd (apart e)
+    go (Known.Board b) q e = (
+      b,
+      sym (board-by pagesOf (s .board) b q),
+      on-reads b room s w e
+          ∙ ap (λ (x : Known). given (said b (outcomeOn x (s .kind) (s .phase)) (s .acknowledged) (s .total)
+          (s .named))) (sym q),
+    )
 
 -- ---- a record that reads as valid or held says that all is acknowledged, and no other does
 
@@ -79,44 +144,41 @@ whole board o k t n e =
     decide (good o) (λ g. rw g (rw g at (d .1)))
     (λ g. rw g (either-none (eqb k t) _ (rw g at (d .1)) .0))
 
--- what a reader was given is not false
-read-true : (board : ℕ) (s : List ℕ) (r : Record) → readOf board s ≡ given r
-    → isFalseOf board (r .outcome) (r .acknowledged) (r .total) (r .bytes) ≡ false
-unfolding readOf
-read-true board s r e =
+-- what a reader was given is not false, on the board that its length tells
+read-true : (x : Known) (s : List ℕ) (r : Record) → readBy x s ≡ given r
+    → (b : Board) × (isFalseOf (pagesOf b) (r .outcome) (r .acknowledged) (r .total) (r .bytes) ≡ false)
+unfolding readOn
+read-true Known.Unknown s r e = absurd (apart e)
+read-true (Known.Board b) s r e =
     let p₁ = passed _ _ _ _ e in
     let p₂ = passed _ _ _ _ (p₁ .1) in
     let p₃ = passed _ _ _ _ (p₂ .1) in
-    let p₄ = passed _ _ _ _ (p₃ .1) in
-    let p₅ = passed _ _ _ _ (p₄ .1) in
-    let g : recordAt s ≡ r = given-one (sym (done _) ∙ p₅ .1) in
-    sym (ap (λ (x : Record). isFalseOf board (x .outcome) (x .acknowledged) (x .total) (x .bytes)) g) ∙ p₅ .0
+    let g : recordAt (countBytes b) s ≡ r = given-one (sym (done _) ∙ p₃ .1) in (
+      b,
+      sym (ap (λ (x : Record). isFalseOf (pagesOf b) (x .outcome) (x .acknowledged) (x .total) (x .bytes)) g)
+          ∙ p₃ .0,
+    )
 
-module _ (board : ℕ) (s : List ℕ) (r : Record) (e : readOf board s ≡ given r) where
+module _ (s : List ℕ) (r : Record) (e : readOf s ≡ given r) where
+  decided : pick (good (r .outcome)) (not (eqb (r .acknowledged) (r .total)))
+      (eqb (r .acknowledged) (r .total)) ≡ false
+  unfolding readOf
+  decided =
+      let t = read-true (boardLogged (pairAt s 0)) s r (sym (done _) ∙ passed _ _ _ _ e .1) in
+      whole (pagesOf (t .0)) (r .outcome) (r .acknowledged) (r .total) (r .bytes) (t .1)
+
   pub read-good : r .outcome ≤ 1 → r .acknowledged ≡ r .total
-  read-good l =
-      eqb-true _ _ (not-false _
-      (rw (le-leb (r .outcome) 1 l) at (whole board _ _ _ (r .bytes) (read-true board s r e))))
+  read-good l = eqb-true _ _ (not-false _ (rw (le-leb (r .outcome) 1 l) at decided))
 
   pub read-whole : r .acknowledged ≡ r .total → r .outcome ≤ 1
   read-whole q =
       decide (good (r .outcome)) (λ g. leb-true (r .outcome) 1 g)
-      (λ g. absurd (true-false (sym (eq-eqb (r .acknowledged) (r .total) q)
-      ∙ rw g at (whole board (r .outcome) (r .acknowledged) (r .total) (r .bytes) (read-true board s r e)))))
+      (λ g. absurd (true-false (sym (eq-eqb (r .acknowledged) (r .total) q) ∙ rw g at decided)))
 
 -- ---- a session that came from a start by events over its file
 
 module _ (board : ℕ) (m : List ℕ) (long : length m ≡ mapBytes board) (some : 0 < namedCount board m)
     (kind : RunKind) where
-  counts-fit : (k : ℕ) → board ≤ 127 → k ≤ total board m kind
-      → fitTwo k (total board m kind) (namedCount board m) ≡ true
-  counts-fit k short l =
-      let t = total-fits board m kind short in
-      let n = named-fits board m in
-      both-second _ _ (lt-ltb k 65536 (omega arith))
-      ∙ both-second _ _ (lt-ltb (total board m kind) 65536 (omega arith))
-      ∙ lt-ltb (namedCount board m) 65536 (omega arith)
-
   -- no session has too small a total
   total-least : 3 ≤ total board m kind
   total-least = omega (arith, packets-least board m long some)
@@ -169,37 +231,68 @@ module _ (board : ℕ) (m : List ℕ) (long : length m ≡ mapBytes board) (some
       (asked-good kind))
       ∙ ap not (eq-eqb (total board m kind) (total board m kind) refl)
 
-  -- once ended it is never refused 45: its total is e + 2w + 1, or e + 2w to hold, its bytes the named count
-  module _ (short : board ≤ 127) (room : ℕ) (l : recordSize ≤ room) where
-    -- the record's bytes by its outcome, which is the ending's own number
-    told : ℕ → ℕ → Answer (List ℕ)
-    told k o = given (recordBytes o k (total board m kind) (namedCount board m))
+-- a session of a board is written as on it, and its outcome is its ending's
+write-on : (b : Board) (room : ℕ) (s : Session) → s .board ≡ pagesOf b → writeOf room s ≡ writeOn b room s
+write-on b room s on =
+    ap (λ (x : Known). onBoard x (λ (y : Board). writeOn y room s)) (ap boardOf on ∙ board-back b)
 
-    own : (o : Outcome) → endingFor kind o ≡ true → paperOutcome o ≡ loggedOutcomeOf kind (Phase.Ended o)
-    own o t = rw t
+outcome-on : (b : Board) (s : Session) → s .board ≡ pagesOf b
+    → outcomeOf (s .kind) (s .phase) ≡ loggedOutcomeOf s
+outcome-on b s on =
+    ap (λ (x : Known). outcomeOn x (s .kind) (s .phase)) (sym (ap boardOf on ∙ board-back b))
 
-    pub came-logged : (s : Session) → Came board m kind s → ended (s .phase) ≡ true
-        → writeOf board room s
-        ≡ given (recordBytes (loggedOutcomeOf (s .kind) (s .phase)) (s .acknowledged) (total board m kind)
-        (namedCount board m))
-    unfolding told
-    came-logged s (waits e) h = absurd (true-false (sym h ∙ ap (λ (x : Session). ended (x .phase)) e))
-    came-logged s (stands k b e) h =
-        absurd (true-false (sym h ∙ ap (λ (x : Session). ended (x .phase)) e))
-    came-logged s (fails o k b f e) h =
-        rw e (write-given board room (sessionWith board m kind (Phase.Ended o) k) refl
-        (counts-fit k short (omega arith)) (paperOutcome o) (own o (fails-suits kind o k f))
-        (failed-true o k b f) l ∙ ap (told k) (own o (fails-suits kind o k f)))
-    came-logged s (ends e) h =
-        rw e (write-given board room (asAsked board m kind) refl
-        (counts-fit (total board m kind) short (omega arith)) (paperOutcome (asked kind))
-        (own (asked kind) (asked-suits kind)) asked-true l
-        ∙ ap (told (total board m kind)) (own (asked kind) (asked-suits kind)))
+-- once ended it is never refused 45: its total is e + 2w + 1, or e + 2w to hold, its bytes the named count
+module _ (b : Board) (m : List ℕ) (long : length m ≡ mapBytes (pagesOf b))
+    (some : 0 < namedCount (pagesOf b) m) (kind : RunKind) (room : ℕ) (l : recordSize b ≤ room) where
+  abbrev board : ℕ
+  board = pagesOf b
 
-    -- so it is of every series of events
-    pub series-logged : (es : List Event)
-        → (let s = series board m (atGreeting board m kind) es in ended (s .phase) ≡ true
-        → writeOf board room s
-        ≡ given (recordBytes (loggedOutcomeOf (s .kind) (s .phase)) (s .acknowledged) (total board m kind)
-        (namedCount board m)))
-    series-logged es = came-logged _ (came board m long some kind es)
+  -- a file's counts fit its board's count bytes
+  file-fits : (k : ℕ) → k ≤ total board m kind
+      → countsFit (countBytes b) k (total board m kind) (namedCount board m) ≡ true
+  file-fits k l =
+      let most = counts-hold b in
+      let t = total-most board m kind in
+      let n = named-fits board m in
+      both-second _ _ (lt-ltb k _ (omega arith))
+      ∙ both-second _ _ (lt-ltb (total board m kind) _ (omega arith))
+      ∙ lt-ltb (namedCount board m) _ (omega arith)
+
+  -- the record's bytes by its outcome, which is the ending's own number
+  told : ℕ → ℕ → Answer (List ℕ)
+  told k o = given (recordBytes b o k (total board m kind) (namedCount board m))
+
+  own : (o : Outcome) → endingFor kind o ≡ true → paperOutcome o ≡ outcomeOf kind (Phase.Ended o)
+  own o t = rw t
+
+  ended-logged : (o : Outcome) (k : ℕ) → k ≤ total board m kind → endingFor kind o ≡ true
+      → isFalseOf board (paperOutcome o) k (total board m kind) (namedCount board m) ≡ false
+      → (let s = sessionWith board m kind (Phase.Ended o) k in
+      writeOf room s ≡ told k (loggedOutcomeOf s))
+  unfolding told
+  ended-logged o k q t e =
+      let s = sessionWith board m kind (Phase.Ended o) k in
+      write-on b room s refl
+      ∙ write-given b room s refl (file-fits k q) (paperOutcome o) (own o t) e l
+      ∙ ap (told k) (own o t ∙ outcome-on b s refl)
+
+  pub came-logged : (s : Session) → Came board m kind s → ended (s .phase) ≡ true
+      → writeOf room s
+      ≡ given (recordBytes b (loggedOutcomeOf s) (s .acknowledged) (total board m kind) (namedCount board m))
+  unfolding told
+  came-logged s (waits e) h = absurd (true-false (sym h ∙ ap (λ (x : Session). ended (x .phase)) e))
+  came-logged s (stands k b e) h =
+      absurd (true-false (sym h ∙ ap (λ (x : Session). ended (x .phase)) e))
+  came-logged s (fails o k q f e) h =
+      rw e (ended-logged o k (omega arith) (fails-suits kind o k f)
+      (failed-true board m long some kind o k q f))
+  came-logged s (ends e) h =
+      rw e (ended-logged (asked kind) (total board m kind) (omega arith) (asked-suits kind)
+      (asked-true board m long some kind))
+
+  -- so it is of every series of events
+  pub series-logged : (es : List Event)
+      → (let s = series board m (atGreeting board m kind) es in ended (s .phase) ≡ true
+      → writeOf room s
+      ≡ given (recordBytes b (loggedOutcomeOf s) (s .acknowledged) (total board m kind) (namedCount board m)))
+  series-logged es = came-logged _ (came board m long some kind es)

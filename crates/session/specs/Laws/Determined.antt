@@ -21,10 +21,12 @@ refusalBy n =
     pick (eqb n 20) Refusal.Size
     (pick (eqb n 32) Refusal.Empty
     (pick (eqb n 44) Refusal.Ended
-    Refusal.Foreign))
+    (pick (eqb n 46) Refusal.Foreign
+    Refusal.Board)))
 
 refusal-back : (x : Refusal) → refusalBy (paperRefusal x) ≡ x
 unfolding refusalBy
+refusal-back Refusal.Board = refl
 refusal-back Refusal.Size = refl
 refusal-back Refusal.Empty = refl
 refusal-back Refusal.Ended = refl

@@ -49,7 +49,7 @@ module _ (board : ℕ) (m : List ℕ) (long : length m ≡ mapBytes board) (some
       → fitsOf board m (sessionWith board m kind (Phase.Ended o) k) ≡ true
   ended-fits o k h =
       fits-by board m (sessionWith board m kind (Phase.Ended o) k)
-      (record { some = some; named-is = refl; total-is = refl; came-to = h })
+      (record { board-is = refl; some = some; named-is = refl; total-is = refl; came-to = h })
 
   pub came-fits : (s : Session) → Came board m kind s → fitsOf board m s ≡ true
   came-fits s (waits e) = rw e (waiting-fits board m long some kind)
@@ -91,6 +91,7 @@ fits-came board m long s h = (f .some, go (s .phase) refl)
     counts : (ph : Phase) (j : ℕ) → s .phase ≡ ph → k ≡ j → s ≡ sessionWith board m (s .kind) ph j
     counts ph j p q =
         λ i. record {
+          board = f .board-is i;
           kind = s .kind;
           phase = p i;
           acknowledged = q i;

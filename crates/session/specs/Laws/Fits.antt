@@ -19,24 +19,28 @@ use Rattle.order.specs.Steps.{followOf}
 use Rattle.order.specs.declared.cursor.Following.{Following}
 use Rattle.runs.specs.Pieces.{namedCount}
 use Rattle.session.specs.Phases.{afterOf, awaitsOf, onStart, reachedOf}
-use Rattle.session.specs.Session.{tookOf, cameAt, fitsOf}
+use Rattle.session.specs.Session.{tookOf, cameAt, cameOf, fitsOf}
 use Rattle.session.specs.declared.phase.Phase.{Phase}
 use Rattle.session.specs.declared.session.Session.{Session}
 
--- the file has a named byte, the session's counts are the file's, and its phase is one to which events lead
+-- the board is the session's, the file has a named byte, the session's counts are the file's, and its phase
+-- is one to which events lead
 pub record Fitting (board : ℕ) (m : List ℕ) (s : Session) : Type 0 where
+  pub board-is : s .board ≡ board
   pub some : 0 < namedCount board m
   pub named-is : s .named ≡ namedCount board m
   pub total-is : s .total ≡ total board m (s .kind)
   pub came-to : cameAt board m (s .kind) (s .phase) (s .acknowledged) ≡ true
 
 pub fitting : (board : ℕ) (m : List ℕ) (s : Session) → fitsOf board m s ≡ true → Fitting board m s
-unfolding fitsOf
+unfolding fitsOf cameOf
 fitting board m s h =
-    let a = both-true (ltb 0 (namedCount board m)) _ h in
+    let o = both-true (eqb (s .board) board) _ h in
+    let a = both-true (ltb 0 (namedCount board m)) _ (o .1) in
     let b = both-true (eqb (s .named) (namedCount board m)) _ (a .1) in
     let d = both-true (eqb (s .total) (total board m (s .kind))) _ (b .1) in
     record {
+      board-is = eqb-true _ _ (o .0);
       some = ltb-true _ _ (a .0);
       named-is = eqb-true _ _ (b .0);
       total-is = eqb-true _ _ (d .0);
@@ -44,9 +48,10 @@ fitting board m s h =
     }
 
 pub fits-by : (board : ℕ) (m : List ℕ) (s : Session) → Fitting board m s → fitsOf board m s ≡ true
-unfolding fitsOf
+unfolding fitsOf cameOf
 fits-by board m s f =
     rw (
+      eq-eqb (s .board) board (f .board-is),
       lt-ltb 0 (namedCount board m) (f .some),
       eq-eqb (s .named) (namedCount board m) (f .named-is),
       eq-eqb (s .total) (total board m (s .kind)) (f .total-is),

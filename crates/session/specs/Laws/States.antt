@@ -1,15 +1,20 @@
 -- Laws of states: the state after k acknowledgements, what leads
 -- to the next, and that these fit a file.
 use Prim.Native.Nat.{ℕ, _+_, _<_}
-use mathlib.Core.Bool.{true}
+use mathlib.Core.Bool.{true, false}
 use mathlib.Core.List.{List, []}
 use mathlib.Core.Path.{_≡_, refl, sym, ap, _∙_}
 use native.Mathlib.Omega.{arith}
 use lib.ListN.{length, getD}
+use Rattle.basis.specs.Board.{pagesOf, greetingOf}
+use Rattle.basis.specs.Laws.Boards.{board-back}
 use Rattle.basis.specs.Refusals.{given}
 use Rattle.basis.specs.Units.{mapBytes}
+use Rattle.basis.specs.declared.board.Board.{Board}
 use Rattle.basis.specs.declared.kind.RunKind.{RunKind}
 use Rattle.events.specs.Endings.{asked}
+use Rattle.events.specs.Laws.Events.{other-board}
+use Rattle.events.specs.declared.ending.Outcome.{Outcome}
 use Rattle.events.specs.declared.event.Event.{Event}
 use Rattle.order.specs.Laws.Plan.{plan-at}
 use Rattle.order.specs.Laws.Steps.{at-stands, first-at, follow-next, follow-end}
@@ -19,9 +24,9 @@ use Rattle.order.specs.declared.cursor.Following.{Following}
 use Rattle.order.specs.declared.step.Step.{Step}
 use Rattle.runs.specs.Pieces.{namedCount}
 use Rattle.session.specs.Laws.Fits.{fits-by}
-use Rattle.session.specs.Laws.Steps.{step-taken}
+use Rattle.session.specs.Laws.Steps.{sizes-right, step-taken}
 use Rattle.session.specs.Phases.{packetOut, reachedOf}
-use Rattle.session.specs.Session.{sessionWith, atGreeting, stateAt, asAsked, Sent, rightSizes, tookOf, sentOf, fitsOf, stepOf}
+use Rattle.session.specs.Session.{sessionWith, atGreeting, stateAt, asAsked, Sent, rightSizes, tookOf, sentOf, fitsOf, stepOf, stepBy}
 use Rattle.session.specs.declared.phase.Phase.{Phase}
 use Rattle.session.specs.declared.session.Session.{Session}
 
@@ -57,12 +62,13 @@ module _ (board : ℕ) (m : List ℕ) (long : length m ≡ mapBytes board) (some
   pub waiting-fits : fitsOf board m (atGreeting board m kind) ≡ true
   waiting-fits =
       fits-by board m (atGreeting board m kind)
-      (record { some = some; named-is = refl; total-is = refl; came-to = refl })
+      (record { board-is = refl; some = some; named-is = refl; total-is = refl; came-to = refl })
 
   pub state-fits : (k : ℕ) → k < total board m kind → fitsOf board m (stateAt board m kind k) ≡ true
   state-fits k l =
       fits-by board m (stateAt board m kind k)
       (record {
+        board-is = refl;
         some = some;
         named-is = refl;
         total-is = refl;
@@ -116,3 +122,20 @@ module _ (board : ℕ) (image m : List ℕ) (room : ℕ) (kind : RunKind)
       step-state k Event.Ack (omega arith)
       ∙ ap (λ (s : Session). given (record { session = s; packet = packetOut board image m kind (s .phase) }))
       (ack-last board m long some kind k l)
+
+-- ---- the greeting of another board
+
+-- a host that hears it ends with 42, before any packet is sent
+pub other-ends : (a b : Board) → (a ≡ b → ⊥) → (image m : List ℕ) (room : ℕ) (kind : RunKind)
+    → rightSizes (pagesOf a) (length image) (length m) room ≡ true → 0 < namedCount (pagesOf a) m
+    → stepBy image m room (atGreeting (pagesOf a) m kind) false (greetingOf (pagesOf b))
+    ≡ given (record {
+      session = sessionWith (pagesOf a) m kind (Phase.Ended Outcome.NoGreeting) 0;
+      packet = [];
+    })
+unfolding tookOf
+other-ends a b other image m room kind right some =
+    let long = sizes-right (pagesOf a) (length image) (length m) room right .1 in
+    rw (board-back a, other-board a b other)
+    (step-taken (pagesOf a) image m room (atGreeting (pagesOf a) m kind) Event.Other right refl
+    (waiting-fits (pagesOf a) m long some kind))

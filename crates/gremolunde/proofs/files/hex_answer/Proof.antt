@@ -10,19 +10,21 @@ use Rattle.gremolunde.proofs.files.hex_answer.Tie as tie
 
 returns : tie.Need-returns
 returns c =
+    let s = c .before .before .before .before .args in
     (λ i. record { number = 0; column = 0; reader = c .hex-shown .ensures i })
-    ∙ ap (λ (x : Read). hexAnswer (c .before .before .before .before .args .reader) (paperRead x))
+    ∙ ap (λ (x : Read). hexAnswer (s .reader) (s .board) (paperRead x))
     (sym (c .before .before .answer .given .1))
 
 returns-2 : tie.Need-returns-2
 returns-2 c =
+    let s = c .before .before .before .before .args in
     (λ i.
     record {
       number = c .number .ensures i;
       column = c .before .before .answer2 .given .0 .1 .0;
-      reader = c .before .before .before .before .args .reader;
+      reader = s .reader;
     })
-    ∙ ap (λ (x : Read). hexAnswer (c .before .before .before .before .args .reader) (paperRead x))
+    ∙ ap (λ (x : Read). hexAnswer (s .reader) (s .board) (paperRead x))
     (sym (c .before .before .answer2 .given .1))
 
 pub hex-answer-spec : {M : Type 1} → statement M

@@ -11,14 +11,18 @@ use Rattle.gremolunde.proofs.files.written_answer.Tie as tie
 
 returns : tie.Need-returns
 returns c =
-    let from = c .before .before .before .args .from in
-    ap (λ (x : Written). writtenAnswer from (paperWritten x)) (sym (c .before .answer .given .1))
+    let s = c .before .before .before .args in
+    ap (λ (x : Written). writtenAnswer (s .from) (s .upper) (paperWritten x))
+    (sym (c .before .answer .given .1))
 
 returns-2 : tie.Need-returns-2
 returns-2 c =
-    let from = c .before .before .before .before .args .from in
-    ap (λ (n : ℕ). writtenAnswer from (refused n)) (c .number .ensures)
-    ∙ ap (λ (x : Written). writtenAnswer from (paperWritten x)) (sym (c .before .before .answer2 .given .1))
+    let told = c .before .before .before in
+    let s = told .before .before .args in
+    c .not-written .ensures
+    ∙ ap (λ (n : ℕ). writtenAnswer (s .from) (s .upper) (refused n)) (c .before .number .ensures)
+    ∙ ap (λ (x : Written). writtenAnswer (s .from) (s .upper) (paperWritten x))
+    (sym (told .answer2 .given .1))
 
 pub written-answer-spec : {M : Type 1} → statement M
 written-answer-spec =
@@ -26,6 +30,7 @@ written-answer-spec =
     (tie.spec
     (λ c. search needs)
     (λ c. search needs)
+    (λ c κs. search needs)
     (λ c κs. search needs)
     returns
     returns-2)

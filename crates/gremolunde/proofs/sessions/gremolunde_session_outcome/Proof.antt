@@ -2,7 +2,6 @@
 -- outcome of the session that the state stands for.
 use mathlib.Core.Path.{ap, _∙_}
 use borrow.Author.Needs.{needs}
-use Rattle.session.specs.declared.session.Session.{Session}
 use Rattle.service_log.specs.Log.{loggedOutcomeOf}
 use Rattle.gremolunde.proofs.sessions.gremolunde_session_outcome.Statement.{statement}
 use Rattle.gremolunde.proofs.sessions.gremolunde_session_outcome.Tie as tie
@@ -10,7 +9,7 @@ use Rattle.gremolunde.proofs.sessions.gremolunde_session_outcome.Tie as
 returns : tie.Need-returns
 returns c =
     c .logged-outcome .ensures
-    ∙ ap (λ (s : Session). loggedOutcomeOf (s .kind) (s .phase)) (c .before .session-meant .ensures)
+    ∙ ap loggedOutcomeOf (c .before .session-meant .ensures)
 
 pub gremolunde-session-outcome-spec : {M : Type 1} → statement M
 gremolunde-session-outcome-spec =

@@ -1,18 +1,31 @@
--- `gremolunde_session_start` meets its contract: it is the session's start, its answer as C gets it.
-use mathlib.Core.Path.{sym, _∙_}
-use Rattle.gremolunde.specs.Answers.{steppedAnswer}
+-- `gremolunde_session_start` meets its contract: it is the session's start on the board, its answer as C
+-- gets it.
+use mathlib.Core.Path.{refl, sym, _∙_}
 use borrow.Author.Needs.{needs}
+use Rattle.basis.specs.Refusals.{refused}
+use Rattle.gremolunde.specs.Answers.{steppedAnswer}
 use Rattle.gremolunde.proofs.sessions.gremolunde_session_start.Statement.{statement}
 use Rattle.gremolunde.proofs.sessions.gremolunde_session_start.Tie as tie
 
 returns : tie.Need-returns
 returns c =
-    let call = c .before .before .before in
-    let meant = call .before .before in
-    rw (sym (meant .of .ensures)) (
+    let none = c .before in
+    let call = none .before .before .before in
+    let told = call .before .before .before in
+    let asked = told .before .before in
+    rw (sym (asked .of2 .ensures) ∙ told .known .given .1, sym (asked .before .of .ensures)) (
       c .stepped-answer .ensures
-          ∙ (λ i. steppedAnswer (meant .before .no-session .ensures i) (call .start .ensures .0 i)),
+          ∙ (λ i. steppedAnswer (none .no-session .ensures i) (call .start .ensures .0 i)),
       call .start .ensures .1,
+    )
+
+returns-2 : tie.Need-returns-2
+returns-2 c =
+    let told = c .before .before in
+    rw (sym (told .before .before .of2 .ensures) ∙ told .enum-told .given .1) (
+      c .stepped-answer2 .ensures
+          ∙ (λ i. steppedAnswer (c .before .no-session2 .ensures i) (refused 65)),
+      refl,
     )
 
 pub gremolunde-session-start-spec : {M : Type 1} → statement M
@@ -21,7 +34,13 @@ gremolunde-session-start-spec =
     (tie.spec
     (λ c κs. search needs)
     (λ c κs. search needs)
+    (λ c. search needs)
+    (λ c κs. search needs)
     (λ c κs. search needs)
     (λ c κs. search needs)
     (λ c. search needs)
-    returns)
+    (λ c κs. search needs)
+    (λ c κs. search needs)
+    (λ c. search needs)
+    returns
+    returns-2)

@@ -5,8 +5,10 @@ use Rattle.gremolunde.proofs.states.hex_shown.Tie as tie
 
 returns : tie.Need-returns
 returns c =
-    let h = c .before .before .args .reader in
+    let a = c .before .before .args in
+    let h = a .reader in
     λ i. record {
+      board = a .board;
       linear = h .linear;
       segment = h .segment;
       ended = c .before .flag .ensures i;

@@ -6,6 +6,7 @@ use Rattle.gremolunde.proofs.states.session_meant.Tie as tie
 returns : tie.Need-returns
 returns c = let s = c .before .before .args .state in
     λ i. record {
+      board = s .board;
       kind = c .before .of .ensures i;
       phase = c .phase-meant .ensures i;
       acknowledged = s .acknowledged;

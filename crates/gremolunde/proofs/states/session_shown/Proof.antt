@@ -7,6 +7,7 @@ use Rattle.gremolunde.proofs.states.session_shown.Tie as tie
 returns : tie.Need-returns
 returns c = let s = c .before .before .before .before .before .args .session in
     λ i. record {
+      board = s .board;
       run = c .before .before .before .before .number .ensures i;
       phase = c .before .before .before .phase-shown .ensures i;
       page = c .before .before .page-shown .ensures i;

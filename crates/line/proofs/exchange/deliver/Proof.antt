@@ -1,5 +1,6 @@
 -- `deliver` meets its contract, by what befalls the exchange.
 use borrow.Author.Needs.{needs}
+use Rattle.basis.specs.Board.{pagesOf}
 use Rattle.line.proofs.Delivering.{lost, whole, unanswered}
 use Rattle.line.proofs.exchange.deliver.Statement.{statement}
 use Rattle.line.proofs.exchange.deliver.Tie as tie
@@ -10,7 +11,7 @@ returns c =
     let e = t .before .before .before in
     let s = e .before .before .before .before .before in
     let a = s .args in
-    whole (a .loss) (a .loader) (a .packet .now) (a .flash .now) (a .answer .now) _
+    whole (pagesOf (a .board)) (a .loss) (a .loader) (a .packet .now) (a .flash .now) (a .answer .now) _
     (s .pre) (t .take .ensures) (e .enum-told .given .1)
 
 returns-2 : tie.Need-returns-2
@@ -22,7 +23,7 @@ returns-3 c =
     let e = t .before .before .before in
     let s = e .before .before .before .before .before in
     let a = s .args in
-    unanswered (a .loss) (a .loader) (a .packet .now) (a .flash .now) (a .answer .now) _
+    unanswered (pagesOf (a .board)) (a .loss) (a .loader) (a .packet .now) (a .flash .now) (a .answer .now) _
     (s .pre) (t .take2 .ensures) (e .enum-told3 .given .1)
 
 pub deliver-spec : {M : Type 1} → statement M

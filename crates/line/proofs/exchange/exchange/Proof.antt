@@ -5,6 +5,7 @@ use native.Mathlib.Omega.{arith}
 use borrow.Author.Needs.{needs}
 use lib.ListN.{length, take}
 use lib.Seq.{length-take-le}
+use Rattle.basis.specs.Board.{pagesOf}
 use Rattle.line.proofs.Delivering.{arrived-fits, goes, keeps}
 use Rattle.line.specs.Line.{Moment, momentOn}
 use Rattle.session.specs.Paper.{paperStepped}
@@ -15,7 +16,7 @@ use Rattle.line.proofs.exchange.exchange.Tie as tie
 abbrev entry : tie.After-session → tie.Start
 entry c = c .before .before .before .before .before .before .before
 
-abbrev delivered : tie.After-step → tie.After-deliver
+abbrev delivered : tie.After-step-on → tie.After-deliver
 delivered c = c .before .before .before .before .before .before .before .before
 
 abbrev moment : tie.Start → Moment
@@ -37,13 +38,13 @@ slice-aggregate-deliver c = wired (entry (c .before))
 deliver-requires : tie.Need-deliver-requires
 deliver-requires c κs = entry (c .before .before .before) .pre .0 .answer-size
 
-slice-reshare-prefix-step : tie.Need-slice-reshare-prefix-step
-slice-reshare-prefix-step c = arrived-fits (c .before .before .before .before .before .deliver .ensures)
+slice-reshare-prefix-step-on : tie.Need-slice-reshare-prefix-step-on
+slice-reshare-prefix-step-on c = arrived-fits (c .before .before .before .before .before .deliver .ensures)
 
-slice-aggregate-step : tie.Need-slice-aggregate-step
-slice-aggregate-step c =
+slice-aggregate-step-on : tie.Need-slice-aggregate-step-on
+slice-aggregate-step-on c =
     let d = c .before .before .before .before .before .before .deliver in
-    sym (length-take-le (d .result .arrived) (d .last .1 .1 .1 .1 .0) (arrived-fits (d .ensures)))
+    sym (length-take-le (d .result .arrived) (d .last .1 .1 .1 .1 .1 .0) (arrived-fits (d .ensures)))
 
 returns : tie.Need-returns
 returns c =
@@ -51,9 +52,10 @@ returns c =
     let d = delivered t in
     let s = entry (d .before .before .before .before) in
     let a = s .args in
-    goes (a .image .now) (a .map .now) (a .loss) (moment s) (a .packet .now) _ (a .answer .now) _ _ _ _ _
-    (s .pre .0 .packet-size) (d .deliver .ensures) (t .step .ensures .1) _
-    (ap paperStepped (sym (c .before .before .next .given .1)) ∙ t .step .ensures .0)
+    goes (pagesOf (a .board)) (a .image .now) (a .map .now) (a .loss) (moment s) (a .packet .now) _
+    (a .answer .now) _ _ _ _ _
+    (s .pre .0 .packet-size) (d .deliver .ensures) (t .step-on .ensures .1) _
+    (ap paperStepped (sym (c .before .before .next .given .1)) ∙ t .step-on .ensures .0)
 
 returns-2 : tie.Need-returns-2
 returns-2 c =
@@ -61,9 +63,10 @@ returns-2 c =
     let d = delivered t in
     let s = entry (d .before .before .before .before) in
     let a = s .args in
-    keeps (a .image .now) (a .map .now) (a .loss) (moment s) (a .packet .now) _ (a .answer .now) _ _ _ _ _
-    (s .pre .0 .packet-size) (d .deliver .ensures) (t .step .ensures .1) _
-    (ap paperStepped (sym (c .enum-told .given .1)) ∙ t .step .ensures .0) (wired s)
+    keeps (pagesOf (a .board)) (a .image .now) (a .map .now) (a .loss) (moment s) (a .packet .now) _
+    (a .answer .now) _ _ _ _ _
+    (s .pre .0 .packet-size) (d .deliver .ensures) (t .step-on .ensures .1) _
+    (ap paperStepped (sym (c .enum-told .given .1)) ∙ t .step-on .ensures .0) (wired s)
 
 pub exchange-spec : {M : Type 1} → statement M
 exchange-spec =
@@ -72,8 +75,8 @@ exchange-spec =
     slice-reshare-prefix-deliver
     slice-aggregate-deliver
     deliver-requires
-    slice-reshare-prefix-step
-    slice-aggregate-step
+    slice-reshare-prefix-step-on
+    slice-aggregate-step-on
     (λ c κs. search needs)
     (λ c. search needs)
     (λ c. search needs)

@@ -3,7 +3,7 @@ use mathlib.Core.Path.{sym, ap, _∙_}
 use native.Mathlib.Omega.{arith}
 use borrow.Author.Needs.{needs}
 use Rattle.line.proofs.Beginning.{begun-moment, begun-again, start-refused, driven}
-use Rattle.basis.specs.Board.{pages}
+use Rattle.basis.specs.Board.{pagesOf}
 use Rattle.line.specs.Line.{lossAt}
 use Rattle.session.specs.Laws.Steps.{starting}
 use Rattle.session.specs.Paper.{paperStepped}
@@ -21,13 +21,13 @@ drive-requires c κs =
     let t = n .before .before .before .before in
     let s = entry t in
     let a = s .args in
-    let b = starting pages (a .image .now) (a .map .now) _ (a .kind) _
+    let b = starting (pagesOf (a .board)) (a .image .now) (a .map .now) _ (a .kind) _
     (ap paperStepped (sym (n .next .given .1)) ∙ t .start .ensures .0) in (
       record {
         image-size = b .file .right;
         map-size = b .file .long;
         flash-size = s .pre .0;
-        packet-size = t .start .kept .1 .1 .1 .0 ∙ s .pre .1;
+        packet-size = t .start .kept .1 .1 .1 .1 .0 ∙ s .pre .1;
         answer-size = s .pre .2;
       },
       b .file .some,
@@ -41,8 +41,8 @@ returns c =
     let t = c .before .before .before .before .before in
     let s = entry t in
     let a = s .args in
-    start-refused (a .image .now) (a .map .now) (a .kind) (a .loader) (lossAt (a .losses .now))
-    (a .flash .now) (s .pre .0) (s .pre .1)
+    start-refused (pagesOf (a .board)) (a .image .now) (a .map .now) (a .kind) (a .loader)
+    (lossAt (a .losses .now)) (a .flash .now) (s .pre .0) (s .pre .1)
     (ap paperStepped (sym (c .before .why .given .1)) ∙ t .start .ensures .0)
 
 returns-2 : tie.Need-returns-2
@@ -53,10 +53,10 @@ returns-2 c =
     let t = n .before .before .before .before in
     let s = entry t in
     let a = s .args in
-    let b = starting pages (a .image .now) (a .map .now) _ (a .kind) _
+    let b = starting (pagesOf (a .board)) (a .image .now) (a .map .now) _ (a .kind) _
     (ap paperStepped (sym (n .next .given .1)) ∙ t .start .ensures .0) in
-    driven (a .image .now) (a .map .now) (a .kind) (a .loader) (lossAt (a .losses .now)) (a .flash .now)
-    (s .pre .0) (s .pre .1) b _ _ _
+    driven (pagesOf (a .board)) (a .image .now) (a .map .now) (a .kind) (a .loader) (lossAt (a .losses .now))
+    (a .flash .now) (s .pre .0) (s .pre .1) b _ _ _
     (begun-moment b (a .loader) _ (r .reset .ensures) (a .flash .now) _ _ (t .start .ensures .1))
     (d .drive .ensures)
 

@@ -6,7 +6,8 @@ use native.Mathlib.Omega.{arith}
 use borrow.Author.Needs.{needs}
 use borrow.Author.Tests.{not-true, not-false}
 use lib.ListN.{length}
-use Rattle.basis.specs.Board.{pages}
+use Rattle.basis.specs.Board.{pagesOf}
+use Rattle.basis.specs.Laws.Boards.{pages-few}
 use Rattle.line.proofs.Driving.{len-fits, exchanged, not-past, done, again}
 use Rattle.line.specs.Line.{Moment, Lent, lossAt, momentAt, momentOn}
 use Rattle.order.specs.Laws.Totals.{total-most}
@@ -17,15 +18,15 @@ use Rattle.line.proofs.rehearse.drive.Tie as tie
 use Rattle.packet.specs.Packet.{packetMost}
 
 abbrev Inv-loop : tie.InvT-loop
-Inv-loop losses image map flash₀ packet₀ answer₀ link₀ i₀ flash packet answer link i =
-    (Lent pages image map flash packet answer) × (link .len ≤ packetMost)
-    × (i ≤ total pages map (link₀ .session .kind) + 1)
-    × (momentOn link flash packet ≡ momentAt pages image map (lossAt losses)
+Inv-loop board losses image map flash₀ packet₀ answer₀ link₀ i₀ flash packet answer link i =
+    (Lent (pagesOf board) image map flash packet answer) × (link .len ≤ packetMost)
+    × (i ≤ total (pagesOf board) map (link₀ .session .kind) + 1)
+    × (momentOn link flash packet ≡ momentAt (pagesOf board) image map (lossAt losses)
     (momentOn link₀ flash₀ packet₀) i)
 
 abbrev μ-loop : tie.MeasureT-loop
-μ-loop losses image map flash₀ packet₀ answer₀ link₀ i₀ flash packet answer link i =
-    total pages map (link₀ .session .kind) + 2 - i
+μ-loop board losses image map flash₀ packet₀ answer₀ link₀ i₀ flash packet answer link i =
+    total (pagesOf board) map (link₀ .session .kind) + 2 - i
 
 -- the entry, as the loop looks back to it
 abbrev entry : tie.At-loop Inv-loop μ-loop → tie.Start Inv-loop μ-loop
@@ -37,13 +38,14 @@ open-yet c = not-true _ (sym (c .before .is-open .ensures) ∙ c .if1 .taken)
 
 early : (c : tie.Then1 Inv-loop μ-loop)
     → (let l = c .before .before in
-    let a = entry l .args in l .loop .i ≤ total pages (a .map .now) (a .first .session .kind))
+    let a = entry l .args in l .loop .i ≤ total (pagesOf (a .board)) (a .map .now) (a .first .session .kind))
 early c =
     let l = c .before .before in
     let s = entry l in
     let a = s .args in
     let n = s .pre .0 in
-    not-past (a .image .now) (a .map .now) (a .flash .now)
+    not-past (pagesOf (a .board)) (omega (arith, pages-few (a .board))) (a .image .now) (a .map .now)
+    (a .flash .now)
     (record { right = n .image-size; long = n .map-size; some = s .pre .1 })
     (λ k. omega (arith, l .before .before .before .before .before .shared-slice-known2 .given k))
     (a .first .session .kind) (a .first .loader) (n .flash-size) (lossAt (a .losses .now)) _ (s .pre .3)
@@ -71,7 +73,12 @@ add-i : tie.Need-add-i Inv-loop μ-loop
 add-i c =
     let t = turn-at c in
     let a = entry (t .before .before) .args in
-    omega (arith, early t, total-most pages (a .map .now) (a .first .session .kind))
+    omega (
+      arith,
+      early t,
+      total-most (pagesOf (a .board)) (a .map .now) (a .first .session .kind),
+      pages-few (a .board),
+    )
 
 loop-less : tie.Need-loop-less Inv-loop μ-loop
 loop-less c =
@@ -84,7 +91,7 @@ loop-again c =
     let t = turn-at c in
     let a = entry (t .before .before) .args in
     let l = t .before .before .loop in
-    let k = e .exchange .kept .1 .1 .1 .1 in
+    let k = e .exchange .kept .1 .1 .1 .1 .1 in
     let n = l .inv .0 in
     let b = early t in
     let f : l .link .len ≤ length (l .packet) = omega (arith, n .packet-size, l .inv .1) in (
@@ -97,13 +104,16 @@ loop-again c =
       },
       omega (
         arith,
-        len-fits (a .image .now) (a .map .now) _ (l .link) (l .flash) (l .packet) f (e .exchange .ensures),
+        len-fits (pagesOf (a .board)) (a .image .now) (a .map .now) _ (l .link) (l .flash) (l .packet) f
+            (e .exchange .ensures),
         k .1 .0,
         n .packet-size,
       ),
       omega arith,
-      exchanged (a .image .now) (a .map .now) _ (l .link) (l .flash) (l .packet) f (e .exchange .ensures)
-          ∙ again (a .image .now) (a .map .now) (lossAt (a .losses .now)) _ (l .i) _ _ (l .inv .3)
+      exchanged (pagesOf (a .board)) (a .image .now) (a .map .now) _ (l .link) (l .flash) (l .packet) f
+          (e .exchange .ensures)
+          ∙ again (pagesOf (a .board)) (a .image .now) (a .map .now) (lossAt (a .losses .now)) _ (l .i) _ _
+          (l .inv .3)
           (open-yet t) (e .before .before .before .before .at .ensures),
     )
 
@@ -112,7 +122,8 @@ returns c =
     let a = entry (c .before .before) .args in
     let l = c .before .before .loop in
     let t = not-false _ (sym (c .before .is-open .ensures) ∙ c .if1 .left) in
-    let e = done (a .image .now) (a .map .now) (lossAt (a .losses .now)) _ (a .first .session .kind) (l .i) _
+    let e = done (pagesOf (a .board)) (a .image .now) (a .map .now) (lossAt (a .losses .now)) _
+    (a .first .session .kind) (l .i) _
     (l .inv .3) (l .inv .2) t in (
       sym (ap (λ (x : Moment). x .loader) e),
       sym (ap (λ (x : Moment). x .session) e),

@@ -7,14 +7,15 @@ use Rattle.line.proofs.rehearse.rehearse.Tie as tie
 
 returns : tie.Need-returns
 returns c =
-    let a = c .before .before .before .before .before .args in
-    flash-refused (a .image .now) (a .map .now) (a .kind) (a .loader) (lossAt (a .losses .now))
-    (a .flash .now) (c .if1 .taken)
+    let a = c .before .before .before .before .before .before .args in
+    flash-refused _ (a .image .now) (a .map .now) (a .kind) (a .loader) (lossAt (a .losses .now))
+    (a .flash .now) (rw (c .before .size .ensures .0) at (c .if1 .taken))
 
 pub rehearse-spec : {M : Type 1} → statement M
 rehearse-spec =
     tie.close
     (tie.spec
+    (λ c κs. search needs)
     returns
     (λ c. search needs)
     (λ c. search needs)

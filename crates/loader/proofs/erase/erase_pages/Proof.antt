@@ -4,7 +4,7 @@ use Prim.Native.Nat.{ℕ, _+_, _-_, _*_, _≤_, _<_}
 use mathlib.Core.Path.{_≡_, ap, ap₂, sym, _∙_}
 use native.Mathlib.Omega.{arith}
 use borrow.Author.Needs.{needs}
-use Rattle.basis.specs.Board.{pages, pageSize, groupSize, flashSize}
+use Rattle.basis.specs.Board.{pagesOf, pageSize, groupSize}
 use Rattle.basis.specs.Refusals.{given}
 use Rattle.basis.specs.Units.{pageOf, pageGroupOf, groupOf, startOf}
 use Rattle.image.specs.Flash.{eraseOf}
@@ -27,7 +27,7 @@ abbrev paged : tie.Else3 → tie.After-page
 paged c = c .before .before .before .before .before
 
 abbrev entry : tie.Else3 → tie.Start
-entry c = paged c .before
+entry c = paged c .before .before .before
 
 abbrev inner : tie.After-any → tie.Else3
 inner c = c .before .before .before .before
@@ -47,29 +47,29 @@ spanned c =
 
 -- past the tests of 7 there are pages, and they begin and end in flash
 inside : (c : tie.Else3)
-    → let a = entry c .args in (a .count ≡ 0 → ⊥)
-    × (a .address .0 < flashSize) × (pageOf (a .address .0) + a .count ≤ pages)
+    → let a = entry c .args in let b = pagesOf (a .board) in (a .count ≡ 0 → ⊥)
+    × (a .address .0 < startOf b) × (pageOf (a .address .0) + a .count ≤ b)
 inside c = (
   c .before .before .before .if1 .left,
-  c .before .if2 .left,
+  omega (arith, c .before .if2 .left),
   omega (arith, paged c .page .ensures, c .if3 .left),
 )
 
 returns : tie.Need-returns
 returns c =
-    let a = c .before .before .before .args in
-    λ s f. refuses (erase-none pages (a .loader) (a .address .0) (a .count) _ (c .if1 .taken))
+    let a = c .before .before .before .before .before .args in
+    λ s f. refuses (erase-none _ (a .loader) (a .address .0) (a .count) _ (c .if1 .taken))
 
 returns-2 : tie.Need-returns-2
 returns-2 c =
-    let a = c .before .before .before .before .before .args in
-    λ s f. refuses (erase-past pages (a .loader) (a .address .0) (a .count) _ (c .if2 .taken))
+    let a = c .before .before .before .before .before .before .before .args in
+    λ s f. refuses (erase-past _ (a .loader) (a .address .0) (a .count) _ (omega (arith, c .if2 .taken)))
 
 returns-3 : tie.Need-returns-3
 returns-3 c =
     let page = c .before .before .before .before .before in
-    let a = page .before .args in
-    λ s f. refuses (erase-over pages (a .loader) (a .address .0) (a .count) _
+    let a = page .before .before .before .args in
+    λ s f. refuses (erase-over _ (a .loader) (a .address .0) (a .count) _
     (omega (arith, page .page .ensures, c .if3 .taken)))
 
 returns-4 : tie.Need-returns-4
@@ -77,7 +77,7 @@ returns-4 c =
     let k = inner (c .before) in
     let a = entry k .args in
     let i = inside k in
-    λ s f. refuses (erase-protected pages (a .loader) (a .address .0) (a .count) _ (i .0) (i .1) (i .2)
+    λ s f. refuses (erase-protected _ (a .loader) (a .address .0) (a .count) _ (i .0) (i .1) (i .2)
     (sym (spanned (c .before)) ∙ c .if4 .taken))
 
 returns-5 : tie.Need-returns-5
@@ -87,7 +87,7 @@ returns-5 c =
     let i = inside k in
     let from = c .start .ensures ∙ ap startOf (paged k .page .ensures) in
     λ s f. accepts
-    (erase-passes pages (a .loader) (a .address .0) (a .count) _ (i .0) (i .1) (i .2)
+    (erase-passes _ (a .loader) (a .address .0) (a .count) _ (i .0) (i .1) (i .2)
     (sym (spanned (c .before .before)) ∙ c .before .if4 .left)
     ∙ ap (λ (n : ℕ). given (record { loader = a .loader; flash = eraseOf f n (a .count * pageSize) }))
     (sym from))
@@ -97,6 +97,8 @@ pub erase-pages-spec : {M : Type 1} → statement M
 erase-pages-spec =
     tie.close
     (tie.spec
+    (λ c κs. search needs)
+    (λ c κs. search needs)
     (λ c κs. search needs)
     (λ c. search needs)
     returns

@@ -7,7 +7,7 @@ use Rattle.loader.proofs.protect.protect.Tie as tie
 
 returns : tie.Need-returns
 unfolding protecting
-returns c = λ s f. simp (c .before .match .keys1) (c .«open» .ensures s f)
+returns c = λ s f. simp (c .before .match .keys1) (c .«open» .ensures _ s f)
 
 returns-2 : tie.Need-returns-2
 unfolding protecting
@@ -17,7 +17,7 @@ returns-3 : tie.Need-returns-3
 unfolding protecting
 returns-3 c =
     λ s f. simp (ne-eqb _ _ (c .before .match .rest .0 .1), ne-eqb _ _ (c .before .match .rest .1))
-    (c .close .ensures s f)
+    (c .close .ensures _ s f)
 
 pub protect-spec : {M : Type 1} → statement M
 protect-spec =

@@ -9,18 +9,18 @@ use Rattle.loader.proofs.run.run.Tie as tie
 
 returns : tie.Need-returns
 unfolding running
-returns c = λ s f. refuses (ap (keeping f) (stop _ _ _ _ (c .if1 .taken)))
+returns c = λ b s f. refuses (ap (keeping f) (stop _ _ _ _ (c .if1 .taken)))
 
 returns-2 : tie.Need-returns-2
 unfolding running
 returns-2 c =
-    λ s f. refuses (ap (keeping f)
+    λ b s f. refuses (ap (keeping f)
     (skip _ _ _ _ (c .before .before .if1 .left) ∙ stop _ _ _ _ (lt-ltb _ _ (c .if2 .taken))))
 
 returns-3 : tie.Need-returns-3
 unfolding running
 returns-3 c =
-    λ s f. accepts (ap (keeping f)
+    λ b s f. accepts (ap (keeping f)
     (skip _ _ _ _ (c .before .before .if1 .left) ∙ skip _ _ _ _ (le-ltb _ _ (c .if2 .left)) ∙ done _)) tt
 
 pub run-spec : {M : Type 1} → statement M

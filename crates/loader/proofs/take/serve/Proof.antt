@@ -5,7 +5,7 @@ use mathlib.Core.Path.{_≡_, ap, sym, _∙_}
 use native.Mathlib.Omega.{arith}
 use borrow.Author.Needs.{needs}
 use lib.ListN.{length}
-use Rattle.basis.specs.Board.{pages}
+use Rattle.basis.specs.Board.{pagesOf}
 use Rattle.basis.specs.Refusals.{given}
 use Rattle.loader.specs.Commands.{obeyOf}
 use Rattle.loader.specs.Laws.Take.{served-unread, served-packet}
@@ -52,11 +52,11 @@ returns c =
 returns-2 : tie.Need-returns-2
 returns-2 c =
     let k = c .before .before .before .before in
-    let a = entry k .args in
+    let a = entry k .args in let b = pagesOf (a .board) in
     let p = k .packet .given .0 .0 in
     let d = part-data (a .input .now) p in
-    rw (served-packet pages (a .loader) (a .input .now) (a .flash .now) _ (told k)
-    ∙ ap (λ (b : List ℕ). obeyOf pages (a .loader) (paperCommand (p .command)) (p .address .0) b
+    rw (served-packet b (a .loader) (a .input .now) (a .flash .now) _ (told k)
+    ∙ ap (λ (w : List ℕ). obeyOf b (a .loader) (paperCommand (p .command)) (p .address .0) w
     (a .flash .now)) (sym d))
     (c .judge .ensures (a .input .now) (within k) d)
 

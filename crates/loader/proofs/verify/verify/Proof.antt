@@ -7,8 +7,9 @@ use borrow.Author.Needs.{needs}
 use borrow.Author.Tests.{ltb-false}
 use lib.Dec.{ltb}
 use lib.ListN.{length}
-use Rattle.basis.specs.Board.{flashSize}
+use Rattle.basis.specs.Board.{pagesOf}
 use Rattle.basis.specs.Laws.Refusals.{skip, stop, done}
+use Rattle.basis.specs.Units.{startOf}
 use Rattle.loader.specs.Commands.{keeping, verifyRows}
 use Rattle.loader.proofs.Judging.{refuses, accepts}
 use Rattle.loader.proofs.verify.verify.Statement.{statement}
@@ -19,7 +20,8 @@ abbrev entry : tie.Else2 → tie.Start
 entry c = c .before .before .before .before .before
 
 inside : (c : tie.Else2)
-    → let a = entry c .args in ltb flashSize (a .address .0 + length (a .turned .now)) ≡ false
+    → let a = entry c .args in
+    ltb (startOf (pagesOf (a .board))) (a .address .0 + length (a .turned .now)) ≡ false
 inside c = sym (c .before .past-end .ensures) ∙ c .if2 .left
 
 returns : tie.Need-returns
@@ -43,7 +45,7 @@ equals-requires c κs =
     let k = c .before .before in let a = entry k .args in
     omega (
       arith,
-      ltb-false flashSize (a .address .0 + length (a .turned .now)) (inside k),
+      ltb-false (startOf (pagesOf (a .board))) (a .address .0 + length (a .turned .now)) (inside k),
       entry k .pre,
     )
 

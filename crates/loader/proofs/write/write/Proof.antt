@@ -7,8 +7,10 @@ use native.Mathlib.Omega.{arith}
 use borrow.Author.Needs.{needs}
 use borrow.Author.Tests.{ltb-true, ltb-false}
 use lib.ListN.{length}
-use Rattle.basis.specs.Board.{pages, flashSize}
+use Rattle.basis.specs.Board.{pagesOf, pagesMost}
+use Rattle.basis.specs.Laws.Boards.{pages-few}
 use Rattle.basis.specs.Refusals.{given, first}
+use Rattle.basis.specs.Units.{startOf}
 use Rattle.image.specs.Flash.{storeOf}
 use Rattle.loader.specs.Commands.{protectedBytes, writeRows, writing}
 use Rattle.loader.specs.Deeds.{dataIn}
@@ -26,8 +28,13 @@ abbrev inner : tie.After-any → tie.Else2
 inner c = c .before .before .before .before .before
 
 -- past the test of 7 the bytes end in flash
-inside : (c : tie.Else2) → let p = entry c .args .packet in p .address .0 + p .len ≤ flashSize
+inside : (c : tie.Else2)
+    → let a = entry c .args in a .packet .address .0 + a .packet .len ≤ startOf (pagesOf (a .board))
 inside c = ltb-false _ _ (sym (c .before .past-end .ensures) ∙ c .if2 .left)
+
+-- so no number of theirs is too large on any board
+few : (c : tie.Else2) → let p = entry c .args .packet in p .address .0 + p .len ≤ startOf pagesMost
+few c = omega (arith, inside c, pages-few (entry c .args .board))
 
 -- the groups asked for are those of the bytes
 spanned : (c : tie.After-any)
@@ -41,13 +48,13 @@ spanned c =
 -- the table over the packet's length is the table over its bytes
 tabled : (c : tie.Start) (s f : List ℕ) → let a = c .args in let p = a .packet in
     p .at + p .len ≤ length s
-    → writing pages (a .loader) (p .address .0) (dataIn s p) f
-    ≡ first (writeRows pages (a .loader) (p .address .0) (p .len))
+    → writing (pagesOf (a .board)) (a .loader) (p .address .0) (dataIn s p) f
+    ≡ first (writeRows (pagesOf (a .board)) (a .loader) (p .address .0) (p .len))
     (given (record { loader = a .loader; flash = storeOf f (p .address .0) (dataIn s p) }))
 unfolding writing
 tabled c s f h =
     let a = c .args in let p = a .packet in
-    ap (λ (n : ℕ). first (writeRows pages (a .loader) (p .address .0) n)
+    ap (λ (n : ℕ). first (writeRows (pagesOf (a .board)) (a .loader) (p .address .0) n)
     (given (record { loader = a .loader; flash = storeOf f (p .address .0) (dataIn s p) })))
     (data-length s p h)
 
@@ -55,39 +62,39 @@ returns : tie.Need-returns
 returns c =
     let e = c .before .before in let a = e .args in
     λ s f h. refuses (tabled e s f h
-    ∙ write-open pages (a .loader) (a .packet .address .0) (a .packet .len) _ (c .if1 .taken))
+    ∙ write-open _ (a .loader) (a .packet .address .0) (a .packet .len) _ (c .if1 .taken))
 
 returns-2 : tie.Need-returns-2
 returns-2 c =
     let e = c .before .before .before .before in let a = e .args in
     λ s f h. refuses (tabled e s f h
-    ∙ write-past pages (a .loader) (a .packet .address .0) (a .packet .len) _ (c .before .before .if1 .left)
+    ∙ write-past _ (a .loader) (a .packet .address .0) (a .packet .len) _ (c .before .before .if1 .left)
     (ltb-true _ _ (sym (c .before .past-end .ensures) ∙ c .if2 .taken)))
 
 cast-end : tie.Need-cast-end
-cast-end c = let h = inside (c .before) in omega arith
+cast-end c = let h = few (c .before) in omega arith
 
 add-end : tie.Need-add-end
-add-end c = let h = inside (c .before .before) in omega arith
+add-end c = let h = few (c .before .before) in omega arith
 
-add-t15 : tie.Need-add-t15
-add-t15 c = let h = inside (c .before .before .before) in omega arith
+add-t16 : tie.Need-add-t16
+add-t16 c = let h = few (c .before .before .before) in omega arith
 
 any-requires : tie.Need-any-requires
-any-requires c κs = let h = inside (c .before .before .before .before) in omega (arith, c .group2 .ensures)
+any-requires c κs = let h = few (c .before .before .before .before) in omega (arith, c .group2 .ensures)
 
 returns-3 : tie.Need-returns-3
 returns-3 c =
     let k = inner (c .before) in let e = entry k in let a = e .args in
     λ s f h. refuses (tabled e s f h
-    ∙ write-protected pages (a .loader) (a .packet .address .0) (a .packet .len) _
+    ∙ write-protected _ (a .loader) (a .packet .address .0) (a .packet .len) _
     (k .before .before .if1 .left) (inside k) (sym (spanned (c .before)) ∙ c .if3 .taken))
 
 returns-4 : tie.Need-returns-4
 returns-4 c =
     let k = inner (c .before) in let e = entry k in let a = e .args in
     λ s f h. accepts (tabled e s f h
-    ∙ write-passes pages (a .loader) (a .packet .address .0) (a .packet .len) _
+    ∙ write-passes _ (a .loader) (a .packet .address .0) (a .packet .len) _
     (k .before .before .if1 .left) (inside k) (sym (spanned (c .before)) ∙ c .if3 .left))
     (h, inside k)
 
@@ -102,7 +109,7 @@ write-spec =
     add-end
     (λ c κs. search needs)
     (λ c. search needs)
-    add-t15
+    add-t16
     (λ c κs. search needs)
     any-requires
     returns-3

@@ -3,7 +3,8 @@ use Prim.Native.Nat.{ℕ, _<_}
 use mathlib.Core.Path.{_≡_, refl, sym, ap, _∙_}
 use borrow.Author.Needs.{needs}
 use lib.ListN.{length}
-use Rattle.basis.specs.Board.{pages, flashSize, mapSize}
+use Rattle.basis.specs.Board.{pagesOf}
+use Rattle.basis.specs.Units.{startOf, mapBytes}
 use Rattle.runs.specs.Pieces.{pieceStarts}
 use Rattle.order.specs.Laws.Starts.{run-below, piece-below}
 use Rattle.order.specs.Steps.{atStart, followOf}
@@ -12,21 +13,24 @@ use Rattle.order.specs.declared.step.Step.{Step}
 use Rattle.order.proofs.cursor.follow.Statement.{statement}
 use Rattle.order.proofs.cursor.follow.Tie as tie
 
+abbrev board : tie.Start → ℕ
+board s = pagesOf (s .args .board)
+
 after-erase-requires : tie.Need-after-erase-requires
 after-erase-requires c κs =
     let s = c .before .before .before .before in (
       s .pre .0,
-      run-below pages (s .args .map .now) (s .pre .0) _
-          (sym (ap (atStart pages (s .args .map .now)) (c .before .step .given .1)) ∙ s .pre .1),
+      run-below (board s) (s .args .map .now) (s .pre .0) _
+          (sym (ap (atStart (board s) (s .args .map .now)) (c .before .step .given .1)) ∙ s .pre .1),
     )
 
 -- W or V: the step is one at an address where a piece starts
 piece : (s : tie.Start) (t : Step) (a : ℕ) → s .args .step ≡ t
-    → atStart pages (s .args .map .now) t ≡ pieceStarts (s .args .map .now) a
-    → (length (s .args .map .now) ≡ mapSize) × (a < flashSize)
+    → atStart (board s) (s .args .map .now) t ≡ pieceStarts (s .args .map .now) a
+    → (length (s .args .map .now) ≡ mapBytes (board s)) × (a < startOf (board s))
 piece s t a q at = let m = s .args .map .now in (
   s .pre .0,
-  piece-below pages m (s .pre .0) a (sym at ∙ sym (ap (atStart pages m) q) ∙ s .pre .1),
+  piece-below (board s) m (s .pre .0) a (sym at ∙ sym (ap (atStart (board s) m) q) ∙ s .pre .1),
 )
 
 after-write-requires : tie.Need-after-write-requires
@@ -38,9 +42,9 @@ after-verify-requires c κs = piece (c .before .before .before .before) _ _ (c .
 -- what follows, by the step that it is
 module _ (s : tie.Start) where
   whatever : {t : Step} {f : Following} → s .args .step ≡ t
-      → f ≡ followOf pages (s .args .map .now) (s .args .kind) t
-      → f ≡ followOf pages (s .args .map .now) (s .args .kind) (s .args .step)
-  whatever q e = e ∙ sym (ap (followOf pages (s .args .map .now) (s .args .kind)) q)
+      → f ≡ followOf (board s) (s .args .map .now) (s .args .kind) t
+      → f ≡ followOf (board s) (s .args .map .now) (s .args .kind) (s .args .step)
+  whatever q e = e ∙ sym (ap (followOf (board s) (s .args .map .now) (s .args .kind)) q)
 
 returns : tie.Need-returns
 unfolding followOf

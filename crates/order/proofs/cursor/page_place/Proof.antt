@@ -7,11 +7,17 @@ use Rattle.order.proofs.cursor.page_place.Tie as tie
 
 returns : tie.Need-returns
 unfolding placeOf
-returns c = rw (le-leb _ _ (c .if1 .taken))
+returns c =
+    rw (le-leb _ _ (rw (c .before .before .before .pages .ensures .0) at (c .before .if1 .taken)))
+    (c .end .ensures .0)
 
 returns-2 : tie.Need-returns-2
 unfolding placeOf
-returns-2 c = rw (lt-leb _ _ (c .before .if1 .left)) (c .start .ensures)
+returns-2 c =
+    rw (lt-leb _ _ (rw (c .before .before .before .pages .ensures .0) at (c .before .if1 .left)))
+    (c .start .ensures)
 
 pub page-place-spec : {M : Type 1} → statement M
-page-place-spec = tie.close (tie.spec returns (λ c κs. search needs) returns-2)
+page-place-spec =
+    tie.close
+    (tie.spec (λ c κs. search needs) (λ c κs. search needs) returns (λ c κs. search needs) returns-2)

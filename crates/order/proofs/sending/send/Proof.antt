@@ -1,10 +1,13 @@
 -- `send` meets its contract, step by step.
-use Prim.Native.Nat.{ℕ, _≤_}
+use Prim.Native.Nat.{ℕ, _*_, _%_, _≤_}
 use mathlib.Core.Bool.{true}
 use mathlib.Core.Path.{_≡_, refl, sym, ap, _∙_}
+use native.Mathlib.Omega.{arith}
 use borrow.Author.Needs.{needs}
 use lib.ListN.{length}
-use Rattle.basis.specs.Board.{pages, flashSize, mapSize}
+use Rattle.basis.specs.Board.{pagesOf, pagesMost}
+use Rattle.basis.specs.Laws.Boards.{pages-few}
+use Rattle.basis.specs.Units.{startOf}
 use Rattle.packet.specs.Packet.{packetMost}
 use Rattle.packet.specs.Table.{writeByte, verifyByte}
 use Rattle.order.specs.Plan.{carriesPiece}
@@ -18,21 +21,23 @@ send-erase-requires c κs = let here = c .before .before in
     let s = here .before .before .before .before .before in (
       s .pre .1,
       s .pre .2,
-      sym (ap (atStart pages (s .args .map .now)) (here .step .given .1))
+      sym (ap (atStart (pagesOf (s .args .board)) (s .args .map .now)) (here .step .given .1))
           ∙ s .pre .3,
     )
 
 -- W or V: the step stands at a start, and its command carries a piece
 piece : (s : tie.Start) (command : ℕ) (t : Step) → carriesPiece command ≡ true → s .args .step ≡ t
-    → (length (s .args .image .now) ≡ flashSize) × (length (s .args .map .now) ≡ mapSize)
-    × (packetMost ≤ length (s .args .buffer .now)) × (carriesPiece command ≡ true)
-    × (atStart pages (s .args .map .now) t ≡ true)
+    → (length (s .args .image .now) ≡ 8 * length (s .args .map .now)) × (length (s .args .map .now) % 64 ≡ 0)
+    × (length (s .args .image .now) ≤ startOf pagesMost) × (packetMost ≤ length (s .args .buffer .now))
+    × (carriesPiece command ≡ true)
+    × (atStart (pagesOf (s .args .board)) (s .args .map .now) t ≡ true)
 piece s command t carries q = (
-  s .pre .0,
-  s .pre .1,
+  omega (arith, s .pre .0, s .pre .1),
+  omega (arith, s .pre .1),
+  omega (arith, s .pre .0, pages-few (s .args .board)),
   s .pre .2,
   carries,
-  sym (ap (atStart pages (s .args .map .now)) q) ∙ s .pre .3,
+  sym (ap (atStart (pagesOf (s .args .board)) (s .args .map .now)) q) ∙ s .pre .3,
 )
 
 send-piece-requires : tie.Need-send-piece-requires

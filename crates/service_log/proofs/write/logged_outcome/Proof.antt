@@ -1,23 +1,24 @@
--- `logged_outcome` meets its contract, phase by phase.
-use mathlib.Core.Path.{sym, ap, _∙_}
+-- `logged_outcome` meets its contract: 45 where there is no such board.
+use mathlib.Core.Path.{refl, sym, _∙_}
 use borrow.Author.Needs.{needs}
-use Rattle.service_log.specs.Log.{loggedOutcomeOf}
 use Rattle.service_log.proofs.write.logged_outcome.Statement.{statement}
 use Rattle.service_log.proofs.write.logged_outcome.Tie as tie
 
-returns-3 : tie.Need-returns-3
-returns-3 c =
-    let s = c .before .before .before .before .args in
-    c .own-number .ensures ∙ sym (ap (loggedOutcomeOf (s .kind)) (c .before .before .phase .given .1))
+returns : tie.Need-returns
+returns c =
+    let told = c .before in
+    rw (sym (told .before .before .of .ensures) ∙ told .enum-told .given .1) (c .outcome-of .ensures)
+
+returns-2 : tie.Need-returns-2
+returns-2 c = rw (sym (c .before .before .of .ensures) ∙ c .enum-told2 .given .1) refl
 
 pub logged-outcome-spec : {M : Type 1} → statement M
 logged-outcome-spec =
     tie.close
     (tie.spec
-    (λ c. search needs)
-    (λ c. search needs)
+    (λ c κs. search needs)
     (λ c. search needs)
     (λ c κs. search needs)
     (λ c. search needs)
-    (λ c. search needs)
-    returns-3)
+    returns
+    returns-2)

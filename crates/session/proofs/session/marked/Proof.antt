@@ -1,9 +1,13 @@
 -- `marked` meets its contract: the survey ranks the byte's piece among those verified.
+use Prim.Native.Nat.{ℕ, _≤_, _<_}
 use mathlib.Core.Bool.{true}
 use mathlib.Core.Path.{_≡_, sym, _∙_}
 use native.Mathlib.Omega.{arith}
 use borrow.Author.Needs.{needs}
 use borrow.Author.Tests.{not-true, not-false}
+use Rattle.basis.specs.Board.{pagesOf, pagesMost}
+use Rattle.basis.specs.Laws.Boards.{pages-few}
+use Rattle.basis.specs.Units.{startOf}
 use Rattle.runs.specs.Map.{named}
 use Rattle.session.proofs.Marks.{mark-past, mark-unnamed, mark-ranked, rank-few}
 use Rattle.order.specs.Laws.Surveys.{told}
@@ -12,7 +16,17 @@ use Rattle.session.proofs.session.marked.Tie as tie
 
 -- the entry and what the passed tests say of it, as the survey and the places behind it see them
 abbrev entry : tie.After-survey → tie.Start
-entry s = s .before .before .before .before .before .before
+entry s = s .before .before .before .before .before .before .before
+
+abbrev board : tie.After-survey → ℕ
+board s = pagesOf (entry s .args .board)
+
+few : (s : tie.After-survey) → board s ≤ pagesMost
+few s = pages-few (entry s .args .board)
+
+below : (s : tie.After-survey) → entry s .args .address .0 < startOf (board s)
+below s =
+    let at = s .before .before .before in omega (arith, at .before .before .end .ensures, at .if1 .left)
 
 abbrev survey-at : tie.After-one → tie.After-survey
 survey-at c = c .before .before .before
@@ -21,24 +35,27 @@ is-named : (s : tie.After-survey) → named (entry s .args .map .now) (entry s .
 is-named s = sym (s .before .before .named .ensures) ∙ not-false _ (s .before .if2 .left)
 
 returns : tie.Need-returns
-returns c = let s = c .before .before .before in mark-past _ (s .pre) _ _ (c .if1 .taken)
+returns c =
+    let s = c .before .before .before .before in
+    mark-past _ _ (s .pre) _ _ (omega (arith, c .before .before .end .ensures, c .if1 .taken))
 
 returns-2 : tie.Need-returns-2
 returns-2 c =
-    let s = c .before .before .before .before .before in
-    mark-unnamed _ (s .pre) _ _ (sym (c .before .named .ensures) ∙ not-true _ (c .if2 .taken))
+    let s = c .before .before .before .before .before .before in
+    mark-unnamed _ _ (s .pre) _ _ (sym (c .before .named .ensures) ∙ not-true _ (c .if2 .taken))
 
 add-pieces : tie.Need-add-pieces
 add-pieces c = let s = survey-at (c .before) in
     omega (
       arith,
-      rank-few (entry s .args .map .now) (entry s .args .address .0) (s .survey .ensures)
-          (c .before .one .ensures) (s .before .before .before .if1 .left),
+      rank-few (board s) (few s) (entry s .args .map .now) (entry s .args .address .0) (s .survey .ensures)
+          (c .before .one .ensures) (below s),
     )
 
 before-verify-requires : tie.Need-before-verify-requires
 before-verify-requires c κs = let s = survey-at (c .before) in
-    let t = told (entry s .args .map .now) (entry s .args .address .0) (s .survey .ensures) in
+    let t = told (board s) (few s) (entry s .args .map .now) (entry s .args .address .0)
+    (s .survey .ensures) in
     (t .runs-few, t .pieces-few)
 
 add-result : tie.Need-add-result
@@ -47,21 +64,23 @@ add-result c = let s = survey-at (c .before .before) in
     let a = entry s .args .address .0 in
     omega (
       arith,
-      told m a (s .survey .ensures),
-      rank-few m a (s .survey .ensures) (c .before .before .one .ensures)
-          (s .before .before .before .if1 .left),
+      told (board s) (few s) m a (s .survey .ensures),
+      rank-few (board s) (few s) m a (s .survey .ensures) (c .before .before .one .ensures) (below s),
+      below s,
+      few s,
       c .before-verify .ensures,
     )
 
 returns-3 : tie.Need-returns-3
 returns-3 c = let s = survey-at (c .before .before) in
-    mark-ranked _ (entry s .pre) _ _ (s .survey .ensures) (c .before .before .one .ensures)
+    mark-ranked _ _ (entry s .pre) _ _ (few s) (s .survey .ensures) (c .before .before .one .ensures)
     (c .before-verify .ensures) (is-named s)
 
 pub marked-spec : {M : Type 1} → statement M
 marked-spec =
     tie.close
     (tie.spec
+    (λ c κs. search needs)
     returns
     (λ c κs. search needs)
     returns-2

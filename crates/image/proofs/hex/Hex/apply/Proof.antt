@@ -14,7 +14,6 @@ use native.Mathlib.Omega.{arith}
 use denote.Ref.{now}
 use Rattle.image.specs.Paper.{paperCheck}
 use borrow.Author.Needs.{needs}
-use Rattle.basis.specs.Board.{flashSize}
 use Rattle.image.proofs.hex.Hex.apply.Statement.{statement}
 use Rattle.image.proofs.hex.Hex.apply.Tie as tie
 
@@ -88,13 +87,13 @@ whole c =
 returns : tie.Need-returns
 returns c =
     let at = c .before .before .before in
-    apply-framing flashSize _ (line-at at) _ _ _ _ _
+    apply-framing _ _ (line-at at) _ _ _ _ _
     (sym (ap paperCheck (c .before .framed .given .1)) ∙ at .framing .ensures)
 
 returns-2 : tie.Need-returns-2
 returns-2 c =
     let at = c .before .before .before in
-    apply-shape flashSize _ (line-at (framing-at (asked-at at))) _ _ _ (framed (asked-at at)) _ _
+    apply-shape _ _ (line-at (framing-at (asked-at at))) _ _ _ (framed (asked-at at)) _ _
     (sym (ap paperCheck (c .before .shaped .given .1)) ∙ judged at)
 
 data-requires : tie.Need-data-requires
@@ -110,7 +109,7 @@ returns-3 c =
     let a = entry (framed-at passed) .args in
     done .«data» .ensures (now (a .line))
     ∙ ap (λ x. settled (pointed (now (a .line)) x) (now (a .image)) (now (a .map)))
-    (apply-data flashSize _ (now (a .line)) _ _ _ (framed (framed-at passed)) (shaped passed)
+    (apply-data _ _ (now (a .line)) _ _ _ (framed (framed-at passed)) (shaped passed)
     (tested .if1 .taken))
 
 other-requires : tie.Need-other-requires
@@ -123,7 +122,7 @@ returns-4 c =
     let passed = c .before .before .before in
     let a = entry (framed-at passed) .args in
     rw (c .other .ensures) (ap (λ x. settled (pointed (now (a .line)) x) (now (a .image)) (now (a .map)))
-    (apply-other flashSize _ (now (a .line)) _ _ _ (framed (framed-at passed)) (shaped passed)
+    (apply-other _ _ (now (a .line)) _ _ _ (framed (framed-at passed)) (shaped passed)
     (c .before .if1 .left)))
 
 pub apply-spec : {M : Type 1} → statement M

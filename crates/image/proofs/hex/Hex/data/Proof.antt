@@ -15,7 +15,6 @@ use Rattle.image.specs.Hex.{Settled, hex, settledAs, settled, place, Put
 use Rattle.image.specs.declared.hex.Hex.{Hex}
 use native.Mathlib.Omega.{arith}
 use borrow.Author.Needs.{needs}
-use Rattle.basis.specs.Board.{flashSize}
 use Rattle.image.proofs.hex.Hex.data.Statement.{statement}
 use Rattle.image.proofs.hex.Hex.data.Tie as tie
 
@@ -74,7 +73,7 @@ some : (c : tie.Else1) → 0 < count (bytes-at c)
 some c = omega (arith, c .before .wide .ensures .0, c .if1 .left)
 
 fits : (c : tie.Else2) → let at = count-at (c .before) in
-    place (entry at .args .self) (bytes-at at) + count (bytes-at at) ≤ flashSize
+    place (entry at .args .self) (bytes-at at) + count (bytes-at at) ≤ length (entry at .args .image .now)
 fits c =
     omega (arith, count-at (c .before) .before .wide .ensures .0, c .before .pair-at .ensures, c .if2 .left)
 
@@ -93,26 +92,26 @@ putting c t e =
     (omega (arith, at .before .wide .ensures .0)) e (c .put .ensures)
 
 returns : tie.Need-returns
-returns c line = data-none flashSize _ _ _ _ line (sym (c .before .wide .ensures .0) ∙ c .if1 .taken)
+returns c line = data-none _ _ _ _ _ line (sym (c .before .wide .ensures .0) ∙ c .if1 .taken)
 
 returns-2 : tie.Need-returns-2
 returns-2 c line =
     let at = count-at (c .before) in
-    data-high flashSize _ (bytes-at at) _ _ line (some at)
+    data-high _ _ (bytes-at at) _ _ line (some at)
     (omega (arith, at .before .wide .ensures .0, c .before .pair-at .ensures, c .if2 .taken))
 
 returns-3 : tie.Need-returns-3
 returns-3 c line =
     let put-at = c .before .before .before .before .before in
     let at = count-at (end-at put-at .before) in
-    data-twice flashSize _ (bytes-at at) _ _ line (some at) (fits (end-at put-at)) _ _
+    data-twice _ _ (bytes-at at) _ _ line (some at) (fits (end-at put-at)) _ _
     (putting put-at false (not-true _ (c .if3 .taken))) (payload-long (bytes-at at) (entry at .pre .0))
 
 returns-4 : tie.Need-returns-4
 returns-4 c line =
     let put-at = c .before .before .before .before .before in
     let at = count-at (end-at put-at .before) in
-    data-given flashSize _ (bytes-at at) _ _ line (some at) (fits (end-at put-at)) _ _
+    data-given _ _ (bytes-at at) _ _ line (some at) (fits (end-at put-at)) _ _
     (putting put-at true (not-false _ (c .if3 .left))) (payload-long (bytes-at at) (entry at .pre .0))
 
 pub data-spec : {M : Type 1} → statement M
@@ -126,7 +125,6 @@ data-spec =
     (λ c. search needs)
     (λ c. search needs)
     (λ c κs. search needs)
-    (λ c. search needs)
     (λ c. search needs)
     (λ c. search needs)
     (λ c. search needs)

@@ -2,13 +2,14 @@
 use Prim.Native.Nat.{ℕ}
 use mathlib.Core.Bool.{true, false}
 use mathlib.Core.List.{List}
-use mathlib.Core.Path.{_≡_, refl, sym, _∙_}
+use mathlib.Core.Path.{_≡_, refl, sym, ap, _∙_}
 use lib.ListN.{length}
 use borrow.Author.Needs.{needs}
 use borrow.Author.Tests.{not-true, not-false}
 use Rattle.basis.specs.Laws.Units.{sizes-right}
-use Rattle.basis.specs.Units.{rightSizesIn}
-use Rattle.basis.specs.Board.{flashSize}
+use Rattle.basis.specs.Units.{startOf, rightSizesIn}
+use Rattle.basis.specs.Board.{pagesOf}
+use Rattle.basis.specs.Laws.Boards.{sizes-fit}
 use Rattle.basis.specs.Refusals.{first}
 use Rattle.image.specs.Hex.{settledAs, settled, recordIn}
 use Rattle.image.specs.Record.{columnOf, wrong, pointed}
@@ -29,20 +30,36 @@ module _ (size : ℕ) (h : Hex) (line image map : List ℕ) where
   record-ended e t = simp (e, t)
 
 -- what the first test says of the entry
-sized : (c : tie.Else1) → let a = c .before .before .before .before .before .args in
-    rightSizesIn flashSize (length (a .image .now)) (length (a .map .now)) ≡ true
+abbrev entry : tie.Else1 → tie.Start
+entry c = c .before .before .before .before .before
+
+sized : (c : tie.Else1) → let a = entry c .args in
+    rightSizesIn (startOf (pagesOf (a .board))) (length (a .image .now)) (length (a .map .now)) ≡ true
 sized c = sym (c .before .right-sizes .ensures) ∙ not-false _ (c .if1 .left)
 
 returns : tie.Need-returns
-returns c = record-size flashSize _ _ _ _ (sym (c .before .right-sizes .ensures) ∙ not-true _ (c .if1 .taken))
+returns c = record-size _ _ _ _ _ (sym (c .before .right-sizes .ensures) ∙ not-true _ (c .if1 .taken))
 
 returns-2 : tie.Need-returns-2
-returns-2 c = record-ended flashSize _ _ _ _ (sized (c .before)) (c .if2 .taken)
+returns-2 c = record-ended _ _ _ _ _ (sized (c .before)) (c .if2 .taken)
 
 take-requires : tie.Need-take-requires
 take-requires c κs =
-    let right = sizes-right flashSize _ _ (sized (c .before .before .before .before)) in
-    (refl, right .0, right .1, c .before .before .before .if2 .left)
+    let tested = c .before .before .before .before in
+    let fit = sizes-fit (entry tested .args .board) _ _ (sized tested) in
+    (refl, fit .0, fit .2, c .before .before .before .if2 .left)
+
+returns-3 : tie.Need-returns-3
+returns-3 c =
+    let t = c .before .before .before .before .before .take in
+    let tested = c .before .before .before .before .before .before .before .before .before .before in
+    let a = entry tested .args in
+    let i = a .image .now in
+    let m = a .map .now in
+    let l = a .line .now in
+    t .ensures
+    ∙ ap (λ (n : ℕ). settled (pointed l (recordIn n (a .self) l i m)) i m)
+    (sizes-right _ _ _ (sized tested) .0)
 
 pub record-spec : {M : Type 1} → statement M
 record-spec =
@@ -55,4 +72,4 @@ record-spec =
     take-requires
     (λ c. search needs)
     (λ c. search needs)
-    (λ c. search needs))
+    returns-3)

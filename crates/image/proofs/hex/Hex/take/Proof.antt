@@ -1,6 +1,6 @@
 -- `take` meets its contract: what the characters spell is handed on.
 use Prim.Native.Nat.{ℕ, _/_, _≤_}
-use mathlib.Core.Path.{_≡_, sym, ap, _∙_}
+use mathlib.Core.Path.{_≡_, refl, sym, ap, _∙_}
 use mathlib.Core.Bool.{false}
 use mathlib.Core.List.{List}
 use lib.ListN.{length, take, drop}
@@ -17,7 +17,6 @@ use native.Mathlib.Omega.{arith}
 use denote.Ref.{now}
 use Rattle.image.specs.Paper.{paperCheck}
 use borrow.Author.Needs.{needs}
-use Rattle.basis.specs.Board.{flashSize}
 use Rattle.image.proofs.hex.Hex.take.Statement.{statement}
 use Rattle.image.proofs.hex.Hex.take.Tie as tie
 
@@ -74,8 +73,10 @@ spelt c =
 returns : tie.Need-returns
 returns c =
     let checked = c .before .before .before .before .before in
-    let pre = entry checked .pre in
-    take-refused flashSize _ (entry checked .args .line .now) _ _ (pre .1) (pre .2) (pre .3) _ _
+    let start = entry checked in
+    let pre = start .pre in
+    take-refused _ _ (start .args .line .now) (start .args .image .now) (start .args .map .now) refl
+    (omega (arith, pre .1)) (pre .3) _ _
     (sym (ap paperCheck (c .before .checked .given .1)) ∙ checked .characters .ensures .0)
 
 apply-requires : tie.Need-apply-requires
@@ -98,7 +99,8 @@ returns-2 c =
     let pre = start .pre in
     applied .apply .ensures
     ∙ ap (λ x. settled (pointed (line-at told) x) (now (start .args .image)) (now (start .args .map)))
-    (take-applied flashSize _ _ _ _ (pre .1) (pre .2) (pre .3) _ (passed told) (spelt told))
+    (take-applied _ _ _ (start .args .image .now) (start .args .map .now) refl (omega (arith, pre .1))
+    (pre .3) _ (passed told) (spelt told))
 
 pub take-spec : {M : Type 1} → statement M
 take-spec =

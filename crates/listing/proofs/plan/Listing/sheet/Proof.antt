@@ -5,7 +5,7 @@ use mathlib.Core.Path.{_≡_, refl, sym, ap, _∙_}
 use native.Mathlib.Omega.{arith}
 use borrow.Author.Needs.{needs}
 use lib.ListN.{length, drop, length-append}
-use Rattle.basis.specs.Board.{pages}
+use Rattle.basis.specs.Board.{pagesOf}
 use Rattle.basis.specs.Laws.Lists.{copy-overlay}
 use Rattle.basis.specs.Lists.{overlay, stored, copyOf}
 use Rattle.basis.specs.declared.kind.RunKind.{RunKind}
@@ -21,8 +21,8 @@ use Rattle.listing.proofs.plan.Listing.sheet.Statement.{statement}
 use Rattle.listing.proofs.plan.Listing.sheet.Tie as tie
 
 -- what is left to write from a listing on
-abbrev left : List ℕ → List ℕ → ℕ → Listing → Sheet
-left image m room l = sheetOf room (l .listed) (drop (l .listed) (plan pages image m RunKind.Reset))
+abbrev left : ℕ → List ℕ → List ℕ → ℕ → Listing → Sheet
+left board image m room l = sheetOf room (l .listed) (drop (l .listed) (plan board image m RunKind.Reset))
 
 -- sheet g was to be written into old; the buffer holds it up to `at`, and h is left
 record Writing (g : Sheet) (old buffer : List ℕ) (at : ℕ) (h : Sheet) : Type 0 where
@@ -32,16 +32,16 @@ record Writing (g : Sheet) (old buffer : List ℕ) (at : ℕ) (h : Sheet) : Type
   long : at + length (h .text) ≡ length (g .text)
   count : h .listed ≡ g .listed
 
-writing-start : (image m old : List ℕ) (l : Listing)
-    → Writing (left image m (length old) l) old old 0 (left image m (length old - 0) l)
-writing-start image m old l =
+writing-start : (board : ℕ) (image m old : List ℕ) (l : Listing)
+    → Writing (left board image m (length old) l) old old 0 (left board image m (length old - 0) l)
+writing-start board image m old l =
     let e : length old - 0 ≡ length old = omega arith in
     rw e (record { same = refl; inside = omega arith; text = refl; long = omega arith; count = refl })
 
-module _ (image m old : List ℕ) (g : Sheet) (l : Listing) (h : Listed pages image m l) (buffer : List ℕ)
-    (at : ℕ) (w : Writing g old buffer at (left image m (length buffer - at) l)) where
-  ended : left image m (length buffer - at) l ≡ sheet [] (l .listed)
-      → (l ≡ listingAt pages m (g .listed)) × (at ≡ length (g .text)) × (buffer ≡ overlay (g .text) old)
+module _ (board : ℕ) (image m old : List ℕ) (g : Sheet) (l : Listing) (h : Listed board image m l)
+    (buffer : List ℕ) (at : ℕ) (w : Writing g old buffer at (left board image m (length buffer - at) l)) where
+  ended : left board image m (length buffer - at) l ≡ sheet [] (l .listed)
+      → (l ≡ listingAt board m (g .listed)) × (at ≡ length (g .text)) × (buffer ≡ overlay (g .text) old)
   unfolding stored
   ended e =
       let n : l .listed ≡ g .listed = sym (ap (λ (x : Sheet). x .listed) e) ∙ w .count in
@@ -49,7 +49,7 @@ module _ (image m old : List ℕ) (g : Sheet) (l : Listing) (h : Listed pages im
       (arith, sym (ap (λ (x : Sheet). at + length (x .text)) e) ∙ w .long) in
       let t : buffer ≡ copyOf old 0 (g .text) = sym (ap (λ (x : Sheet). copyOf buffer at (x .text)) e)
       ∙ w .text in (
-        h .stands ∙ ap (listingAt pages m) n,
+        h .stands ∙ ap (listingAt board m) n,
         k,
         t
             ∙ copy-overlay [] old (g .text) 0 refl (omega (arith, w .inside, w .same)),
@@ -57,23 +57,23 @@ module _ (image m old : List ℕ) (g : Sheet) (l : Listing) (h : Listed pages im
 
   -- no room for one more, or none is left
   writing-full : length buffer - at < longestLine
-      → (l ≡ listingAt pages m (g .listed)) × (at ≡ length (g .text)) × (buffer ≡ overlay (g .text) old)
+      → (l ≡ listingAt board m (g .listed)) × (at ≡ length (g .text)) × (buffer ≡ overlay (g .text) old)
   writing-full s =
       ended (sheet-full (length buffer - at) (l .listed)
-      (drop (l .listed) (plan pages image m RunKind.Reset)) s)
+      (drop (l .listed) (plan board image m RunKind.Reset)) s)
 
   writing-end : l .next ≡ Following.End
-      → (l ≡ listingAt pages m (g .listed)) × (at ≡ length (g .text)) × (buffer ≡ overlay (g .text) old)
+      → (l ≡ listingAt board m (g .listed)) × (at ≡ length (g .text)) × (buffer ≡ overlay (g .text) old)
   writing-end s =
-      ended (ap (sheetOf (length buffer - at) (l .listed)) (listed-end pages image m l h s)
+      ended (ap (sheetOf (length buffer - at) (l .listed)) (listed-end board image m l h s)
       ∙ sheet-end (length buffer - at) (l .listed))
 
   module _ (s : Step) (next-is : l .next ≡ Following.Step s) (room : longestLine ≤ length buffer - at) where
     abbrev line : List ℕ
-    line = stepLine (l .listed + 1) (resetPacketAt pages image m (l .listed))
+    line = stepLine (l .listed + 1) (resetPacketAt board image m (l .listed))
 
     -- and one less is left
-    writing-falls : (x : Listing) → x ≡ listingAt pages m (l .listed + 1)
+    writing-falls : (x : Listing) → x ≡ listingAt board m (l .listed + 1)
         → x .total - x .listed < l .total - l .listed
     writing-falls x e =
         omega (
@@ -81,25 +81,25 @@ module _ (image m old : List ℕ) (g : Sheet) (l : Listing) (h : Listed pages im
           ap (λ (y : Listing). y .listed) e,
           ap (λ (y : Listing). y .total) e,
           ap (λ (y : Listing). y .total) (h .stands),
-          listed-more pages image m l h s next-is,
+          listed-more board image m l h s next-is,
         )
 
     -- one line more
-    writing-next : (x : Listing) (b : List ℕ) (e : ℕ) → x ≡ listingAt pages m (l .listed + 1)
+    writing-next : (x : Listing) (b : List ℕ) (e : ℕ) → x ≡ listingAt board m (l .listed + 1)
         → length b ≡ length buffer
         → (e ≡ at + length line) × (b ≡ copyOf buffer at line) × (length line ≤ longestLine)
-        → Listed pages image m x × Writing g old b e (left image m (length b - e) x)
+        → Listed board image m x × Writing g old b e (left board image m (length b - e) x)
     writing-next x b e ex same f =
         let n : x .listed ≡ l .listed + 1 = ap (λ (y : Listing). y .listed) ex in
         let rest : Sheet = sheetOf (length buffer - at - length line) (l .listed + 1)
-        (drop (l .listed + 1) (plan pages image m RunKind.Reset)) in
-        let q : left image m (length buffer - at) l ≡ sheet (line ++ rest .text) (rest .listed) =
-        ap (sheetOf (length buffer - at) (l .listed)) (listed-left pages image m l h s next-is)
-        ∙ sheet-line (length buffer - at) (l .listed) (resetPacketAt pages image m (l .listed))
-        (drop (l .listed + 1) (plan pages image m RunKind.Reset)) room in
+        (drop (l .listed + 1) (plan board image m RunKind.Reset)) in
+        let q : left board image m (length buffer - at) l ≡ sheet (line ++ rest .text) (rest .listed) =
+        ap (sheetOf (length buffer - at) (l .listed)) (listed-left board image m l h s next-is)
+        ∙ sheet-line (length buffer - at) (l .listed) (resetPacketAt board image m (l .listed))
+        (drop (l .listed + 1) (plan board image m RunKind.Reset)) room in
         let r : length b - e ≡ length buffer - at - length line = omega (arith, f .0) in
-        let y : left image m (length b - e) x ≡ rest = rw (n, r) in (
-          next-listed pages image m l h s next-is x ex,
+        let y : left board image m (length b - e) x ≡ rest = rw (n, r) in (
+          next-listed board image m l h s next-is x ex,
           rw y (record {
             same = same ∙ w .same;
             inside = omega (arith, f .0, f .2);
@@ -122,17 +122,21 @@ module _ (image m old : List ℕ) (g : Sheet) (l : Listing) (h : Listed pages im
         copy-from b e rest f = sym (copy-then buffer at line (rest .text) b e (f .0) (f .1))
 
 abbrev Inv-loop : tie.InvT-loop
-Inv-loop image map buffer₀ listing₀ at₀ buffer listing at =
-    Listed pages image map listing × Writing (left image map (length buffer₀) listing₀) buffer₀ buffer at
-    (left image map (length buffer - at) listing)
+Inv-loop board image map buffer₀ listing₀ at₀ buffer listing at =
+    Listed (pagesOf board) image map listing
+    × Writing (left (pagesOf board) image map (length buffer₀) listing₀) buffer₀ buffer at
+    (left (pagesOf board) image map (length buffer - at) listing)
 
 abbrev μ-loop : tie.MeasureT-loop
-μ-loop image map buffer₀ listing₀ at₀ buffer listing at = listing .total - listing .listed
+μ-loop board image map buffer₀ listing₀ at₀ buffer listing at = listing .total - listing .listed
 
 loop-holds : tie.Need-loop-holds Inv-loop μ-loop
 loop-holds c =
-    let a = c .before .before .before .args in
-    (c .before .before .before .pre, writing-start (a .image .now) (a .map .now) (a .buffer .now) (a .self))
+    let a = c .before .before .before .args in (
+      c .before .before .before .pre,
+      writing-start (pagesOf (a .board)) (a .image .now) (a .map .now)
+          (a .buffer .now) (a .self),
+    )
 
 -- the turn of the loop, as the places behind its tests and its line see it
 abbrev turn : tie.After-known-told Inv-loop μ-loop → tie.At-loop Inv-loop μ-loop
@@ -149,7 +153,7 @@ same-length c = omega (arith, c .before .before .loop .inv .1 .same)
 
 returns : tie.Need-returns Inv-loop μ-loop
 returns c =
-    let w = c .before .before .loop .inv in writing-end _ _ _ _ _ (w .0) _ _ (w .1) (c .enum-told .given .1)
+    let w = c .before .before .loop .inv in writing-end _ _ _ _ _ _ (w .0) _ _ (w .1) (c .enum-told .given .1)
 
 sub-if1 : tie.Need-sub-if1 Inv-loop μ-loop
 sub-if1 c = omega (arith, turn c .loop .inv .1 .inside)
@@ -159,7 +163,7 @@ same-length-2 c = omega (arith, turn (c .before) .loop .inv .1 .same)
 
 returns-2 : tie.Need-returns-2 Inv-loop μ-loop
 returns-2 c =
-    let w = turn (c .before) .loop .inv in writing-full _ _ _ _ _ (w .0) _ _ (w .1) (c .if1 .taken)
+    let w = turn (c .before) .loop .inv in writing-full _ _ _ _ _ _ (w .0) _ _ (w .1) (c .if1 .taken)
 
 line-requires : tie.Need-line-requires Inv-loop μ-loop
 line-requires c κs = (
@@ -172,7 +176,7 @@ loop-less : tie.Need-loop-less Inv-loop μ-loop
 loop-less c = let l = line-at c in
     let r = room-at l in
     let w = turn (r .before) .loop .inv in
-    writing-falls _ _ _ _ _ (w .0) _ _ (w .1) _ (r .before .before .next .given .1) (r .if1 .left) _
+    writing-falls _ _ _ _ _ _ (w .0) _ _ (w .1) _ (r .before .before .next .given .1) (r .if1 .left) _
     (l .line .ensures .0)
 
 loop-again : tie.Need-loop-again Inv-loop μ-loop
@@ -180,8 +184,9 @@ loop-again c = let l = line-at c in
     let r = room-at l in
     let w = turn (r .before) .loop .inv in
     let f = l .line .ensures in
-    writing-next _ _ _ _ _ (w .0) _ _ (w .1) _ (r .before .before .next .given .1) (r .if1 .left) _ _ _ (f .0)
-    (l .line .kept .1 .1 .1 .1 .0) (f .1, f .2, f .3)
+    writing-next _ _ _ _ _ _ (w .0) _ _ (w .1) _ (r .before .before .next .given .1) (r .if1 .left) _ _ _
+    (f .0)
+    (l .line .kept .1 .1 .1 .1 .1 .0) (f .1, f .2, f .3)
 
 pub sheet-spec : {M : Type 1} → statement M
 sheet-spec =

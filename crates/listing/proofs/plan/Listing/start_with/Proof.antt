@@ -1,7 +1,7 @@
 -- `start_with` meets its contract: the session's start decides.
 use mathlib.Core.Path.{sym, ap, _∙_}
 use borrow.Author.Needs.{needs}
-use Rattle.basis.specs.Board.{pages}
+use Rattle.basis.specs.Board.{pagesOf}
 use Rattle.basis.specs.Refusals.{given}
 use Rattle.listing.specs.Laws.Plan.{begins, start-refused}
 use Rattle.session.specs.Paper.{paperStepped}
@@ -19,7 +19,7 @@ opening-requires : tie.Need-opening-requires
 opening-requires c κs =
     let told = c .before .before .before in
     let a = entry told .args in
-    let s = begins pages (a .image .now) (a .map .now) _ (c .before .next .given .0 .0)
+    let s = begins (pagesOf (a .board)) (a .image .now) (a .map .now) _ (c .before .next .given .0 .0)
     (sym (ap paperStepped (c .before .next .given .1)) ∙ start-at told .start .ensures .0) in
     (s .0 .long, s .0 .some, s .1)
 
@@ -28,7 +28,7 @@ returns c =
     let next = c .before .before in
     let told = next .before .before in
     let a = entry told .args in
-    let s = begins pages (a .image .now) (a .map .now) _ (next .next .given .0 .0)
+    let s = begins (pagesOf (a .board)) (a .image .now) (a .map .now) _ (next .next .given .0 .0)
     (sym (ap paperStepped (next .next .given .1)) ∙ start-at told .start .ensures .0) in
     ap given (c .opening .ensures) ∙ sym (s .2)
 
@@ -36,7 +36,7 @@ returns-2 : tie.Need-returns-2
 returns-2 c =
     let told = c .before .before .before in
     let a = entry told .args in
-    start-refused pages (a .image .now) (a .map .now) _ _
+    start-refused (pagesOf (a .board)) (a .image .now) (a .map .now) _ _
     (sym (ap paperStepped (c .before .x .given .1)) ∙ start-at told .start .ensures .0)
 
 pub start-with-spec : {M : Type 1} → statement M

@@ -7,7 +7,8 @@ use native.Mathlib.Omega.{arith}
 use borrow.Author.Needs.{needs}
 use lib.ListN.{length, getD, take, drop, take-append-drop, length-drop, drop-of-length-le}
 use lib.Seq.{drop-cons, drop-drop, take-all}
-use Rattle.basis.specs.Board.{flashSize}
+use Rattle.basis.specs.Board.{pagesOf}
+use Rattle.basis.specs.Units.{startOf}
 use Rattle.listing.specs.Feed.{Fed, state, byteIn, feedIn}
 use Rattle.listing.specs.Paper.{paperReading}
 use Rattle.listing.specs.Laws.Feed.{feed-append}
@@ -46,13 +47,13 @@ module _ (size : ℕ) where
   feed-end s t i h = rw (drop-of-length-le t h)
 
 abbrev Inv-loop : tie.InvT-loop
-Inv-loop bytes line₀ image₀ map₀ reading₀ i₀ line image map reading i =
+Inv-loop board bytes line₀ image₀ map₀ reading₀ i₀ line image map reading i =
     (i ≤ length bytes) × (length image ≡ length image₀) × (length map ≡ length map₀) ×
-    (feedIn flashSize (state (paperReading reading) line image map) (drop i bytes) ≡ feedIn flashSize
-    (state (paperReading reading₀) line₀ image₀ map₀) bytes)
+    (feedIn (startOf (pagesOf board)) (state (paperReading reading) line image map) (drop i bytes)
+    ≡ feedIn (startOf (pagesOf board)) (state (paperReading reading₀) line₀ image₀ map₀) bytes)
 
 abbrev μ-loop : tie.MeasureT-loop
-μ-loop bytes line₀ image₀ map₀ reading₀ i₀ line image map reading i = length bytes - i
+μ-loop board bytes line₀ image₀ map₀ reading₀ i₀ line image map reading i = length bytes - i
 
 -- a turn's places, the last first: the stretch's, seen from where the byte lends the line; the test's; and
 -- the entry
@@ -75,14 +76,14 @@ loop-again c = (
       let keep = stretch .keep in
       let test = test-at stretch in
       let turn = test .before in
-      feed-next flashSize _ _ _ _ _ _ _ (test .loop-test .taken)
-      (rest-lent (entry turn .args .bytes .now) (turn .loop .i)) (keep .ensures .0) (keep .ensures .1 _ _)
+      feed-next _ _ _ _ _ _ _ _ (test .loop-test .taken)
+      (rest-lent (entry turn .args .bytes .now) (turn .loop .i)) (keep .ensures .0) (keep .ensures .1 _ _ _)
       (fed .byte .ensures)
       ∙ turn .loop .inv .3),
 )
 
 returns : tie.Need-returns Inv-loop μ-loop
-returns c = sym (feed-end flashSize _ _ _ (c .loop-test .left)) ∙ c .before .loop .inv .3
+returns c = sym (feed-end _ _ _ _ (c .loop-test .left)) ∙ c .before .loop .inv .3
 
 pub feed-spec : {M : Type 1} → statement M
 feed-spec =

@@ -12,23 +12,23 @@ use Rattle.listing.specs.declared.text.Text.{Text}
 use Rattle.listing.proofs.text.Reading.keep.Statement.{statement}
 use Rattle.listing.proofs.text.Reading.keep.Tie as tie
 
-module _ (size : ℕ) (r : Reading) (line : List ℕ) where
+module _ (r : Reading) (line : List ℕ) where
   keep-open : (t : Text) (bytes k : List ℕ) (q : Progress) (n : ℕ) → r ≡ Reading.Open t
-      → Keeps size (going t) line bytes q k n → Keeps size (paperReading r) line bytes q k n
+      → Keeps (going t) line bytes q k n → Keeps (paperReading r) line bytes q k n
   keep-open t bytes k q n e h = rw e h
 
-  keep-refused : (b : Blame) (image map : List ℕ) → r ≡ Reading.Refused b
+  keep-refused : (b : Blame) (size : ℕ) (image map : List ℕ) → r ≡ Reading.Refused b
       → state (stopped (paperBlame b)) line image map ≡ feedIn size (state (paperReading r) line image map) []
   unfolding feedIn
-  keep-refused b image map e = rw e
+  keep-refused b size image map e = rw e
 
 returns : tie.Need-returns
 returns c =
-    keep-open _ _ _ _ _ _ _ _ (c .before .before .before .before .before .self .given .1)
+    keep-open _ _ _ _ _ _ _ (c .before .before .before .before .before .self .given .1)
     (c .before .before .keep .ensures)
 
 returns-2 : tie.Need-returns-2
-returns-2 c = (search needs, λ image map. keep-refused _ _ _ _ image map (c .before .self2 .given .1))
+returns-2 c = (search needs, λ size image map. keep-refused _ _ _ size image map (c .before .self2 .given .1))
 
 pub keep-spec : {M : Type 1} → statement M
 keep-spec =

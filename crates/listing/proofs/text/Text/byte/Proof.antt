@@ -3,7 +3,6 @@ use Prim.Native.Nat.{ℕ}
 use mathlib.Core.List.{List}
 use mathlib.Core.Path.{_≡_, ap, sym, _∙_}
 use borrow.Author.Needs.{needs}
-use Rattle.basis.specs.Board.{flashSize}
 use Rattle.listing.specs.Laws.Feed.{byte-ends}
 use Rattle.listing.specs.Feed.{endedLength, fedLine, fedByte}
 use Rattle.listing.specs.declared.text.Text.{Text}
@@ -21,7 +20,7 @@ returns c =
     let taken = c .before .before .before .before in
     let counted = taken .before .before .before .before in
     taken .take .ensures
-    ∙ ended-by flashSize _ _ _ _ _ _ (counted .before .if1 .taken) (counted .ended .ensures)
+    ∙ ended-by _ _ _ _ _ _ _ (counted .before .if1 .taken) (counted .ended .ensures)
 
 returns-2 : tie.Need-returns-2
 returns-2 c =

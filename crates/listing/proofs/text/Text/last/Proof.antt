@@ -5,7 +5,6 @@ use Prim.Native.Nat.{ℕ}
 use mathlib.Core.List.{List}
 use mathlib.Core.Path.{_≡_, _∙_}
 use borrow.Author.Tests.{eq-eqb, ne-eqb}
-use Rattle.basis.specs.Board.{flashSize}
 use Rattle.listing.specs.Text.{going}
 use Rattle.listing.specs.Feed.{state, fedLine, lastIn}
 use Rattle.listing.specs.declared.text.Text.{Text}
@@ -27,7 +26,7 @@ returns c = last-none _ _ _ _ _ (omega (arith, c .if1 .taken))
 returns-2 : tie.Need-returns-2
 returns-2 c =
     let taken = c .before .before .before .before in
-    taken .take .ensures ∙ last-line flashSize _ _ _ _ (taken .before .before .before .if1 .left)
+    taken .take .ensures ∙ last-line _ _ _ _ _ (taken .before .before .before .if1 .left)
 
 pub last-spec : {M : Type 1} → statement M
 last-spec =

@@ -4,7 +4,6 @@ use mathlib.Core.List.{List}
 use mathlib.Core.Path.{_≡_, ap}
 use borrow.Author.Needs.{needs}
 use lib.ListN.{length, take}
-use Rattle.basis.specs.Board.{flashSize}
 use Rattle.image.specs.Hex.{Settled, settledAs, settled, recordIn}
 use Rattle.image.specs.Paper.{paperRead, paperRefusal}
 use Rattle.image.specs.Record.{pointed}
@@ -51,7 +50,7 @@ returns c =
     let recorded = record-at (c .before .before .before) in
     let lent = lent-at recorded in
     let a = entry lent .args in
-    took flashSize (a .self) (a .n) (a .line .now) _ _ (lent .before .wrapping-add-u64 .ensures)
+    took _ (a .self) (a .n) (a .line .now) _ _ (lent .before .wrapping-add-u64 .ensures)
     (lent .first .ensures) _ _ _ _ _ _ (c .before .next .given .1) (recorded .«record» .ensures)
 
 returns-2 : tie.Need-returns-2
@@ -59,7 +58,7 @@ returns-2 c =
     let recorded = record-at (c .before .before .before .before) in
     let lent = lent-at recorded in
     let a = entry lent .args in
-    refused flashSize (a .self) (a .n) (a .line .now) _ _ (lent .before .wrapping-add-u64 .ensures)
+    refused _ (a .self) (a .n) (a .line .now) _ _ (lent .before .wrapping-add-u64 .ensures)
     (lent .first .ensures) _ _ _ _ _ _ _ _ (c .before .before .refusal .given .1) (c .column-in .ensures)
     (recorded .«record» .ensures)
 

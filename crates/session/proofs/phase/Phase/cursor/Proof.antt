@@ -1,13 +1,12 @@
 -- `cursor` meets its contract: the cursor is the step's place.
 use mathlib.Core.Path.{sym, ap, _∙_}
 use borrow.Author.Needs.{needs}
-use Rattle.basis.specs.Board.{pages}
 use Rattle.session.specs.Phases.{cursorOf}
 use Rattle.session.proofs.phase.Phase.cursor.Statement.{statement}
 use Rattle.session.proofs.phase.Phase.cursor.Tie as tie
 
 returns-2 : tie.Need-returns-2
-returns-2 c = c .place .ensures ∙ sym (ap (cursorOf pages) (c .before .before .self .given .1))
+returns-2 c = c .place .ensures ∙ sym (ap (cursorOf _) (c .before .before .self .given .1))
 
 pub cursor-spec : {M : Type 1} → statement M
 cursor-spec =

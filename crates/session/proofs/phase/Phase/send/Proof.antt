@@ -1,7 +1,7 @@
 -- `send` meets its contract: the packet that is out is its step's.
 use mathlib.Core.Path.{refl, sym, ap, _∙_}
 use borrow.Author.Needs.{needs}
-use Rattle.basis.specs.Board.{pages}
+use Rattle.basis.specs.Board.{pagesOf}
 use Rattle.session.specs.Phases.{onStart}
 use Rattle.session.proofs.phase.Phase.send.Statement.{statement}
 use Rattle.session.proofs.phase.Phase.send.Tie as tie
@@ -12,7 +12,7 @@ send-requires c κs = let out = c .before .before in
       s .pre .0,
       s .pre .1,
       s .pre .2,
-      sym (ap (onStart pages (s .args .map .now)) (out .self .given .1)) ∙ s .pre .3,
+      sym (ap (onStart (pagesOf (s .args .board)) (s .args .map .now)) (out .self .given .1)) ∙ s .pre .3,
     )
 
 returns : tie.Need-returns

@@ -3,7 +3,7 @@ use Prim.Native.Nat.{ℕ}
 use mathlib.Core.List.{List, [], _∷_}
 use mathlib.Core.Path.{ap, sym, _∙_}
 use borrow.Author.Needs.{needs}
-use Rattle.basis.specs.Board.{pages}
+use Rattle.basis.specs.Board.{pagesOf}
 use Rattle.events.specs.Laws.Events.{greeting-or}
 use Rattle.events.specs.declared.ending.Awaited.{Awaited}
 use Rattle.events.specs.declared.event.Event.{Event}
@@ -21,7 +21,8 @@ others = 1 ∷ 2 ∷ 3 ∷ 4 ∷ []
 returns : tie.Need-returns
 returns c =
     let s = c .before .before .before .args in
-    c .over .ensures ∙ sym (heard-over pages (s .map .now) (s .self) Awaited.Greeting (s .event)
+    c .over .ensures
+    ∙ sym (heard-over (pagesOf (s .board)) (s .map .now) (s .self) Awaited.Greeting (s .event)
     (greeting-or (s .event)
     (λ q. absurd (another others Event.Greeting (s .event) tt (c .before .match .keys2) q)) (λ t. t)))
 
@@ -29,7 +30,7 @@ returns-2 : tie.Need-returns-2
 returns-2 c =
     let s = c .before .before .before .before .before .args in
     c .moved .ensures ∙ ap (λ (x : Phase). movedOf (s .self) x 0) (c .before .after .ensures)
-    ∙ sym (ap (heardBy pages (s .map .now) (s .self) Awaited.Greeting)
+    ∙ sym (ap (heardBy (pagesOf (s .board)) (s .map .now) (s .self) Awaited.Greeting)
     (c .before .before .enum-told .given .1))
 
 pub greeted-spec : {M : Type 1} → statement M

@@ -1,48 +1,24 @@
--- `proved` meets its contract: 20, 46, and else the mark.
-use mathlib.Core.Bool.{true}
-use mathlib.Core.Path.{_≡_, sym, _∙_}
-use borrow.Author.Tests.{not-true, not-false}
-use lib.ListN.{length}
-use Rattle.basis.specs.Board.{mapSize, pages}
-use Rattle.session.specs.Session.{fitsOf}
-use Rattle.session.proofs.Marks.{mark-size, mark-foreign, mark-given}
+-- `proved` meets its contract: the board that the session carries, or 65.
+use mathlib.Core.Path.{refl, sym, _∙_}
+use borrow.Author.Needs.{needs}
 use Rattle.session.proofs.session.Session.proved.Statement.{statement}
 use Rattle.session.proofs.session.Session.proved.Tie as tie
 
--- what each passed test says of the entry
-abbrev entry : tie.Else1 → tie.Start
-entry c = c .before .before
-
-long : (c : tie.Else1) → length (entry c .args .map .now) ≡ mapSize
-long c = c .if1 .left
-
-fitted : (c : tie.Else2)
-    → let a = entry (c .before .before) .args in fitsOf pages (a .map .now) (a .self) ≡ true
-fitted c = sym (c .before .fits2 .ensures) ∙ not-false _ (c .if2 .left)
-
 returns : tie.Need-returns
-returns c = mark-size _ _ _ (c .if1 .taken)
-
-fits-requires : tie.Need-fits-requires
-fits-requires c κs = long c
+returns c =
+    let told = c .before .before in
+    rw (sym (told .before .before .of .ensures) ∙ told .board .given .1) (c .proved-on .ensures)
 
 returns-2 : tie.Need-returns-2
-returns-2 c =
-    mark-foreign _ _ _ (long (c .before .before))
-    (sym (c .before .fits2 .ensures) ∙ not-true _ (c .if2 .taken))
-
-marked-requires : tie.Need-marked-requires
-marked-requires c κs = long (c .before .before)
-
-returns-3 : tie.Need-returns-3
-returns-3 c =
-    let e = c .before .before in
-    mark-given _ _ _ (long (e .before .before)) (fitted e) (sym (c .if3 .taken) ∙ c .before .marked .ensures)
-
-returns-4 : tie.Need-returns-4
-returns-4 c =
-    let e = c .before .before in
-    mark-given _ _ _ (long (e .before .before)) (fitted e) (sym (c .if3 .left) ∙ c .before .marked .ensures)
+returns-2 c = rw (sym (c .before .before .of .ensures) ∙ c .enum-told .given .1) refl
 
 pub proved-spec : {M : Type 1} → statement M
-proved-spec = tie.close (tie.spec returns fits-requires returns-2 marked-requires returns-3 returns-4)
+proved-spec =
+    tie.close
+    (tie.spec
+    (λ c κs. search needs)
+    (λ c. search needs)
+    (λ c κs. search needs)
+    (λ c. search needs)
+    returns
+    returns-2)

@@ -3,7 +3,8 @@ use mathlib.Core.Path.{ap, _∙_}
 use native.Mathlib.Omega.{arith}
 use borrow.Author.Needs.{needs}
 use lib.ListN.{length}
-use Rattle.basis.specs.Board.{pages}
+use Rattle.basis.specs.Board.{pagesOf}
+use Rattle.basis.specs.Laws.Boards.{pages-few}
 use Rattle.basis.specs.Lists.{overlay}
 use Rattle.order.specs.Laws.Totals.{total-most}
 use Rattle.session.specs.Laws.Fits.{fitting, came-most, came-start, took-start}
@@ -16,13 +17,15 @@ took-requires : tie.Need-took-requires
 took-requires c κs = let s = c .before .before .before in
     let m = s .args .map .now in
     let x = s .args .self in
-    let f = fitting pages m x (s .pre .3) in (
+    let board = pagesOf (s .args .board) in
+    let f = fitting board m x (s .pre .3) in (
       s .pre .1,
-      came-start pages m (s .pre .1) (x .kind) (x .acknowledged) (x .phase) (f .came-to),
+      came-start board m (s .pre .1) (x .kind) (x .acknowledged) (x .phase) (f .came-to),
       omega (
         arith,
-        came-most pages m (s .pre .1) (x .kind) (x .acknowledged) (x .phase) (f .came-to),
-        total-most pages m (x .kind),
+        came-most board m (s .pre .1) (x .kind) (x .acknowledged) (x .phase) (f .came-to),
+        total-most board m (x .kind),
+        pages-few (s .args .board),
       ),
     )
 
@@ -32,8 +35,8 @@ send-requires c κs = let s = c .before .before .before .before .before in
       s .pre .0,
       s .pre .1,
       s .pre .2,
-      ap (λ (x : Session). onStart pages m (x .phase)) (c .before .took .ensures)
-          ∙ took-start pages m (s .pre .1) (s .args .self) (s .args .event) (s .pre .3),
+      ap (λ (x : Session). onStart (pagesOf (s .args .board)) m (x .phase)) (c .before .took .ensures)
+          ∙ took-start (pagesOf (s .args .board)) m (s .pre .1) (s .args .self) (s .args .event) (s .pre .3),
     )
 
 returns : tie.Need-returns
@@ -43,10 +46,11 @@ returns c = let heard = c .before .before .before .before in
       e,
       c .before .before .send .ensures .0
           ∙ ap (λ (x : Session). length
-          (packetOut pages (s .image .now) (s .map .now) (s .self .kind) (x .phase))) e,
+          (packetOut (pagesOf (s .board)) (s .image .now) (s .map .now) (s .self .kind) (x .phase))) e,
       c .before .before .send .ensures .1
           ∙ ap (λ (x : Session). overlay
-          (packetOut pages (s .image .now) (s .map .now) (s .self .kind) (x .phase)) (s .buffer .now)) e,
+          (packetOut (pagesOf (s .board)) (s .image .now) (s .map .now) (s .self .kind) (x .phase))
+          (s .buffer .now)) e,
     )
 
 pub sent-spec : {M : Type 1} → statement M

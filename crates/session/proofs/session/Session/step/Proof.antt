@@ -1,89 +1,26 @@
--- `step` meets its contract: each test is a row of the table, in its order.
-use Prim.Native.Nat.{_≤_}
-use mathlib.Core.Path.{sym, ap, _∙_, _≡_}
-use mathlib.Core.Bool.{true, false}
+-- `step` meets its contract: the board that the session carries, or 65.
+use mathlib.Core.Path.{refl, sym, _∙_}
 use borrow.Author.Needs.{needs}
-use borrow.Author.Tests.{not-true, not-false}
-use lib.ListN.{length}
-use Rattle.basis.specs.Board.{flashSize, mapSize, pages}
-use Rattle.packet.specs.Packet.{packetMost}
-use Rattle.session.specs.Laws.Steps.{step-size, step-ended, step-foreign, step-taken, sizes-right}
-use Rattle.session.specs.Phases.{ended}
-use Rattle.session.specs.Session.{stepOf, rightSizes, fitsOf}
-use Rattle.session.proofs.Handing.{left-alone, handed}
 use Rattle.session.proofs.session.Session.step.Statement.{statement}
 use Rattle.session.proofs.session.Session.step.Tie as tie
 
--- what each passed test says of the entry
-abbrev entry : tie.Else1 → tie.Start
-entry c = c .before .before .before .before .before .before
-
-sized : (c : tie.Else1)
-    → let a = entry c .args in rightSizes pages (length (a .image .now)) (length (a .map .now))
-    (length (a .buffer .now)) ≡ true
-sized c = sym (c .before .right-sizes .ensures) ∙ not-false _ (c .if1 .left)
-
-right : (c : tie.Else1) → let a = entry c .args in
-    (length (a .image .now) ≡ flashSize) × (length (a .map .now) ≡ mapSize) ×
-    (packetMost ≤ length (a .buffer .now))
-right c =
-    let a = entry c .args in
-    sizes-right pages (length (a .image .now)) (length (a .map .now)) (length (a .buffer .now)) (sized c)
-
-going : (c : tie.Else2) → ended (entry (c .before .before) .args .self .phase) ≡ false
-going c = sym (c .before .ended .ensures) ∙ c .if2 .left
-
-fitted : (c : tie.Else3)
-    → let a = entry (c .before .before .before .before) .args in fitsOf pages (a .map .now) (a .self) ≡ true
-fitted c = sym (c .before .fits2 .ensures) ∙ not-false _ (c .if3 .left)
-
 returns : tie.Need-returns
 returns c =
-    left-alone _
-    (step-size pages _ _ _ _ _ (sym (c .before .right-sizes .ensures) ∙ not-true _ (c .if1 .taken)))
+    let at = c .before .before in
+    let told = at .before .before .before in
+    rw (sym (told .before .before .of .ensures) ∙ told .board .given .1) (at .step-on .ensures)
 
 returns-2 : tie.Need-returns-2
-returns-2 c =
-    left-alone _
-    (step-ended pages _ _ _ _ _ (sized (c .before .before)) (sym (c .before .ended .ensures) ∙ c .if2 .taken))
-
-fits-requires : tie.Need-fits-requires
-fits-requires c κs = right (c .before .before) .1
-
-returns-3 : tie.Need-returns-3
-returns-3 c =
-    left-alone _
-    (step-foreign pages _ _ _ _ _ (sized (c .before .before .before .before)) (going (c .before .before))
-    (sym (c .before .fits2 .ensures) ∙ not-true _ (c .if3 .taken)))
-
-sent-requires : tie.Need-sent-requires
-sent-requires c κs = let fits = c .before .before in
-    let z = right (fits .before .before .before .before) in (z .0, z .1, z .2, fitted fits)
-
-returns-4 : tie.Need-returns-4
-returns-4 c = let heard = c .before .before .before .before in
-    let fits = heard .before in
-    let goes-on = fits .before .before in
-    let sizes = goes-on .before .before in
-    let a = entry sizes .args in
-    let t = c .before .before .sent .ensures in
-    handed _ _ _
-    (sym (ap (stepOf pages (a .image .now) (a .map .now) (length (a .buffer .now)) (a .self))
-    (heard .classify .ensures))
-    ∙ step-taken pages _ _ _ _ _ (sized sizes) (going goes-on) (fitted fits))
-    (t .0) (t .1) (t .2)
+returns-2 c = rw (sym (c .before .before .of .ensures) ∙ c .enum-told .given .1) (refl, refl)
 
 pub step-spec : {M : Type 1} → statement M
 step-spec =
     tie.close
     (tie.spec
     (λ c κs. search needs)
-    returns
-    (λ c κs. search needs)
-    returns-2
-    fits-requires
-    returns-3
-    (λ c κs. search needs)
-    sent-requires
     (λ c. search needs)
-    returns-4)
+    (λ c κs. search needs)
+    (λ c. search needs)
+    (λ c. search needs)
+    returns
+    returns-2)

@@ -1,7 +1,7 @@
 -- `took` meets its contract: what is awaited decides which event goes on.
 use mathlib.Core.Path.{ap, sym, _∙_}
 use borrow.Author.Needs.{needs}
-use Rattle.basis.specs.Board.{pages}
+use Rattle.basis.specs.Board.{pagesOf}
 use Rattle.events.specs.declared.ending.Awaited.{Awaited}
 use Rattle.session.specs.Session.{heardBy, tookOf}
 use Rattle.session.proofs.session.Session.took.Statement.{statement}
@@ -13,7 +13,7 @@ returns c =
     let m = c .before .before in
     let s = m .before .before .before .args in
     c .greeted .ensures
-    ∙ sym (ap (λ (w : Awaited). heardBy pages (s .map .now) (s .self) w (s .event))
+    ∙ sym (ap (λ (w : Awaited). heardBy (pagesOf (s .board)) (s .map .now) (s .self) w (s .event))
     (sym (m .before .awaits .ensures) ∙ c .before .enum-told .given .1))
 
 returns-2 : tie.Need-returns-2
@@ -22,7 +22,7 @@ returns-2 c =
     let m = c .before .before in
     let s = m .before .before .before .args in
     c .answered .ensures
-    ∙ sym (ap (λ (w : Awaited). heardBy pages (s .map .now) (s .self) w (s .event))
+    ∙ sym (ap (λ (w : Awaited). heardBy (pagesOf (s .board)) (s .map .now) (s .self) w (s .event))
     (sym (m .before .awaits .ensures) ∙ c .before .enum-told2 .given .1))
 
 pub took-spec : {M : Type 1} → statement M
