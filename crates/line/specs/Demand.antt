@@ -20,7 +20,7 @@ use Rattle.session.specs.Session.{provedOf}
 use Rattle.session.specs.declared.phase.Phase.{Phase}
 use Rattle.session.specs.declared.session.Session.{Session}
 
--- the byte is marked proved: the session's own `proved` says so
+-- the byte is marked proved: the session's own `proved`, on its board, says so
 abbrev pub Proved : ℕ → List ℕ → Session → ℕ → Type 0
 Proved board m s a = provedOf board m s a ≡ given true
 

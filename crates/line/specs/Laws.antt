@@ -5,6 +5,7 @@ pub mod Stages
 pub mod Liveness
 pub mod Moments
 pub mod Demand
+pub mod Carried
 pub mod Rehearsal
 pub mod Worked
 pub mod Determined

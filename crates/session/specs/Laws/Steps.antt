@@ -1,26 +1,29 @@
 -- Laws of the start and of a step: each row of their tables, and what is given where no row holds.
 use Prim.Native.Nat.{ℕ, _≤_}
-use mathlib.Core.Bool.{true, false, not}
+use mathlib.Core.Bool.{Bool, true, false, not}
 use mathlib.Core.List.{List, [], _∷_}
 use mathlib.Core.Path.{_≡_, sym, ap, _∙_}
 use native.Mathlib.Omega.{arith}
 use borrow.Author.Tests.{eq-eqb, ne-eqb, eqb-true, eqb-false, leb-true}
 use lib.ListN.{length}
 use lib.Dec.{eqb, leb}
-use Rattle.basis.specs.Board.{openingByte}
+use Rattle.basis.specs.Board.{openingByte, pagesOf}
+use Rattle.basis.specs.Laws.Boards.{board-back}
 use Rattle.basis.specs.Laws.Choice.{decide, both-true}
-use Rattle.basis.specs.Laws.Refusals.{skip, stop, done, apart, given-one}
+use Rattle.basis.specs.Laws.Refusals.{skip, stop, done, passed, apart, given-one}
 use Rattle.basis.specs.Refusals.{refused, given}
 use Rattle.basis.specs.Laws.Units.{sizes-right as file-right}
 use Rattle.basis.specs.Units.{startOf, mapBytes, rightSizesIn}
+use Rattle.basis.specs.declared.board.Board.{Board}
 use Rattle.basis.specs.declared.kind.RunKind.{RunKind}
 use Rattle.events.specs.Endings.{goesOn}
+use Rattle.events.specs.Events.{classifyOf}
 use Rattle.events.specs.declared.ending.Awaited.{Awaited}
 use Rattle.events.specs.declared.event.Event.{Event}
 use Rattle.packet.specs.Packet.{packetMost}
 use Rattle.runs.specs.Pieces.{namedCount}
-use Rattle.session.specs.Phases.{ended}
-use Rattle.session.specs.Session.{atGreeting, measured, rightSizes, started, overOf, heardBy, sentOf, fitsOf, stepOf, Loadable}
+use Rattle.session.specs.Phases.{ended, awaitsOf}
+use Rattle.session.specs.Session.{atGreeting, Sent, measured, rightSizes, started, overOf, heardBy, tookOf, sentOf, fitsOf, stepOf, stepBy, provedOf, provedBy, Loadable}
 use Rattle.session.specs.declared.session.Next.{Next}
 use Rattle.session.specs.declared.session.Session.{Session}
 
@@ -97,3 +100,29 @@ module _ (board : ℕ) (image m : List ℕ) (room : ℕ) (s : Session) (e : Even
 pub heard-over : (board : ℕ) (m : List ℕ) (s : Session) (w : Awaited) (e : Event) → goesOn w e ≡ false
     → heardBy board m s w e ≡ overOf s w e
 heard-over board m s w e h = rw h
+
+-- ---- the board that a session carries
+
+-- no event changes it, nor does a step
+took-board : (board : ℕ) (m : List ℕ) (s : Session) (e : Event) → tookOf board m s e .board ≡ s .board
+unfolding tookOf
+took-board board m s e = decide (goesOn (awaitsOf (s .phase)) e) (λ t. rw t) (λ t. rw t)
+
+pub step-board : (board : ℕ) (image m : List ℕ) (room : ℕ) (s : Session) (e : Event) (x : Sent)
+    → stepOf board image m room s e ≡ given x → x .session .board ≡ s .board
+unfolding stepOf
+step-board board image m room s e x g =
+    let p = passed 20 _ _ _ g in
+    let q = passed 44 _ _ _ (p .1) in
+    let r = passed 46 _ _ _ (q .1) in
+    sym (ap (λ (y : Sent). y .session .board) (given-one (sym (done _) ∙ r .1))) ∙ took-board board m s e
+
+-- on it, step and mark are those of that board
+module _ (b : Board) (s : Session) (own : s .board ≡ pagesOf b) (image m : List ℕ) where
+  pub step-own : (room : ℕ) (silent : Bool) (answer : List ℕ)
+      → stepBy image m room s silent answer
+      ≡ stepOf (pagesOf b) image m room s (classifyOf (pagesOf b) silent answer)
+  step-own room silent answer = rw (own, board-back b)
+
+  pub proved-own : (a : ℕ) → provedBy m s a ≡ provedOf (pagesOf b) m s a
+  proved-own a = rw (own, board-back b)
