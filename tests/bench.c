@@ -5,9 +5,11 @@
  *   step-full, step-worst    one step of a session, turn after turn at another piece
  *   full, worst              a whole session of the host, every packet acknowledged
  *
+ * These are for the short board; all but w and v are there for the long one too, with `-long` behind the name.
+ *
  * Each writes one line: the bytes that its turns gave, a sum over all buffers, and the nanoseconds of all turns.
- * `second bench` has the same jobs over the same bytes and must give the same two numbers. `bench hex 0` writes the
- * full hex file instead. */
+ * `second bench` has the same jobs over the same bytes, but for whole sessions of the long board, and must give the
+ * same two numbers. `bench hex 0` and `bench hex-long 0` write the full hex file instead. */
 #define _POSIX_C_SOURCE 199309L
 #include "gremolunde.h"
 #include <stdio.h>
@@ -15,18 +17,36 @@
 #include <string.h>
 #include <time.h>
 
-#define RECORDS (GREMOLUNDE_IMAGE / 16 + 1)
+#define MOST_RECORDS (GREMOLUNDE_LONG_IMAGE / 16 + 2)
 #define PIECE 250
 #define WORST_MAP 0x55 /* every second byte */
 #define FULL_MAP 0xFF
 #define ACK 0x06
 
-static uint8_t image[GREMOLUNDE_IMAGE], map[GREMOLUNDE_MAP], flash[GREMOLUNDE_FLASH];
+/* A board: its sizes, the records of its full hex file, and how it greets. */
+typedef struct sizes {
+    uint32_t pages;
+    uint32_t image; /* and flash */
+    uint32_t map;
+    size_t records; /* the last is the end record; past 64 KiB one is of type 04 */
+    const char *greeting;
+} sizes;
+
+static const sizes short_board = {GREMOLUNDE_SHORT, GREMOLUNDE_SHORT_IMAGE, GREMOLUNDE_SHORT_MAP,
+                                  GREMOLUNDE_SHORT_IMAGE / 16 + 1, "ADuC702x   -62 I31    \n\r"};
+static const sizes long_board = {GREMOLUNDE_LONG, GREMOLUNDE_LONG_IMAGE, GREMOLUNDE_LONG_MAP,
+                                 GREMOLUNDE_LONG_IMAGE / 16 + 2, "ADuC702x   -124I31    \n\r"};
+
+/* The board of the job in hand, and what is lent for it; of the arrays it has their first bytes. */
+static sizes board;
+static uint8_t image[GREMOLUNDE_LONG_IMAGE], map[GREMOLUNDE_LONG_MAP], flash[GREMOLUNDE_LONG_FLASH];
 static uint8_t packet[GREMOLUNDE_PACKET], answer[GREMOLUNDE_ANSWER];
-static uint8_t lines[RECORDS][GREMOLUNDE_HEX_RECORD];
-static size_t lengths[RECORDS];
-static gremolunde_loader board;
+static uint8_t lines[MOST_RECORDS][GREMOLUNDE_HEX_RECORD];
+static size_t lengths[MOST_RECORDS];
+static gremolunde_loader loader;
 static gremolunde_session begun;
+
+#define FILE_LENT image, board.image, map, board.map
 
 static void must(int good, const char *what) {
     if (!good) {
@@ -35,12 +55,13 @@ static void must(int good, const char *what) {
     }
 }
 
-static void make_file(int named) {
+static void make_file(sizes of, int named) {
     uint32_t i;
-    for (i = 0; i < GREMOLUNDE_IMAGE; i++) {
+    board = of;
+    for (i = 0; i < board.image; i++) {
         image[i] = (uint8_t)(i * 167 + i / 256 * 13);
     }
-    memset(map, named, sizeof map);
+    memset(map, named, board.map);
 }
 
 /* Each byte added to 31 times what was before. */
@@ -54,60 +75,62 @@ static uint64_t summed(const uint8_t *bytes, size_t length) {
 }
 
 static uint64_t write_records(uint64_t k) {
-    gremolunde_hex_written written = {0, 0, 0};
+    gremolunde_hex_written written = {0, 0, 0, 0};
     uint64_t characters = 0;
-    size_t i;
+    size_t i, records = board.records;
     (void)k;
-    for (i = 0; i < RECORDS; i++) {
-        written = gremolunde_hex_write(image, sizeof image, map, sizeof map, written.next, lines[i], sizeof lines[i]);
+    for (i = 0; i < records; i++) {
+        written = gremolunde_hex_write(board.pages, FILE_LENT, written.next, written.upper, lines[i], sizeof lines[i]);
         lengths[i] = written.length;
         characters += written.length;
     }
-    must(written.number == 0 && written.next == GREMOLUNDE_IMAGE + 1, "writing");
+    must(written.number == 0 && written.next == board.image + 1, "writing");
     return characters;
 }
 
 static uint64_t read_records(uint64_t k) {
-    gremolunde_hex_read read = gremolunde_hex_start(image, sizeof image, map, sizeof map);
-    size_t i;
+    gremolunde_hex_read read = gremolunde_hex_start(board.pages, FILE_LENT);
+    size_t i, records = board.records;
     (void)k;
-    for (i = 0; i < RECORDS; i++) {
-        read = gremolunde_hex_record(read.reader, lines[i], lengths[i] - 1, image, sizeof image, map, sizeof map);
+    for (i = 0; i < records; i++) {
+        read = gremolunde_hex_record(read.reader, lines[i], lengths[i] - 1, FILE_LENT);
     }
     must(read.number == 0 && gremolunde_hex_close(read.reader).number == 0, "reading");
-    return sizeof image;
+    return board.image;
 }
 
-/* A board that serves, and holds the bytes that V asks for. */
-static void make_board(uint8_t command) {
+static gremolunde_taken take_input(const uint8_t *input, size_t length) {
+    return gremolunde_loader_take(board.pages, loader, input, length, flash, board.image, answer, sizeof answer);
+}
+
+/* A loader that serves, and whose flash holds the bytes that V asks for. */
+static void make_loader(uint8_t command) {
     uint8_t hello = 0x08;
     gremolunde_length built =
         gremolunde_packet_build(packet, sizeof packet, command, 0x1234, image + 0x1234, PIECE);
-    memcpy(flash, image, sizeof flash);
-    board = gremolunde_loader_take(gremolunde_loader_new(), &hello, 1, flash, sizeof flash, answer, sizeof answer)
-                .loader;
+    memcpy(flash, image, board.image);
+    loader = gremolunde_loader_new();
+    loader = take_input(&hello, 1).loader;
     must(built.length == sizeof packet, "building");
 }
 
 static uint64_t take(uint64_t k) {
-    gremolunde_taken taken =
-        gremolunde_loader_take(board, packet, sizeof packet, flash, sizeof flash, answer, sizeof answer);
+    gremolunde_taken taken = take_input(packet, sizeof packet);
     (void)k;
     must(taken.number == 0, "taking");
-    board = taken.loader;
+    loader = taken.loader;
     return taken.answered;
 }
 
 static gremolunde_session_stepped start(void) {
     gremolunde_session_stepped now =
-        gremolunde_session_start(GREMOLUNDE_RESET, image, sizeof image, map, sizeof map, packet, sizeof packet);
+        gremolunde_session_start(board.pages, GREMOLUNDE_RESET, FILE_LENT, packet, sizeof packet);
     must(now.number == 0, "starting");
     return now;
 }
 
 static gremolunde_session_stepped step(gremolunde_session session, const uint8_t *heard, size_t length) {
-    return gremolunde_session_step(session, 0, heard, length, image, sizeof image, map, sizeof map, packet,
-                                   sizeof packet);
+    return gremolunde_session_step(session, 0, heard, length, FILE_LENT, packet, sizeof packet);
 }
 
 /* The session after E and so many pieces written, or all written and so many verified. */
@@ -130,12 +153,11 @@ static uint64_t step_spread(uint64_t k, uint32_t pieces, uint32_t apart) {
 
 /* A whole session; gives the bytes that went over the line, both ways. */
 static uint64_t whole_session(uint64_t k) {
-    static const char greeting[] = "ADuC702x   -62 I31    \n\r";
     static const uint8_t ack[] = {ACK};
     gremolunde_session_stepped now = start();
     uint64_t bytes = now.length + GREMOLUNDE_ANSWER;
     (void)k;
-    now = step(now.session, (const uint8_t *)greeting, GREMOLUNDE_ANSWER);
+    now = step(now.session, (const uint8_t *)board.greeting, GREMOLUNDE_ANSWER);
     while (now.length > 0) {
         bytes += now.length + sizeof ack;
         now = step(now.session, ack, sizeof ack);
@@ -144,32 +166,39 @@ static uint64_t whole_session(uint64_t k) {
     return bytes;
 }
 
-static uint64_t step_full(uint64_t k) { return step_spread(k, (GREMOLUNDE_IMAGE + PIECE - 1) / PIECE, PIECE); }
+static uint64_t step_full(uint64_t k) { return step_spread(k, (board.image + PIECE - 1) / PIECE, PIECE); }
 
-static uint64_t step_worst(uint64_t k) { return step_spread(k, GREMOLUNDE_IMAGE / 2, 2); }
+static uint64_t step_worst(uint64_t k) { return step_spread(k, board.image / 2, 2); }
 
 static void prepare_records(void) { write_records(0); }
 
-static void prepare_w(void) { make_board(0x57); }
+static void prepare_w(void) { make_loader(0x57); }
 
-static void prepare_v(void) { make_board(0x56); }
+static void prepare_v(void) { make_loader(0x56); }
 
 static void prepare_session(void) { begun = start().session; }
 
 static const struct job {
     const char *name;
+    const sizes *board;
     int map;
     void (*prepare)(void);
     uint64_t (*turn)(uint64_t k);
 } jobs[] = {
-    {"read", FULL_MAP, prepare_records, read_records},
-    {"write", FULL_MAP, prepare_records, write_records},
-    {"w", FULL_MAP, prepare_w, take},
-    {"v", FULL_MAP, prepare_v, take},
-    {"step-full", FULL_MAP, prepare_session, step_full},
-    {"step-worst", WORST_MAP, prepare_session, step_worst},
-    {"full", FULL_MAP, prepare_session, whole_session},
-    {"worst", WORST_MAP, prepare_session, whole_session},
+    {"read", &short_board, FULL_MAP, prepare_records, read_records},
+    {"write", &short_board, FULL_MAP, prepare_records, write_records},
+    {"w", &short_board, FULL_MAP, prepare_w, take},
+    {"v", &short_board, FULL_MAP, prepare_v, take},
+    {"step-full", &short_board, FULL_MAP, prepare_session, step_full},
+    {"step-worst", &short_board, WORST_MAP, prepare_session, step_worst},
+    {"full", &short_board, FULL_MAP, prepare_session, whole_session},
+    {"worst", &short_board, WORST_MAP, prepare_session, whole_session},
+    {"read-long", &long_board, FULL_MAP, prepare_records, read_records},
+    {"write-long", &long_board, FULL_MAP, prepare_records, write_records},
+    {"step-full-long", &long_board, FULL_MAP, prepare_session, step_full},
+    {"step-worst-long", &long_board, WORST_MAP, prepare_session, step_worst},
+    {"full-long", &long_board, FULL_MAP, prepare_session, whole_session},
+    {"worst-long", &long_board, WORST_MAP, prepare_session, whole_session},
 };
 
 static uint64_t nanoseconds(void) {
@@ -180,22 +209,22 @@ static uint64_t nanoseconds(void) {
 
 static void repeat(const struct job *job, uint64_t times) {
     uint64_t k, began, took, given = 0, sum;
-    make_file(job->map);
+    make_file(*job->board, job->map);
     job->prepare();
     began = nanoseconds();
     for (k = 0; k < times; k++) {
         given += job->turn(k);
     }
     took = nanoseconds() - began;
-    sum = summed(image, sizeof image) + summed(flash, sizeof flash) + summed(packet, sizeof packet);
+    sum = summed(image, board.image) + summed(flash, board.image) + summed(packet, sizeof packet);
     printf("%llu %llu %llu\n", (unsigned long long)given, (unsigned long long)sum, (unsigned long long)took);
 }
 
-static void print_file(void) {
+static void print_file(sizes of) {
     size_t i;
-    make_file(FULL_MAP);
+    make_file(of, FULL_MAP);
     write_records(0);
-    for (i = 0; i < RECORDS; i++) {
+    for (i = 0; i < board.records; i++) {
         must(fwrite(lines[i], 1, lengths[i], stdout) == lengths[i], "printing");
     }
 }
@@ -208,8 +237,8 @@ int main(int count, char **words) {
             return 0;
         }
     }
-    if (count == 3 && strcmp(words[1], "hex") == 0) {
-        print_file();
+    if (count == 3 && (strcmp(words[1], "hex") == 0 || strcmp(words[1], "hex-long") == 0)) {
+        print_file(strcmp(words[1], "hex") == 0 ? short_board : long_board);
         return 0;
     }
     fprintf(stderr, "usage: bench JOB TIMES\n");

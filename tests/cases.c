@@ -84,6 +84,11 @@ static void give_address(uint32_t a) {
     give_bytes(bytes, sizeof bytes);
 }
 
+static void give_half(uint16_t half) {
+    uint8_t bytes[] = {(uint8_t)(half >> 8), (uint8_t)half};
+    give_bytes(bytes, sizeof bytes);
+}
+
 /* Input. */
 
 typedef struct word {
@@ -189,13 +194,27 @@ static int byte_of(word w, uint8_t *byte) {
     return bytes_of(w, 1, byte, &length) && length == 1;
 }
 
-static int address_of(word w, uint32_t *a) {
-    uint8_t b[4];
-    size_t length;
-    if (!bytes_of(w, 4, b, &length) || length != 4) {
+/* The number of so many bytes, at most four. */
+static int whole_of(word w, size_t size, uint32_t *n) {
+    uint8_t bytes[4];
+    size_t i, length;
+    if (!bytes_of(w, size, bytes, &length) || length != size) {
         return 0;
     }
-    *a = (uint32_t)b[0] << 24 | (uint32_t)b[1] << 16 | (uint32_t)b[2] << 8 | b[3];
+    for (*n = 0, i = 0; i < size; i++) {
+        *n = *n << 8 | bytes[i];
+    }
+    return 1;
+}
+
+static int address_of(word w, uint32_t *a) { return whole_of(w, 4, a); }
+
+static int half_of(word w, uint16_t *half) {
+    uint32_t n;
+    if (!whole_of(w, 2, &n)) {
+        return 0;
+    }
+    *half = (uint16_t)n;
     return 1;
 }
 
@@ -430,6 +449,7 @@ static int same(int of, const void *a, const void *b) {
 
 /* What is kept. */
 
+static uint32_t board = GREMOLUNDE_SHORT;
 static gremolunde_loader loader;
 static gremolunde_hex reader;
 static gremolunde_session session;
@@ -575,6 +595,16 @@ static int ask_changed(const word *words) {
     return 1;
 }
 
+static int ask_board(const word *words) {
+    uint64_t pages;
+    if (!number_of(words[0], UINT32_MAX, &pages)) {
+        return 0;
+    }
+    board = (uint32_t)pages;
+    give_number(0);
+    return 1;
+}
+
 static int ask_loader(const word *words) { return KEEP(words, gremolunde_loader, loader); }
 
 static int ask_reader(const word *words) { return KEEP(words, gremolunde_hex, reader); }
@@ -668,7 +698,7 @@ static int ask_take(const word *words) {
     if (!bring_bytes(words[0]) || !lend(BIT(INPUT), BIT(FLASH) | BIT(ANSWER))) {
         return 0;
     }
-    taken = gremolunde_loader_take(loader, LENT(INPUT), LENT(FLASH), LENT(ANSWER));
+    taken = gremolunde_loader_take(board, loader, LENT(INPUT), LENT(FLASH), LENT(ANSWER));
     give_number(taken.number);
     give_part(parts[ANSWER], taken.answered);
     if (taken.number == 0) {
@@ -696,7 +726,7 @@ static int give_reader(gremolunde_hex_read read, gremolunde_hex back) {
 static int ask_hex(const word *words) {
     (void)words;
     return lend(0, BIT(IMAGE) | BIT(MAP)) &&
-           give_reader(gremolunde_hex_start(LENT(IMAGE), LENT(MAP)), (gremolunde_hex){0});
+           give_reader(gremolunde_hex_start(board, LENT(IMAGE), LENT(MAP)), (gremolunde_hex){0});
 }
 
 static int take_record(void) {
@@ -717,12 +747,14 @@ static int ask_write(const word *words) {
     gremolunde_hex_written written;
     const char *text;
     uint32_t from;
-    if (!address_of(words[0], &from) || !lend(BIT(IMAGE) | BIT(MAP), BIT(RECORD))) {
+    uint16_t upper;
+    if (!address_of(words[0], &from) || !half_of(words[1], &upper) ||
+        !lend(BIT(IMAGE) | BIT(MAP), BIT(RECORD))) {
         return 0;
     }
-    written = gremolunde_hex_write(LENT(IMAGE), LENT(MAP), from, LENT(RECORD));
+    written = gremolunde_hex_write(board, LENT(IMAGE), LENT(MAP), from, upper, LENT(RECORD));
     give_number(written.number);
-    hold(written.number == 0 || (written.next == from && written.length == 0));
+    hold(written.number == 0 || (written.next == from && written.upper == upper && written.length == 0));
     hold(written.length <= parts[RECORD].length);
     if (written.number != 0 || written.length > parts[RECORD].length) {
         return 1;
@@ -730,6 +762,7 @@ static int ask_write(const word *words) {
     text = (const char *)parts[RECORD].bytes;
     give_text(text, written.length - (written.length > 0 && text[written.length - 1] == '\n'));
     give_address(written.next);
+    give_half(written.upper);
     return 1;
 }
 
@@ -761,7 +794,7 @@ static int give_stepped(gremolunde_session_stepped stepped, gremolunde_session b
 static int ask_start(const word *words) {
     uint32_t kind;
     return kind_of(words[0], &kind) && lend(BIT(IMAGE) | BIT(MAP), BIT(PACKET)) &&
-           give_stepped(gremolunde_session_start(kind, LENT(IMAGE), LENT(MAP), LENT(PACKET)),
+           give_stepped(gremolunde_session_start(board, kind, LENT(IMAGE), LENT(MAP), LENT(PACKET)),
                         (gremolunde_session){0});
 }
 
@@ -819,7 +852,7 @@ static int ask_rehearse(const word *words) {
         !lend(BIT(INPUT) | BIT(IMAGE) | BIT(MAP), BIT(FLASH))) {
         return 0;
     }
-    load = gremolunde_rehearse(kind, loader, LENT(INPUT), LENT(IMAGE), LENT(MAP), LENT(FLASH));
+    load = gremolunde_rehearse(board, kind, loader, LENT(INPUT), LENT(IMAGE), LENT(MAP), LENT(FLASH));
     give_number(load.number);
     if (load.number != 0) {
         hold(SAME(gremolunde_loader, load.loader, loader) && ZERO(gremolunde_session, load.session));
@@ -869,7 +902,7 @@ static int ask_logread(const word *words) {
 /* Lines. */
 
 /* A record has no more fields. */
-#define WORDS 8
+#define WORDS 9
 
 /* Each request with how many words it takes, at least and at most. */
 static const struct request {
@@ -882,6 +915,7 @@ static const struct request {
     {"put", 3, 3, ask_put},
     {"look", 3, 3, ask_look},
     {"changed", 0, 0, ask_changed},
+    {"board", 1, 1, ask_board},
     {"loader", 0, WORDS, ask_loader},
     {"reader", 0, WORDS, ask_reader},
     {"session", 0, WORDS, ask_session},
@@ -896,7 +930,7 @@ static const struct request {
     {"record", 1, 1, ask_record},
     {"line", 1, 1, ask_line},
     {"close", 0, 0, ask_close},
-    {"write", 1, 1, ask_write},
+    {"write", 2, 2, ask_write},
     {"start", 1, 1, ask_start},
     {"answer", 1, 1, ask_answer},
     {"silence", 0, 0, ask_silence},
@@ -956,9 +990,9 @@ static void answer(word line) {
 
 static void begin(void) {
     static const uint8_t bytes[] = {0xFF, 0xAA, 0xFF, 0x00, 0xAA, 0xAA, 0xAA, 0xAA, 0xAA, 0xAA};
-    static const size_t lengths[] = {GREMOLUNDE_FLASH,      GREMOLUNDE_ANSWER, GREMOLUNDE_IMAGE,
-                                     GREMOLUNDE_MAP,        GREMOLUNDE_PACKET, GREMOLUNDE_HEX_RECORD,
-                                     GREMOLUNDE_LOG};
+    static const size_t lengths[] = {GREMOLUNDE_SHORT_FLASH, GREMOLUNDE_ANSWER, GREMOLUNDE_SHORT_IMAGE,
+                                     GREMOLUNDE_SHORT_MAP,   GREMOLUNDE_PACKET, GREMOLUNDE_HEX_RECORD,
+                                     GREMOLUNDE_SHORT_LOG};
     int b;
     for (b = 0; b < BUFFERS; b++) {
         fill(part_at(b, 0, CAPACITY), bytes[b]);
@@ -969,7 +1003,7 @@ static void begin(void) {
     }
     brought_to = part_at(INPUT, 0, 0);
     loader = gremolunde_loader_new();
-    reader = gremolunde_hex_start(LENT(IMAGE), LENT(MAP)).reader;
+    reader = gremolunde_hex_start(board, LENT(IMAGE), LENT(MAP)).reader;
 }
 
 int main(void) {

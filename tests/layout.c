@@ -17,7 +17,7 @@ static void hold(int holds, const char *what) {
 
 static void structs(void) {
     /* whoever changes fields.h, or the meaning of a number in a struct, raises it */
-    HOLD(GREMOLUNDE_VERSION == 3);
+    HOLD(GREMOLUNDE_VERSION == 4);
     HOLD(sizeof(size_t) == 8);
 #define STRUCT(type, size) HOLD(sizeof(type) == (size));
 #define FIELD(type, name, place, size)     \
@@ -26,49 +26,74 @@ static void structs(void) {
 #include "fields.h"
 }
 
-/* An image whose first bytes are its map too: address 0 alone is named. */
-static const uint8_t both[GREMOLUNDE_IMAGE] = {0x01};
+/* A board with the sizes that the header gives for it. */
+typedef struct sizes {
+    uint32_t board;
+    size_t flash, image, map;
+} sizes;
 
-static uint8_t image[GREMOLUNDE_IMAGE], map[GREMOLUNDE_MAP], flash[GREMOLUNDE_FLASH];
+static const sizes boards[] = {
+    {GREMOLUNDE_SHORT, GREMOLUNDE_SHORT_FLASH, GREMOLUNDE_SHORT_IMAGE, GREMOLUNDE_SHORT_MAP},
+    {GREMOLUNDE_LONG, GREMOLUNDE_LONG_FLASH, GREMOLUNDE_LONG_IMAGE, GREMOLUNDE_LONG_MAP},
+};
+
+/* An image whose first bytes are its map too: address 0 alone is named. */
+static const uint8_t both[GREMOLUNDE_LONG_IMAGE] = {0x01};
+
+/* As long as the longer board asks for; the other is lent their first bytes. */
+static uint8_t image[GREMOLUNDE_LONG_IMAGE], map[GREMOLUNDE_LONG_MAP], flash[GREMOLUNDE_LONG_FLASH];
 static uint8_t packet[GREMOLUNDE_PACKET], answer[GREMOLUNDE_ANSWER], text[GREMOLUNDE_HEX_RECORD];
 
 static void packets(void) {
-    static const uint8_t plain[] = {0x12}, hello[] = {0x08};
+    static const uint8_t plain[] = {0x12};
     static const uint8_t input[] = {0x07, 0x0E, 0x05, 0x52, 0, 0, 0, 1, 0xA8};
-    gremolunde_loader loader = gremolunde_loader_new();
     HOLD(gremolunde_packet_build(packet, sizeof packet, 'W', 0, plain, sizeof plain).number == 0);
     HOLD(gremolunde_packet_read(input, sizeof input).number == 0);
-    HOLD(gremolunde_loader_take(loader, hello, 1, flash, sizeof flash, answer, sizeof answer).number == 0);
 }
 
-static void files(void) {
+static void loaders(sizes s) {
+    static const uint8_t hello[] = {0x08};
+    gremolunde_loader loader = gremolunde_loader_new();
+    HOLD(gremolunde_loader_take(s.board, loader, hello, 1, flash, s.flash, answer, sizeof answer).number == 0);
+}
+
+static void files(sizes s) {
     static const uint8_t line[] = {':', '0', '0', '0', '0', '0', '0', '0', '1', 'F', 'F'};
-    gremolunde_hex reader = gremolunde_hex_start(image, sizeof image, map, sizeof map).reader;
-    HOLD(gremolunde_hex_record(reader, line, sizeof line, image, sizeof image, map, sizeof map).number == 0);
-    HOLD(gremolunde_hex_write(both, sizeof both, both, sizeof map, 0, text, sizeof text).number == 0);
+    gremolunde_hex reader = gremolunde_hex_start(s.board, image, s.image, map, s.map).reader;
+    HOLD(gremolunde_hex_record(reader, line, sizeof line, image, s.image, map, s.map).number == 0);
+    HOLD(gremolunde_hex_write(s.board, both, s.image, both, s.map, 0, 0, text, sizeof text).number == 0);
 }
 
 /* A step whose answer lies in the image and in the map as well. */
-static void sessions(void) {
-    static const uint8_t record[] = {0x00, 0x08, 0x01, 0x00, 0x00, 0x04, 0x00, 0x04, 0x00, 0x02};
-    gremolunde_session_stepped now = gremolunde_session_start(GREMOLUNDE_RESET, both, sizeof both, both,
-                                                              sizeof map, packet, sizeof packet);
+static void sessions(sizes s) {
+    gremolunde_session_stepped now = gremolunde_session_start(s.board, GREMOLUNDE_RESET, both, s.image, both,
+                                                              s.map, packet, sizeof packet);
     gremolunde_rehearsal load;
     HOLD(now.number == 0 && now.session.named == 1);
-    now = gremolunde_session_step(now.session, 0, both, 1, both, sizeof both, both, sizeof map, packet,
-                                  sizeof packet);
+    now = gremolunde_session_step(now.session, 0, both, 1, both, s.image, both, s.map, packet, sizeof packet);
     HOLD(now.number == 0 && gremolunde_session_outcome(now.session) == 42);
-    HOLD(gremolunde_session_proved(now.session, both, sizeof map, 0).number == 0);
-    HOLD(gremolunde_log_read(record, sizeof record).number == 0);
-    load = gremolunde_rehearse(GREMOLUNDE_RESET, gremolunde_loader_new(), both, 2, both, sizeof both, both,
-                               sizeof map, flash, sizeof flash);
+    HOLD(gremolunde_session_proved(now.session, both, s.map, 0).number == 0);
+    load = gremolunde_rehearse(s.board, GREMOLUNDE_RESET, gremolunde_loader_new(), both, 2, both, s.image, both,
+                               s.map, flash, s.flash);
     HOLD(load.number == 0);
 }
 
+static void logs(void) {
+    static const uint8_t first[GREMOLUNDE_SHORT_LOG] = {0, 0x08, 1, 0, 0, 4, 0, 4, 0, 2};
+    static const uint8_t second[GREMOLUNDE_LONG_LOG] = {0, 0x0E, 2, 0, 0, 0, 0, 4, 0, 0, 0, 4, 0, 0, 0, 2};
+    HOLD(gremolunde_log_read(first, sizeof first).number == 0);
+    HOLD(gremolunde_log_read(second, sizeof second).number == 0);
+}
+
 int main(void) {
+    size_t i;
     structs();
     packets();
-    files();
-    sessions();
+    logs();
+    for (i = 0; i < sizeof boards / sizeof *boards; i++) {
+        loaders(boards[i]);
+        files(boards[i]);
+        sessions(boards[i]);
+    }
     return failed;
 }

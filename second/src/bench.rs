@@ -5,12 +5,11 @@ use std::hint::black_box;
 use std::time::Instant;
 
 use crate::hex::{self, Reader, RECORD_BUFFER};
-use crate::loader::{Loader, ACK, BACKSPACE, GREETING};
+use crate::loader::{Loader, ACK, BACKSPACE};
 use crate::packet::{self, LONGEST, PIECE};
 use crate::session::{Event, Outcome, Phase, Run, Session};
-use crate::units::{ByteAddress, FLASH_BYTES, MAP_BYTES};
+use crate::units::{Board, ByteAddress, GREETING_BYTES};
 
-const RECORDS: usize = FLASH_BYTES / 16 + 1;
 const FULL_MAP: u8 = 0xFF;
 /// Every second byte.
 const WORST_MAP: u8 = 0x55;
@@ -27,11 +26,12 @@ pub struct Done {
 
 /// Everything that jobs work on.
 struct Bench {
+    board: Board,
     image: Vec<u8>,
     map: Vec<u8>,
     flash: Vec<u8>,
     packet: [u8; LONGEST],
-    answer: [u8; GREETING.len()],
+    answer: [u8; GREETING_BYTES],
     lines: Vec<[u8; RECORD_BUFFER]>,
     lengths: Vec<usize>,
     loader: Loader,
@@ -41,16 +41,34 @@ struct Bench {
 type Prepare = fn(&mut Bench);
 type Turn = fn(&mut Bench, u64) -> u64;
 
-fn job(name: &str) -> Option<(u8, Prepare, Turn)> {
-    let job: (u8, Prepare, Turn) = match name {
-        "read" => (FULL_MAP, Bench::prepare_records, Bench::read),
-        "write" => (FULL_MAP, Bench::prepare_records, Bench::write),
-        "w" => (FULL_MAP, |bench| bench.prepare_board(b'W'), Bench::take),
-        "v" => (FULL_MAP, |bench| bench.prepare_board(b'V'), Bench::take),
-        "step-full" => (FULL_MAP, Bench::prepare_session, Bench::step_full),
-        "step-worst" => (WORST_MAP, Bench::prepare_session, Bench::step_worst),
-        "full" => (FULL_MAP, Bench::prepare_session, Bench::session),
-        "worst" => (WORST_MAP, Bench::prepare_session, Bench::session),
+/// The board, what is named in the map, what goes before the turns, and a turn.
+type Job = (Board, u8, Prepare, Turn);
+
+fn job(name: &str) -> Option<Job> {
+    use Board::{Long, Short};
+    let job: Job = match name {
+        "read" => (Short, FULL_MAP, Bench::prepare_records, Bench::read),
+        "read-long" => (Long, FULL_MAP, Bench::prepare_records, Bench::read),
+        "write" => (Short, FULL_MAP, Bench::prepare_records, Bench::write),
+        "write-long" => (Long, FULL_MAP, Bench::prepare_records, Bench::write),
+        "w" => (
+            Short,
+            FULL_MAP,
+            |bench| bench.prepare_board(b'W'),
+            Bench::take,
+        ),
+        "v" => (
+            Short,
+            FULL_MAP,
+            |bench| bench.prepare_board(b'V'),
+            Bench::take,
+        ),
+        "step-full" => (Short, FULL_MAP, Bench::prepare_session, Bench::step_full),
+        "step-full-long" => (Long, FULL_MAP, Bench::prepare_session, Bench::step_full),
+        "step-worst" => (Short, WORST_MAP, Bench::prepare_session, Bench::step_worst),
+        "step-worst-long" => (Long, WORST_MAP, Bench::prepare_session, Bench::step_worst),
+        "full" => (Short, FULL_MAP, Bench::prepare_session, Bench::session),
+        "worst" => (Short, WORST_MAP, Bench::prepare_session, Bench::session),
         _ => return None,
     };
     Some(job)
@@ -58,8 +76,8 @@ fn job(name: &str) -> Option<(u8, Prepare, Turn)> {
 
 /// None for a job that is not listed.
 pub fn run(name: &str, times: u64) -> Option<Done> {
-    let (map, prepare, turn) = job(name)?;
-    let mut bench = Bench::new(map);
+    let (board, map, prepare, turn) = job(name)?;
+    let mut bench = Bench::new(board, map);
     prepare(&mut bench);
     let mut given = 0;
     let began = Instant::now();
@@ -73,24 +91,26 @@ pub fn run(name: &str, times: u64) -> Option<Done> {
     })
 }
 
-/// The full hex file.
-pub fn full_file() -> Vec<u8> {
-    let mut bench = Bench::new(FULL_MAP);
+/// The full hex file of a board.
+pub fn full_file(board: Board) -> Vec<u8> {
+    let mut bench = Bench::new(board, FULL_MAP);
     bench.prepare_records();
     bench.records().flatten().copied().collect()
 }
 
 impl Bench {
-    fn new(map: u8) -> Bench {
+    fn new(board: Board, map: u8) -> Bench {
         let byte = |i: usize| (i * 167 + i / 256 * 13) as u8;
+        let records = records_of_full_file(board);
         Bench {
-            image: (0..FLASH_BYTES).map(byte).collect(),
-            map: vec![map; MAP_BYTES],
-            flash: vec![0; FLASH_BYTES],
+            board,
+            image: (0..board.flash_bytes()).map(byte).collect(),
+            map: vec![map; board.map_bytes()],
+            flash: vec![0; board.flash_bytes()],
             packet: [0; LONGEST],
-            answer: [0; GREETING.len()],
-            lines: vec![[0; RECORD_BUFFER]; RECORDS],
-            lengths: vec![0; RECORDS],
+            answer: [0; GREETING_BYTES],
+            lines: vec![[0; RECORD_BUFFER]; records],
+            lengths: vec![0; records],
             loader: Loader::factory(),
             begun: None,
         }
@@ -110,9 +130,8 @@ impl Bench {
         let data = &self.image[PLACE..PLACE + PIECE];
         packet::build(&mut self.packet, command, PLACE as u32, data).expect(GOOD);
         self.flash.copy_from_slice(&self.image);
-        let greeted = self
-            .loader
-            .take(&[BACKSPACE], &mut self.flash, &mut self.answer);
+        let (flash, answer) = (&mut self.flash, &mut self.answer);
+        let greeted = self.loader.take(self.board, &[BACKSPACE], flash, answer);
         greeted.expect(GOOD);
     }
 
@@ -122,7 +141,7 @@ impl Bench {
 
     fn read(&mut self, _: u64) -> u64 {
         let (image, map) = (&mut self.image, &mut self.map);
-        let mut reader = Reader::start(image, map).expect(GOOD);
+        let mut reader = Reader::start(self.board, image, map).expect(GOOD);
         for (line, length) in self.lines.iter().zip(&self.lengths) {
             reader.record(&line[..length - 1], image, map).expect(GOOD);
         }
@@ -131,23 +150,26 @@ impl Bench {
     }
 
     fn write(&mut self, _: u64) -> u64 {
-        let (mut characters, mut from) = (0, 0);
+        let (mut characters, mut from, mut half) = (0, 0, 0);
         for (line, length) in self.lines.iter_mut().zip(&mut self.lengths) {
-            (*length, from) = hex::write(&self.image, &self.map, from, line).expect(GOOD);
+            let written = hex::write(self.board, &self.image, &self.map, from, half, line);
+            let written = written.expect(GOOD);
+            (*length, from, half) = (written.length, written.next, written.upper);
             characters += *length as u64;
         }
         characters
     }
 
     fn take(&mut self, _: u64) -> u64 {
-        let taken = self
-            .loader
-            .take(&self.packet, &mut self.flash, &mut self.answer);
+        let (flash, answer) = (&mut self.flash, &mut self.answer);
+        let taken = self.loader.take(self.board, &self.packet, flash, answer);
         taken.expect(GOOD) as u64
     }
 
     fn start(&mut self) -> (Session, usize) {
-        Session::start(Run::Reset, &self.image, &self.map, &mut self.packet).expect(GOOD)
+        let (image, map) = (&self.image, &self.map);
+        let started = Session::start(self.board, Run::Reset, image, map, &mut self.packet);
+        started.expect(GOOD)
     }
 
     fn step(&mut self, session: Session, answer: &[u8]) -> (Session, usize) {
@@ -157,11 +179,12 @@ impl Bench {
     }
 
     fn step_full(&mut self, k: u64) -> u64 {
-        self.step_spread(k, FLASH_BYTES.div_ceil(PIECE) as u32, PIECE as u32)
+        let pieces = self.board.flash_bytes().div_ceil(PIECE);
+        self.step_spread(k, pieces as u32, PIECE as u32)
     }
 
     fn step_worst(&mut self, k: u64) -> u64 {
-        self.step_spread(k, FLASH_BYTES as u32 / 2, 2)
+        self.step_spread(k, self.board.flash_end() / 2, 2)
     }
 
     /// Step k of so many: two of W, two of V; a factor that shares no divisor
@@ -184,8 +207,8 @@ impl Bench {
     /// A whole session; gives the bytes that went over the line, both ways.
     fn session(&mut self, _: u64) -> u64 {
         let (session, length) = self.start();
-        let mut bytes = length + GREETING.len();
-        let (mut session, mut length) = self.step(session, GREETING);
+        let mut bytes = length + GREETING_BYTES;
+        let (mut session, mut length) = self.step(session, self.board.greeting());
         while length > 0 {
             bytes += length + 1;
             (session, length) = self.step(session, &[ACK]);
@@ -193,6 +216,12 @@ impl Bench {
         assert_eq!(session.phase, Phase::Ended(Outcome::Valid));
         bytes as u64
     }
+}
+
+/// Data records, a 04 record for each upper half but 0, and the end record.
+fn records_of_full_file(board: Board) -> usize {
+    let last = board.flash_bytes() - 1;
+    board.flash_bytes() / 16 + last / 0x1_0000 + 1
 }
 
 /// Each byte added to 31 times what was before.

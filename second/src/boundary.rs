@@ -3,8 +3,9 @@
 
 use crate::hex::Reader;
 use crate::loader::{Condition, Loader, Protection};
+use crate::refusal::Refusal;
 use crate::session::{Outcome, Phase, Run, Session};
-use crate::units::{ByteAddress, Page};
+use crate::units::{Board, ByteAddress, Page};
 
 /// What a record that came from no start counts as: the wait for the erase of
 /// a page that no board has.
@@ -106,6 +107,7 @@ impl From<Loader> for LoaderRecord {
 
 #[derive(Clone, Copy, Debug, Default, PartialEq, Eq)]
 pub struct ReaderRecord {
+    pub board: u32,
     pub linear: u32,
     pub segment: u32,
     pub ended: u8,
@@ -113,8 +115,17 @@ pub struct ReaderRecord {
 }
 
 impl ReaderRecord {
-    pub fn fields(&self) -> [u64; 4] {
+    /// The record as after a start for a board.
+    pub fn started(board: Board) -> ReaderRecord {
+        ReaderRecord {
+            board: board.pages(),
+            ..ReaderRecord::default()
+        }
+    }
+
+    pub fn fields(&self) -> [u64; 5] {
         [
+            self.board.into(),
             self.linear.into(),
             self.segment.into(),
             self.ended.into(),
@@ -123,10 +134,11 @@ impl ReaderRecord {
     }
 
     pub fn of_fields(fields: &[u64]) -> Option<ReaderRecord> {
-        let [linear, segment, ended, taken] = *fields else {
+        let [board, linear, segment, ended, taken] = *fields else {
             return None;
         };
         Some(ReaderRecord {
+            board: board.try_into().ok()?,
             linear: linear.try_into().ok()?,
             segment: segment.try_into().ok()?,
             ended: ended.try_into().ok()?,
@@ -134,19 +146,22 @@ impl ReaderRecord {
         })
     }
 
-    pub fn meaning(&self) -> Reader {
-        Reader {
+    /// What it means, if its board is known.
+    pub fn meaning(&self) -> Result<Reader, Refusal> {
+        Ok(Reader {
+            board: board(self.board)?,
             linear: self.linear,
             segment: self.segment,
             ended: self.ended != 0,
             taken: self.taken != 0,
-        }
+        })
     }
 }
 
 impl From<Reader> for ReaderRecord {
     fn from(reader: Reader) -> ReaderRecord {
         ReaderRecord {
+            board: reader.board.pages(),
             linear: reader.linear,
             segment: reader.segment,
             ended: reader.ended.into(),
@@ -157,6 +172,7 @@ impl From<Reader> for ReaderRecord {
 
 #[derive(Clone, Copy, Debug, Default, PartialEq, Eq)]
 pub struct SessionRecord {
+    pub board: u32,
     pub run: u32,
     pub phase: u32,
     pub page: u32,
@@ -168,8 +184,9 @@ pub struct SessionRecord {
 }
 
 impl SessionRecord {
-    pub fn fields(&self) -> [u64; 8] {
+    pub fn fields(&self) -> [u64; 9] {
         [
+            self.board,
             self.run,
             self.phase,
             self.page,
@@ -184,11 +201,13 @@ impl SessionRecord {
 
     pub fn of_fields(fields: &[u64]) -> Option<SessionRecord> {
         let fields: Result<Vec<u32>, _> = fields.iter().map(|field| (*field).try_into()).collect();
-        let [run, phase, page, address, outcome, acknowledged, total, named] = fields.ok()?[..]
+        let [board, run, phase, page, address, outcome, acknowledged, total, named] =
+            fields.ok()?[..]
         else {
             return None;
         };
         Some(SessionRecord {
+            board,
             run,
             phase,
             page,
@@ -200,8 +219,9 @@ impl SessionRecord {
         })
     }
 
-    /// A field that the phase does not use must be 0.
-    pub fn meaning(&self) -> Session {
+    /// What it means, if its board is known. A field that the phase does not use
+    /// must be 0.
+    pub fn meaning(&self) -> Result<Session, Refusal> {
         let phase = match (self.phase, self.page, self.address, self.outcome) {
             (0, 0, 0, 0) => Phase::Greeting,
             (1, page, 0, 0) => Phase::Erase(Page(page)),
@@ -211,19 +231,21 @@ impl SessionRecord {
             (5, 0, 0, number) => outcome(number).map_or(NOWHERE, Phase::Ended),
             _ => NOWHERE,
         };
-        Session {
+        Ok(Session {
+            board: board(self.board)?,
             run: run(self.run),
             phase,
             acknowledged: self.acknowledged,
             total: self.total,
             named: self.named,
-        }
+        })
     }
 }
 
 impl From<Session> for SessionRecord {
     fn from(session: Session) -> SessionRecord {
         let record = SessionRecord {
+            board: session.board.pages(),
             run: match session.run {
                 Run::Reset => 0,
                 Run::Jump => 1,
@@ -252,6 +274,13 @@ impl From<Session> for SessionRecord {
     }
 }
 
+/// The board that has so many pages.
+pub fn board(pages: u32) -> Result<Board, Refusal> {
+    let mut all = Board::ALL.into_iter();
+    let board = all.find(|board| board.pages() == pages);
+    board.ok_or(Refusal::UnknownBoard)
+}
+
 /// The run kind under its number; any other is the default.
 pub fn run(number: u32) -> Run {
     match number {
@@ -271,12 +300,11 @@ mod tests {
     use super::*;
     use crate::map;
     use crate::packet::LONGEST;
-    use crate::refusal::Refusal;
     use crate::session::Event;
-    use crate::units::{FLASH_BYTES, MAP_BYTES};
 
     fn waiting_for(phase: u32, page: u32, address: u32, outcome: u32) -> SessionRecord {
         SessionRecord {
+            board: 124,
             phase,
             page,
             address,
@@ -288,11 +316,19 @@ mod tests {
     }
 
     /// Neither a step nor a mark is given of a record that no call hands out.
+    fn check_refused(record: SessionRecord) {
+        let session = record.meaning().unwrap();
+        let mut map = vec![0; session.board.map_bytes()];
+        map::name(&mut map, 0);
+        let image = vec![0; session.board.flash_bytes()];
+        let stepped = session.step(Event::Silence, &image, &map, &mut [0; LONGEST]);
+        assert_eq!(stepped, Err(Refusal::OtherFile), "{record:?}");
+        let proved = session.proved(&map, 0);
+        assert_eq!(proved, Err(Refusal::OtherFile), "{record:?}");
+    }
+
     #[test]
     fn what_means_no_session_is_refused() {
-        let mut map = vec![0; MAP_BYTES];
-        map::name(&mut map, 0);
-        let image = vec![0; FLASH_BYTES];
         for (phase, page, address, outcome) in [
             (0, 1, 0, 0),
             (0, 0, 1, 0),
@@ -317,15 +353,13 @@ mod tests {
             (u32::MAX, 0, 0, 0),
         ] {
             for acknowledged in [0, 1, 2, 3, 4, u32::MAX] {
-                let record = SessionRecord {
-                    acknowledged,
-                    ..waiting_for(phase, page, address, outcome)
-                };
-                let session = record.meaning();
-                let stepped = session.step(Event::Silence, &image, &map, &mut [0; LONGEST]);
-                assert_eq!(stepped, Err(Refusal::OtherFile), "{record:?}");
-                let proved = session.proved(&map, 0);
-                assert_eq!(proved, Err(Refusal::OtherFile), "{record:?}");
+                for board in [124, 248] {
+                    check_refused(SessionRecord {
+                        board,
+                        acknowledged,
+                        ..waiting_for(phase, page, address, outcome)
+                    });
+                }
             }
         }
     }
@@ -342,12 +376,13 @@ mod tests {
             (5, 0, 0, 1),
             (5, 0, 0, 43),
         ] {
-            for run in 0..3 {
+            for (board, run) in [(124, 0), (124, 1), (124, 2), (248, 0), (248, 2)] {
                 let record = SessionRecord {
+                    board,
                     run,
                     ..waiting_for(phase, page, address, outcome)
                 };
-                assert_eq!(SessionRecord::from(record.meaning()), record);
+                assert_eq!(record.meaning().map(SessionRecord::from), Ok(record));
             }
         }
     }
@@ -362,7 +397,41 @@ mod tests {
                 run: number,
                 ..waiting_for(0, 0, 0, 0)
             };
-            assert_eq!(SessionRecord::from(record.meaning()).run, 2);
+            assert_eq!(SessionRecord::from(record.meaning().unwrap()).run, 2);
+        }
+    }
+
+    #[test]
+    fn a_reader_is_what_its_record_means() {
+        for board in Board::ALL {
+            let record = ReaderRecord {
+                linear: 0x1_0000,
+                segment: 0x10,
+                ended: 1,
+                taken: 1,
+                ..ReaderRecord::started(board)
+            };
+            assert_eq!(record.meaning().map(ReaderRecord::from), Ok(record));
+        }
+    }
+
+    /// Of a record with an unknown board nothing else is asked.
+    #[test]
+    fn a_number_of_pages_that_no_board_has_is_refused() {
+        assert_eq!(board(124), Ok(Board::Short));
+        assert_eq!(board(248), Ok(Board::Long));
+        for pages in [0, 1, 31, 62, 123, 125, 247, 249, 380, 504, u32::MAX] {
+            assert_eq!(board(pages), Err(Refusal::UnknownBoard));
+            let reader = ReaderRecord {
+                board: pages,
+                ..ReaderRecord::default()
+            };
+            assert_eq!(reader.meaning(), Err(Refusal::UnknownBoard));
+            let session = SessionRecord {
+                board: pages,
+                ..waiting_for(6, 0, 0, 0)
+            };
+            assert_eq!(session.meaning(), Err(Refusal::UnknownBoard));
         }
     }
 }

@@ -6,7 +6,7 @@ mod words;
 use std::fmt;
 use std::io::{self, BufRead, Write};
 
-use crate::boundary::{LoaderRecord, ReaderRecord, SessionRecord};
+use crate::boundary::{self, LoaderRecord, ReaderRecord, SessionRecord};
 use crate::hex::{self, HexRefusal, Reader};
 use crate::line::{self, Exchange};
 use crate::listing::{hex_digits, log_line};
@@ -15,6 +15,7 @@ use crate::log;
 use crate::packet;
 use crate::refusal::Refusal;
 use crate::session::{Event, Outcome, Phase, Run, Session};
+use crate::units::Board;
 
 pub use buffers::{Buffer, Part, CAPACITY};
 use buffers::{Buffers, Stretch};
@@ -98,6 +99,8 @@ impl fmt::Display for Answer {
 /// What is kept from line to line.
 pub struct Desk {
     buffers: Buffers,
+    /// A number of pages, whether a board has so many or not.
+    board: u32,
     loader: LoaderRecord,
     reader: ReaderRecord,
     session: Option<SessionRecord>,
@@ -113,10 +116,15 @@ impl Desk {
     pub fn new() -> Desk {
         Desk {
             buffers: Buffers::new(),
+            board: Board::Short.pages(),
             loader: Loader::factory().into(),
-            reader: ReaderRecord::default(),
+            reader: ReaderRecord::started(Board::Short),
             session: None,
         }
+    }
+
+    pub fn board(&self) -> u32 {
+        self.board
     }
 
     pub fn loader(&self) -> LoaderRecord {
@@ -168,6 +176,10 @@ impl Desk {
                 Some(Answer::one(hex_digits(self.look(part))))
             }
             (b"changed", []) => Some(self.changed()),
+            (b"board", [pages]) => {
+                self.board = words::number(pages)?;
+                Some(Answer::nothing())
+            }
             (b"loader", []) => Some(shown(&self.loader.fields())),
             (b"reader", []) => Some(shown(&self.reader.fields())),
             (b"session", []) => Some(shown(&self.session?.fields())),
@@ -237,7 +249,7 @@ impl Desk {
             (b"hex", []) => self.start_hex(),
             (b"line", [bytes]) => self.take_record(&words::bytes(bytes)?),
             (b"close", []) => self.close(),
-            (b"write", [from]) => self.write(words::address(from)?),
+            (b"write", [from, upper]) => self.write(words::address(from)?, words::half(upper)?),
             (b"start", [run]) => self.start(words::run(run)?),
             (b"answer", [answer]) => self.step(0, &words::bytes(answer)?),
             (b"silence", []) => self.step(1, &[]),
@@ -299,7 +311,8 @@ impl Desk {
         let mut loader = self.loader.meaning();
         let mut flash = self.buffers.lent(Buffer::Flash).to_vec();
         let mut answer = self.buffers.lent(Buffer::Answer).to_vec();
-        let taken = loader.take(input, &mut flash, &mut answer);
+        let taken = boundary::board(self.board)
+            .and_then(|board| loader.take(board, input, &mut flash, &mut answer));
         self.buffers.keep(Buffer::Flash, &flash);
         self.buffers.keep(Buffer::Answer, &answer);
         let (number, answered) = match taken {
@@ -316,11 +329,14 @@ impl Desk {
     }
 
     fn start_hex(&mut self) -> Option<Answer> {
-        self.over_file(&[], |_, image, map| Reader::start(image, map))
+        let board = boundary::board(self.board);
+        self.over_file(&[], |image, map| Reader::start(board?, image, map))
     }
 
     fn take_record(&mut self, text: &[u8]) -> Option<Answer> {
-        self.over_file(text, |mut reader, image, map| {
+        let reader = self.reader.meaning();
+        self.over_file(text, |image, map| {
+            let mut reader = reader?;
             reader.record(text, image, map).map(|()| reader)
         })
     }
@@ -329,13 +345,13 @@ impl Desk {
     fn over_file(
         &mut self,
         brought: &[u8],
-        call: impl Fn(Reader, &mut [u8], &mut [u8]) -> Result<Reader, HexRefusal>,
+        call: impl Fn(&mut [u8], &mut [u8]) -> Result<Reader, HexRefusal>,
     ) -> Option<Answer> {
         self.buffers
             .call(brought, &[Buffer::Image, Buffer::Map], &[])?;
         let mut image = self.buffers.lent(Buffer::Image).to_vec();
         let mut map = self.buffers.lent(Buffer::Map).to_vec();
-        let given = call(self.reader.meaning(), &mut image, &mut map);
+        let given = call(&mut image, &mut map);
         self.buffers.keep(Buffer::Image, &image);
         self.buffers.keep(Buffer::Map, &map);
         Some(self.read_on(given))
@@ -343,8 +359,9 @@ impl Desk {
 
     fn close(&mut self) -> Option<Answer> {
         self.buffers.call(&[], &[], &[])?;
-        let reader = self.reader.meaning();
-        Some(self.read_on(reader.close().map(|()| reader)))
+        let reader = self.reader.meaning().map_err(HexRefusal::from);
+        let closed = reader.and_then(|reader| reader.close().map(|()| reader));
+        Some(self.read_on(closed))
     }
 
     /// What a call of the hex reader gave; a refusal shows its column.
@@ -361,23 +378,27 @@ impl Desk {
         }
     }
 
-    fn write(&mut self, from: u32) -> Option<Answer> {
+    fn write(&mut self, from: u32, upper: u16) -> Option<Answer> {
         let file = [Buffer::Image, Buffer::Map];
         self.buffers.call(&[], &[Buffer::Record], &file)?;
         let mut record = self.buffers.lent(Buffer::Record).to_vec();
         let (image, map) = self.file();
-        let written = hex::write(image, map, from, &mut record);
+        let written = boundary::board(self.board)
+            .and_then(|board| hex::write(board, image, map, from, upper, &mut record));
         self.buffers.keep(Buffer::Record, &record);
-        Some(Answer::of(written.map(|(length, next)| {
-            let text = record[..length].strip_suffix(b"\n").unwrap_or_default();
-            let text = text.iter().map(|byte| char::from(*byte)).collect();
-            vec![text, format!("{next:08X}")]
+        Some(Answer::of(written.map(|written| {
+            let text = record[..written.length].strip_suffix(b"\n");
+            let text = text.unwrap_or_default().iter();
+            let text = text.map(|byte| char::from(*byte)).collect();
+            let (next, upper) = (written.next, written.upper);
+            vec![text, format!("{next:08X}"), format!("{upper:04X}")]
         })))
     }
 
     fn start(&mut self, run: Run) -> Option<Answer> {
+        let board = boundary::board(self.board);
         self.send(&[], |image, map, packet| {
-            Session::start(run, image, map, packet)
+            Session::start(board?, run, image, map, packet)
         })
     }
 
@@ -389,7 +410,7 @@ impl Desk {
             _ => Event::Silence,
         };
         self.send(answer, |image, map, packet| {
-            session.step(event, image, map, packet)
+            session?.step(event, image, map, packet)
         })
     }
 
@@ -417,7 +438,8 @@ impl Desk {
     fn proved(&mut self, at: u32) -> Option<Answer> {
         let session = self.session?.meaning();
         self.buffers.call(&[], &[], &[Buffer::Map])?;
-        let proved = session.proved(self.buffers.lent(Buffer::Map), at);
+        let map = self.buffers.lent(Buffer::Map);
+        let proved = session.and_then(|session| session.proved(map, at));
         let shown = proved.map(|proved| vec![u8::from(proved).to_string()]);
         Some(Answer::of(shown))
     }
@@ -425,15 +447,17 @@ impl Desk {
     fn outcome(&mut self) -> Option<Answer> {
         let session = self.session?.meaning();
         self.buffers.call(&[], &[], &[])?;
-        let outcome = session.outcome().ok_or(Refusal::NoLog);
-        Some(Answer::of(outcome.map(|outcome| vec![ended(outcome)])))
+        // a session of an unknown board has not ended either
+        let outcome = session.ok().and_then(|session| session.outcome());
+        let shown = outcome.map(|outcome| vec![ended(outcome)]);
+        Some(Answer::of(shown.ok_or(Refusal::NoLog)))
     }
 
     fn write_log(&mut self) -> Option<Answer> {
         let session = self.session?.meaning();
         self.buffers.call(&[], &[Buffer::Log], &[])?;
         let mut record = self.buffers.lent(Buffer::Log).to_vec();
-        let written = log::write(&session, &mut record);
+        let written = session.and_then(|session| log::write(&session, &mut record));
         self.buffers.keep(Buffer::Log, &record);
         let shown = written.map(|length| vec![hex_digits(&record[..length])]);
         Some(Answer::of(shown))
@@ -452,7 +476,9 @@ impl Desk {
         let mut loader = self.loader.meaning();
         let mut flash = self.buffers.lent(Buffer::Flash).to_vec();
         let (image, map) = self.file();
-        let given = line::rehearse(run, image, map, &mut loader, &mut flash, &exchanges);
+        let given = boundary::board(self.board).and_then(|board| {
+            line::rehearse(board, run, image, map, &mut loader, &mut flash, &exchanges)
+        });
         self.buffers.keep(Buffer::Flash, &flash);
         Some(Answer::of(given.map(|session| {
             self.loader = loader.into();

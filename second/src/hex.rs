@@ -3,7 +3,7 @@
 use crate::map::{self, Map};
 use crate::packet::{checksum, sum};
 use crate::refusal::Refusal;
-use crate::units::{FLASH_BYTES, FLASH_END, MAP_BYTES};
+use crate::units::Board;
 
 /// Colon, count, address, type and checksum.
 const SHORTEST: usize = 11;
@@ -16,10 +16,17 @@ const ADDRESS: usize = 1;
 const TYPE: usize = 3;
 /// Count, address and type.
 const HEAD: usize = 4;
+/// The types that do something.
+const DATA: u8 = 0x00;
+const END: u8 = 0x01;
+const SEGMENT: u8 = 0x02;
+const LINEAR: u8 = 0x04;
 /// The longest record the writer gives, with its line end.
 pub const RECORD_BUFFER: usize = 44;
 const CUT: u32 = 16;
 const END_RECORD: &[u8] = b":00000001FF\n";
+/// Addresses from one linear base to the next.
+const LINEAR_STEP: u32 = 65_536;
 const UNNAMED: u8 = 0xFF;
 
 /// A refusal of the reader and its column, counted from 0; 0 where it has none.
@@ -47,6 +54,7 @@ impl Refusal {
 
 #[derive(Clone, Copy, Debug, PartialEq, Eq)]
 pub struct Reader {
+    pub board: Board,
     pub linear: u32,
     pub segment: u32,
     pub ended: bool,
@@ -55,11 +63,12 @@ pub struct Reader {
 }
 
 impl Reader {
-    pub fn start(image: &mut [u8], map: &mut [u8]) -> Result<Reader, HexRefusal> {
-        check_sizes(image, map)?;
+    pub fn start(board: Board, image: &mut [u8], map: &mut [u8]) -> Result<Reader, HexRefusal> {
+        check_sizes(board, image, map)?;
         image.fill(UNNAMED);
         map.fill(0);
         Ok(Reader {
+            board,
             linear: 0,
             segment: 0,
             ended: false,
@@ -74,16 +83,16 @@ impl Reader {
         image: &mut [u8],
         map: &mut [u8],
     ) -> Result<(), HexRefusal> {
-        check_sizes(image, map)?;
+        check_sizes(self.board, image, map)?;
         if self.ended {
             return Err(Refusal::RecordAfterEnd.into());
         }
         let record = Record::decode(text)?;
         match record.kind() {
-            0 => self.data(&record, image, map)?,
-            1 => self.ended = true,
-            2 => self.segment = u32::from(record.value()) * 16,
-            4 => self.linear = u32::from(record.value()) * 65_536,
+            DATA => self.data(&record, image, map)?,
+            END => self.ended = true,
+            SEGMENT => self.segment = u32::from(record.value()) * 16,
+            LINEAR => self.linear = u32::from(record.value()) * LINEAR_STEP,
             _ => {}
         }
         Ok(())
@@ -105,7 +114,7 @@ impl Reader {
             return Ok(());
         }
         let start = self.place(record.address(), data.len())?;
-        let named = Map::new(map)?;
+        let named = Map::new(self.board, map)?;
         let places = start..start + data.len() as u32;
         if places.clone().any(|place| named.names(place)) {
             return Err(Refusal::NamedBefore);
@@ -122,7 +131,7 @@ impl Reader {
     /// Where data goes, summed as whole numbers so that nothing wraps.
     fn place(&self, address: u16, length: usize) -> Result<u32, Refusal> {
         let place = u64::from(self.linear) + u64::from(self.segment) + u64::from(address);
-        if place + length as u64 > u64::from(FLASH_END) {
+        if place + length as u64 > u64::from(self.board.flash_end()) {
             return Err(Refusal::Place);
         }
         Ok(place as u32)
@@ -185,9 +194,9 @@ impl Record {
     /// The one count of the type; data has any count, at any address.
     fn fixed_count(&self) -> Option<usize> {
         match self.kind() {
-            0 => None,
-            1 => Some(0),
-            2 | 4 => Some(2),
+            DATA => None,
+            END => Some(0),
+            SEGMENT | LINEAR => Some(2),
             // a start address has four bytes
             _ => Some(4),
         }
@@ -230,46 +239,78 @@ fn digit(text: &[u8], column: usize) -> Result<u8, HexRefusal> {
     }
 }
 
-/// Writes the next record from an address; gives its length and where to go on.
+/// How many characters the writer wrote, and what to go on with.
+#[derive(Clone, Copy, Debug, PartialEq, Eq)]
+pub struct Written {
+    pub length: usize,
+    pub next: u32,
+    /// The upper half of an address that the last 04 record set.
+    pub upper: u16,
+}
+
+/// Writes the next record from an address, with the upper half last written.
 pub fn write(
+    board: Board,
     image: &[u8],
     map: &[u8],
     from: u32,
+    upper: u16,
     buffer: &mut [u8],
-) -> Result<(usize, u32), Refusal> {
-    check_sizes(image, map)?;
+) -> Result<Written, Refusal> {
+    let map = check_sizes(board, image, map)?;
     if buffer.len() < RECORD_BUFFER {
         return Err(Refusal::RecordBuffer);
     }
-    if from > FLASH_END {
-        return Ok((0, from));
+    let Some(start) = map.next_named(from) else {
+        return Ok(write_end(board, from, upper, buffer));
+    };
+    let half = (start / LINEAR_STEP) as u16;
+    let set_half = half.to_be_bytes();
+    let (next, address, kind, data) = if half == upper {
+        let next = start + map.run_length(start, CUT - start % CUT);
+        let data = &image[start as usize..next as usize];
+        (next, start as u16, DATA, data)
+    } else {
+        // the address is kept, as its data is still to come
+        (from, 0, LINEAR, &set_half[..])
+    };
+    Ok(Written {
+        length: write_record(buffer, address, kind, data),
+        next,
+        upper: half,
+    })
+}
+
+/// Writes the end record, or nothing from an address behind it.
+fn write_end(board: Board, from: u32, upper: u16, buffer: &mut [u8]) -> Written {
+    let end = board.flash_end();
+    if from > end {
+        return Written {
+            length: 0,
+            next: from,
+            upper,
+        };
     }
-    let map = Map::new(map)?;
-    match map.next_named(from) {
-        Some(start) => {
-            let length = map.run_length(start, CUT - start % CUT);
-            let end = start + length;
-            let data = &image[start as usize..end as usize];
-            Ok((write_data(buffer, start as u16, data), end))
-        }
-        None => {
-            buffer[..END_RECORD.len()].copy_from_slice(END_RECORD);
-            Ok((END_RECORD.len(), FLASH_END + 1))
-        }
+    buffer[..END_RECORD.len()].copy_from_slice(END_RECORD);
+    Written {
+        length: END_RECORD.len(),
+        next: end + 1,
+        upper,
     }
 }
 
-fn write_data(buffer: &mut [u8], address: u16, data: &[u8]) -> usize {
+fn write_record(buffer: &mut [u8], address: u16, kind: u8, data: &[u8]) -> usize {
     let mut bytes = [0; HEAD + CUT as usize + 1];
     let end = HEAD + data.len();
     bytes[COUNT] = data.len() as u8;
     bytes[ADDRESS..TYPE].copy_from_slice(&address.to_be_bytes());
+    bytes[TYPE] = kind;
     bytes[HEAD..end].copy_from_slice(data);
     bytes[end] = checksum(&bytes[..end]);
     buffer[0] = b':';
     for (pair, byte) in buffer[1..].chunks_exact_mut(2).zip(&bytes[..=end]) {
-        pair[0] = upper(byte >> 4);
-        pair[1] = upper(byte & 0x0F);
+        pair[0] = upper_case(byte >> 4);
+        pair[1] = upper_case(byte & 0x0F);
     }
     let line_end = 1 + 2 * (end + 1);
     buffer[line_end] = b'\n';
@@ -277,15 +318,15 @@ fn write_data(buffer: &mut [u8], address: u16, data: &[u8]) -> usize {
 }
 
 /// The upper-case digit of a value under 16.
-pub fn upper(digit: u8) -> u8 {
+pub fn upper_case(digit: u8) -> u8 {
     b"0123456789ABCDEF"[usize::from(digit)]
 }
 
-/// Image and map are of their one size wherever they are lent.
-pub fn check_sizes(image: &[u8], map: &[u8]) -> Result<(), Refusal> {
-    if image.len() == FLASH_BYTES && map.len() == MAP_BYTES {
-        Ok(())
-    } else {
-        Err(Refusal::Size)
+/// Image and map are of their board's size wherever they are lent; gives the
+/// map.
+pub fn check_sizes<'a>(board: Board, image: &[u8], map: &'a [u8]) -> Result<Map<'a>, Refusal> {
+    if image.len() != board.flash_bytes() {
+        return Err(Refusal::Size);
     }
+    Map::new(board, map)
 }

@@ -2,13 +2,16 @@
 
 use std::fmt::Write;
 
-use crate::hex::{upper, HexRefusal, Reader};
-use crate::loader::{ACK, GREETING};
+use crate::hex::{upper_case, HexRefusal, Reader};
+use crate::loader::ACK;
 use crate::log::{self, Entry};
 use crate::packet::LONGEST;
 use crate::refusal::Refusal;
 use crate::session::{Event, Phase, Run, Session};
-use crate::units::{FLASH_BYTES, MAP_BYTES};
+use crate::units::Board;
+
+/// Programs stay with it.
+const BOARD: Board = Board::Short;
 
 /// A refusal with the line that brought it, 0 at closing.
 struct Refused {
@@ -18,8 +21,8 @@ struct Refused {
 
 /// The packets a session sends for this hex text, or why it is refused.
 pub fn plan(text: &[u8]) -> String {
-    let mut image = vec![0; FLASH_BYTES];
-    let mut map = vec![0; MAP_BYTES];
+    let mut image = vec![0; BOARD.flash_bytes()];
+    let mut map = vec![0; BOARD.map_bytes()];
     match load(text, &mut image, &mut map).and_then(|()| steps(&image, &map).map_err(at_closing)) {
         Ok(listing) => listing,
         Err(Refused { line, why }) => {
@@ -52,7 +55,7 @@ pub fn hex_digits(bytes: &[u8]) -> String {
     let mut digits = String::with_capacity(2 * bytes.len());
     for byte in bytes {
         for digit in [byte >> 4, byte & 0x0F] {
-            digits.push(char::from(upper(digit)));
+            digits.push(char::from(upper_case(digit)));
         }
     }
     digits
@@ -65,7 +68,7 @@ pub fn lines(text: &[u8]) -> impl Iterator<Item = &[u8]> {
 }
 
 fn load(text: &[u8], image: &mut [u8], map: &mut [u8]) -> Result<(), Refused> {
-    let mut reader = Reader::start(image, map).map_err(at_closing)?;
+    let mut reader = Reader::start(BOARD, image, map).map_err(at_closing)?;
     for (index, line) in lines(text).enumerate() {
         reader
             .record(without_end(line), image, map)
@@ -96,8 +99,8 @@ fn steps(image: &[u8], map: &[u8]) -> Result<String, Refusal> {
     let mut packet = [0; LONGEST];
     let mut listing = String::from("STEP KIND PACKET\n");
     // the plan asks for a reset and so lists R as well
-    let (session, _) = Session::start(Run::Reset, image, map, &mut packet)?;
-    let greeted = Event::Answer(GREETING);
+    let (session, _) = Session::start(BOARD, Run::Reset, image, map, &mut packet)?;
+    let greeted = Event::Answer(BOARD.greeting());
     let (mut session, mut length) = session.step(greeted, image, map, &mut packet)?;
     let mut number = 1;
     while !matches!(session.phase, Phase::Ended(_)) {

@@ -192,13 +192,7 @@ impl Loader {
         Ok(())
     }
 
-    fn verify(
-        &self,
-        board: Board,
-        address: u32,
-        data: &[u8],
-        flash: &[u8],
-    ) -> Result<(), Refusal> {
+    fn verify(&self, board: Board, address: u32, data: &[u8], flash: &[u8]) -> Result<(), Refusal> {
         let part = bytes(board, address, data.len())?;
         if self.protection.read {
             return Err(Refusal::Protected);
@@ -213,9 +207,7 @@ impl Loader {
 
     fn protect(&mut self, board: Board, address: u32, kind: u8) -> Result<(), Refusal> {
         self.sequence = match (self.sequence, kind) {
-            (Some(added), packet::ADD) => {
-                Some(added.joined(Protection::named_by(board, address)?))
-            }
+            (Some(added), packet::ADD) => Some(added.joined(Protection::named_by(board, address)?)),
             (Some(added), _) => {
                 self.protection = self.protection.joined(added);
                 self.key = address;

@@ -40,11 +40,6 @@ impl Board {
     fn log_length(self) -> u16 {
         (self.log_bytes() - LENGTH) as u16
     }
-
-    /// Whether a record has room for a count.
-    fn log_holds(self, count: u32) -> bool {
-        u64::from(count) >> (8 * self.count_bytes()) == 0
-    }
 }
 
 #[derive(Clone, Copy, Debug, PartialEq, Eq)]
@@ -70,12 +65,18 @@ impl Entry {
             total: session.total,
             named: session.named,
         };
-        let fits = entry.counts().iter().all(|count| entry.board.log_holds(*count));
-        (fits && entry.is_true()).then_some(entry)
+        (entry.fits() && entry.is_true()).then_some(entry)
     }
 
     fn counts(&self) -> [u32; 3] {
         [self.acknowledged, self.total, self.named]
+    }
+
+    /// Whether its version has room for the counts.
+    fn fits(&self) -> bool {
+        let bits = 8 * self.board.count_bytes();
+        let mut counts = self.counts().into_iter();
+        counts.all(|count| u64::from(count) >> bits == 0)
     }
 
     /// Whether a load can have ended so.
@@ -146,5 +147,7 @@ fn board_of(input: &[u8]) -> Result<Board, Refusal> {
 
 /// A number of at most four bytes, most significant first.
 fn number(bytes: &[u8]) -> u32 {
-    bytes.iter().fold(0, |number, byte| number << 8 | u32::from(*byte))
+    bytes
+        .iter()
+        .fold(0, |number, byte| number << 8 | u32::from(*byte))
 }

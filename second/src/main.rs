@@ -3,13 +3,15 @@
 use std::io::{self, BufWriter, Read, Write};
 use std::process::ExitCode;
 
-use second::{bench, cases, listing};
+use second::units::Board;
+use second::{bench, cases, listing, log};
 
 fn main() -> ExitCode {
     let arguments: Vec<String> = std::env::args().skip(1).collect();
     let done = match arguments.iter().map(String::as_str).collect::<Vec<_>>()[..] {
-        ["plan"] => print(listing::plan),
-        ["readlog"] => print(listing::readlog),
+        ["plan"] => print(listing::plan, u64::MAX),
+        // one byte more is enough to see that it is too long
+        ["readlog"] => print(listing::readlog, log::LONGEST as u64 + 1),
         ["cases"] => run_cases(),
         ["bench", job, times] => run_bench(job, times),
         _ => {
@@ -26,8 +28,11 @@ fn main() -> ExitCode {
     }
 }
 
-fn print(listing: impl Fn(&[u8]) -> String) -> io::Result<()> {
-    io::stdout().write_all(listing(&input()?).as_bytes())
+/// Prints a listing of the input, of which so many bytes are read at most.
+fn print(listing: impl Fn(&[u8]) -> String, most: u64) -> io::Result<()> {
+    let mut input = Vec::new();
+    io::stdin().lock().take(most).read_to_end(&mut input)?;
+    io::stdout().write_all(listing(&input).as_bytes())
 }
 
 fn run_cases() -> io::Result<()> {
@@ -38,16 +43,12 @@ fn run_cases() -> io::Result<()> {
 
 fn run_bench(job: &str, times: &str) -> io::Result<()> {
     let mut output = io::stdout();
-    if job == "hex" {
-        return output.write_all(&bench::full_file());
+    match job {
+        "hex" => return output.write_all(&bench::full_file(Board::Short)),
+        "hex-long" => return output.write_all(&bench::full_file(Board::Long)),
+        _ => {}
     }
     let times = times.parse().map_err(io::Error::other)?;
     let done = bench::run(job, times).ok_or_else(|| io::Error::other("no such job"))?;
     writeln!(output, "{} {} {}", done.given, done.sum, done.nanoseconds)
-}
-
-fn input() -> io::Result<Vec<u8>> {
-    let mut bytes = Vec::new();
-    io::stdin().lock().read_to_end(&mut bytes)?;
-    Ok(bytes)
 }

@@ -89,7 +89,7 @@ impl Pages {
 
     /// The first page of the lowest run.
     pub fn first(self) -> Option<Page> {
-        self.from(Page(0))
+        self.lowest_from(Page(0))
     }
 
     /// The index, counted from 0, of the maximal run that starts here.
@@ -105,13 +105,12 @@ impl Pages {
 
     /// The first page of the next run above.
     pub fn run_after(self, first: Page) -> Option<Page> {
-        self.starts().from(Page(first.0 + 1))
+        self.starts().lowest_from(Page(first.0 + 1))
     }
 
     pub fn run_length(self, first: Page) -> u8 {
-        let others = Pages(self.0.map(|half| !half));
-        let end = others.from(first).map_or(first.0, |page| page.0);
-        (end - first.0) as u8
+        let gap = Pages(self.0.map(|half| !half)).lowest_from(first);
+        gap.map_or(0, |gap| (gap.0 - first.0) as u8)
     }
 
     fn starts(self) -> Pages {
@@ -143,7 +142,7 @@ impl Pages {
     }
 
     /// The lowest of them from here on.
-    fn from(self, page: Page) -> Option<Page> {
+    fn lowest_from(self, page: Page) -> Option<Page> {
         let below = self.below(page);
         match [self.0[0] ^ below.0[0], self.0[1] ^ below.0[1]] {
             [0, 0] => None,
@@ -173,11 +172,13 @@ impl<'a> Map<'a> {
     }
 
     /// The lowest named address from here on.
+    #[inline]
     pub fn next_named(self, from: u32) -> Option<u32> {
         self.next_where(from, self.end(), |word| word)
     }
 
     /// How many bytes from here on are named without a gap, up to a limit.
+    #[inline]
     pub fn run_length(self, start: u32, limit: u32) -> u32 {
         let end = self.end().min(start + limit);
         self.next_where(start, end, |word| !word).unwrap_or(end) - start
@@ -234,6 +235,7 @@ impl<'a> Map<'a> {
     }
 
     /// The lowest address from here on whose bit is set in the word as seen.
+    #[inline]
     fn next_where(self, from: u32, end: u32, seen: impl Fn(u64) -> u64) -> Option<u32> {
         if from >= end {
             return None;
@@ -311,9 +313,9 @@ mod tests {
     }
 
     /// Runs of named bytes found one address at a time.
-    fn pieces_one_by_one(map: Map) -> Vec<Piece> {
+    fn pieces_one_by_one(board: Board, map: Map) -> Vec<Piece> {
         let mut pieces: Vec<Piece> = Vec::new();
-        for address in (0..FLASH_END).filter(|address| map.names(*address)) {
+        for address in (0..board.flash_end()).filter(|address| map.names(*address)) {
             match pieces.last_mut() {
                 Some(last) if last.start + last.length == address && last.length < PIECE_BITS => {
                     last.length += 1
@@ -327,20 +329,20 @@ mod tests {
         pieces
     }
 
-    fn check(bytes: &[u8]) {
-        check_each(bytes, 1);
+    fn check(board: Board, bytes: &[u8]) {
+        check_each(board, bytes, 1);
     }
 
     /// Looks closer at one piece in so many.
-    fn check_each(bytes: &[u8], stride: usize) {
-        let map = Map::new(bytes).unwrap();
-        let expected = pieces_one_by_one(map);
+    fn check_each(board: Board, bytes: &[u8], stride: usize) {
+        let map = Map::new(board, bytes).unwrap();
+        let expected = pieces_one_by_one(board, map);
         let survey = map.survey(None);
         assert_eq!(survey.pieces as usize, expected.len());
         let named: u32 = expected.iter().map(|piece| piece.length).sum();
         assert_eq!(survey.named, named);
-        let first = expected.first().map_or(FLASH_END, |piece| piece.start);
-        assert_eq!(survey.first, first);
+        let first = expected.first().map(|piece| piece.start);
+        assert_eq!(survey.first, first.unwrap_or(board.flash_end()));
         let starts = expected.iter().map(|piece| ByteAddress(piece.start));
         assert!(map.piece_starts().eq(starts));
         for (index, piece) in expected.iter().enumerate().step_by(stride) {
@@ -357,8 +359,8 @@ mod tests {
         assert_eq!(map.survey(Some(ByteAddress(u32::MAX))).sought.index, None);
     }
 
-    fn map_of_runs(runs: &[(u32, u32)]) -> Vec<u8> {
-        let mut bytes = vec![0; MAP_BYTES];
+    fn map_of_runs(board: Board, runs: &[(u32, u32)]) -> Vec<u8> {
+        let mut bytes = vec![0; board.map_bytes()];
         for (start, length) in runs {
             for address in *start..start + length {
                 name(&mut bytes, address);
@@ -369,52 +371,101 @@ mod tests {
 
     #[test]
     fn pieces_are_those_found_one_by_one() {
-        check(&map_of_runs(&[]));
-        check(&map_of_runs(&[(0, FLASH_END)]));
-        check(&map_of_runs(&[(FLASH_END - 1, 1)]));
-        for start in [0, 1, 6, 63, 64, 65, 511] {
-            for length in [1, 63, 64, 65, 249, 250, 251, 500, 501, 1000] {
-                check(&map_of_runs(&[(start, length), (start + length + 1, 260)]));
+        for board in Board::ALL {
+            let check_runs = |runs: &[(u32, u32)]| check(board, &map_of_runs(board, runs));
+            check_runs(&[]);
+            check_runs(&[(0, board.flash_end())]);
+            check_runs(&[(board.flash_end() - 1, 1)]);
+            for start in [0, 1, 6, 63, 64, 65, 511] {
+                for length in [1, 63, 64, 65, 249, 250, 251, 500, 501, 1000] {
+                    check_runs(&[(start, length), (start + length + 1, 260)]);
+                }
+            }
+            check_each(board, &vec![0x55; board.map_bytes()], 101);
+        }
+    }
+
+    /// Past 64 KiB, and over the page where the second half begins.
+    #[test]
+    fn pieces_of_the_long_board_alone() {
+        let board = Board::Long;
+        for start in [0xF7FF, 0xF800, 0xFFFF, 0x1_0000, 0x1_0001, 0x1_EB00] {
+            for length in [1, 2, 250, 251, 1000] {
+                check(board, &map_of_runs(board, &[(start, length)]));
             }
         }
-        check_each(&[0x55; MAP_BYTES], 101);
+    }
+
+    /// Runs with gaps from page 0 to the end of flash.
+    fn scattered_runs(board: Board, seed: &mut u32) -> Vec<(u32, u32)> {
+        let mut runs = Vec::new();
+        let mut start = 0;
+        loop {
+            *seed = seed.wrapping_mul(1_664_525).wrapping_add(1_013_904_223);
+            let (gap, length) = (*seed >> 24, (*seed >> 8) % 700);
+            if start + gap + length > board.flash_end() {
+                return runs;
+            }
+            runs.push((start + gap, length));
+            start += gap + length;
+        }
     }
 
     #[test]
     fn pieces_of_scattered_runs() {
-        let mut seed = 1u32;
-        for _ in 0..20 {
-            let mut runs = Vec::new();
-            let mut start = 0;
-            loop {
-                seed = seed.wrapping_mul(1_664_525).wrapping_add(1_013_904_223);
-                let (gap, length) = (seed >> 24, (seed >> 8) % 700);
-                if start + gap + length > FLASH_END {
-                    break;
-                }
-                runs.push((start + gap, length));
-                start += gap + length;
+        let mut seed = 1;
+        for board in Board::ALL {
+            for _ in 0..20 {
+                let runs = scattered_runs(board, &mut seed);
+                check(board, &map_of_runs(board, &runs));
             }
-            check(&map_of_runs(&runs));
+        }
+    }
+
+    /// The pages of a file, and its runs of pages by first page and length.
+    fn check_page_runs(board: Board, named: &[(u32, u32)], runs: &[(u32, u8)]) {
+        let bytes = map_of_runs(board, named);
+        let pages = Map::new(board, &bytes).unwrap().survey(None).pages;
+        assert_eq!(pages.runs() as usize, runs.len());
+        let starts: Vec<Page> = runs.iter().map(|(first, _)| Page(*first)).collect();
+        assert_eq!(pages.first(), starts.first().copied());
+        assert!(pages.run_starts().eq(starts.iter().copied()));
+        for (index, (first, length)) in runs.iter().enumerate() {
+            let next = starts.get(index + 1).copied();
+            assert_eq!(pages.run_length(Page(*first)), *length);
+            assert_eq!(pages.run_after(Page(*first)), next);
+        }
+        for page in (0..300).chain([511, u32::MAX]).map(Page) {
+            let index = starts.iter().position(|start| *start == page);
+            assert_eq!(pages.run_index(page), index.map(|index| index as u32));
         }
     }
 
     #[test]
     fn page_runs_are_maximal() {
-        let bytes = map_of_runs(&[(0, 1), (512, 1), (0x7FF, 2), (0xF600, 1)]);
-        let pages = Map::new(&bytes).unwrap().survey(None).pages;
-        assert_eq!(pages.runs(), 3);
-        assert_eq!(pages.first(), Page(0));
-        assert!(pages.run_starts().eq([0, 3, 123].map(Page)));
-        assert_eq!(Pages::default().run_starts().next(), None);
-        let runs = [(0, 2, Some(3)), (3, 2, Some(123)), (123, 1, None)];
-        for (index, (first, length, next)) in (0..).zip(runs) {
-            assert_eq!(pages.run_index(Page(first)), Some(index));
-            assert_eq!(pages.run_length(Page(first)), length);
-            assert_eq!(pages.run_after(Page(first)), next.map(Page));
+        for board in Board::ALL {
+            check_page_runs(board, &[], &[]);
+            let all = board.pages() as u8;
+            check_page_runs(board, &[(0, board.flash_end())], &[(0, all)]);
+            let named = [(0, 1), (512, 1), (0x7FF, 2), (0xF600, 1)];
+            check_page_runs(board, &named, &[(0, 2), (3, 2), (123, 1)]);
+            let last = board.pages() - 1;
+            check_page_runs(board, &[(board.flash_end() - 1, 1)], &[(last, 1)]);
         }
-        for page in [1, 2, 4, 122, 124, 127, 128, u32::MAX] {
-            assert_eq!(pages.run_index(Page(page)), None);
-        }
+    }
+
+    /// Pages 127 and 128 are side by side like any other two.
+    #[test]
+    fn page_runs_over_64_kib() {
+        let check = |named: &[(u32, u32)], runs: &[(u32, u8)]| {
+            check_page_runs(Board::Long, named, runs);
+        };
+        check(&[(0xFFFF, 1)], &[(127, 1)]);
+        check(&[(0x1_0000, 1)], &[(128, 1)]);
+        check(&[(0xFFFF, 2)], &[(127, 2)]);
+        check(&[(0xFDFF, 1), (0x1_0000, 1)], &[(126, 1), (128, 1)]);
+        check(&[(0, 0x1_0000)], &[(0, 128)]);
+        check(&[(0x1_0000, 0xF000)], &[(128, 120)]);
+        check(&[(0xFE00, 513), (0x1_0400, 1)], &[(127, 2), (130, 1)]);
     }
 }

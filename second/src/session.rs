@@ -3,11 +3,11 @@
 use std::iter;
 
 use crate::hex::check_sizes;
-use crate::loader::{ACK, BACKSPACE, BEL, GREETING};
+use crate::loader::{ACK, BACKSPACE, BEL};
 use crate::map::{Map, Survey};
 use crate::packet::{self, Command};
 use crate::refusal::Refusal;
-use crate::units::{ByteAddress, Page};
+use crate::units::{Board, ByteAddress, Page, GREETING_BYTES};
 
 /// The greeting's first bytes, which must be exact; so must its last two.
 const GREETING_FIXED: usize = 15;
@@ -126,6 +126,7 @@ impl Phase {
 /// A value the caller keeps; it is checked against the file at every step.
 #[derive(Clone, Copy, Debug, PartialEq, Eq)]
 pub struct Session {
+    pub board: Board,
     pub run: Run,
     pub phase: Phase,
     pub acknowledged: u32,
@@ -150,23 +151,24 @@ struct File<'a> {
 }
 
 impl Session {
-    /// Starts a session and writes the single byte 08.
+    /// Starts a session for a board and writes the single byte 08.
     pub fn start(
+        board: Board,
         run: Run,
         image: &[u8],
         map: &[u8],
         buffer: &mut [u8],
     ) -> Result<(Session, usize), Refusal> {
-        check_lent(image, map, buffer)?;
-        let survey = Map::new(map)?.survey(None);
-        let session = Session::begun(run, &survey).ok_or(Refusal::NoData)?;
+        let survey = check_lent(board, image, map, buffer)?.survey(None);
+        let session = Session::begun(board, run, &survey).ok_or(Refusal::NoData)?;
         buffer[0] = BACKSPACE;
         Ok((session, 1))
     }
 
     /// The session at its start; none where nothing is named.
-    fn begun(run: Run, survey: &Survey) -> Option<Session> {
+    fn begun(board: Board, run: Run, survey: &Survey) -> Option<Session> {
         let session = Session {
+            board,
             run,
             phase: Phase::Greeting,
             acknowledged: 0,
@@ -185,11 +187,11 @@ impl Session {
         map: &[u8],
         buffer: &mut [u8],
     ) -> Result<(Session, usize), Refusal> {
-        check_lent(image, map, buffer)?;
+        let map = check_lent(self.board, image, map, buffer)?;
         if let Phase::Ended(_) = self.phase {
             return Err(Refusal::SessionEnded);
         }
-        let file = File::new(image, map, self.phase)?;
+        let file = File::new(image, map, self.phase);
         if !self.belongs_to(&file.survey) {
             return Err(Refusal::OtherFile);
         }
@@ -212,9 +214,9 @@ impl Session {
     /// acknowledged. The lent map must lead to this session; two maps that both
     /// do are not told apart.
     pub fn proved(&self, map: &[u8], address: u32) -> Result<bool, Refusal> {
-        let map = Map::new(map)?;
+        let map = Map::new(self.board, map)?;
         let survey = map.survey(None);
-        let start = Session::begun(self.run, &survey).ok_or(Refusal::OtherFile)?;
+        let start = Session::begun(self.board, self.run, &survey).ok_or(Refusal::OtherFile)?;
         let same_counts = (self.total, self.named) == (start.total, start.named);
         if !same_counts || !self.turns_up_in(start.walk(map, &survey)) {
             return Err(Refusal::OtherFile);
@@ -286,7 +288,7 @@ impl Session {
             return Heard::Ending(Outcome::Silent);
         };
         match (self.phase, answer) {
-            (Phase::Greeting, _) if is_greeting(answer) => Heard::Expected,
+            (Phase::Greeting, _) if is_greeting(self.board, answer) => Heard::Expected,
             (Phase::Greeting, _) => Heard::Ending(Outcome::WrongGreeting),
             (_, [ACK]) => Heard::Expected,
             (_, [BEL]) => Heard::Ending(Outcome::Refused),
@@ -341,12 +343,10 @@ impl Survey {
     /// The phase that an expected answer leads to.
     fn after(&self, phase: Phase, run: Run) -> Phase {
         let (first, next) = (ByteAddress(self.first), self.sought.next.map(ByteAddress));
+        let erase = |page: Option<Page>| page.map_or(Phase::Write(first), Phase::Erase);
         match phase {
-            Phase::Greeting => Phase::Erase(self.pages.first()),
-            Phase::Erase(page) => match self.pages.run_after(page) {
-                Some(next) => Phase::Erase(next),
-                None => Phase::Write(first),
-            },
+            Phase::Greeting => erase(self.pages.first()),
+            Phase::Erase(page) => erase(self.pages.run_after(page)),
             Phase::Write(_) => next.map_or(Phase::Verify(first), Phase::Write),
             Phase::Verify(_) => next.map_or(run.once_proved(), Phase::Verify),
             Phase::Run => Phase::Ended(Outcome::Valid),
@@ -356,10 +356,9 @@ impl Survey {
 }
 
 impl<'a> File<'a> {
-    fn new(image: &'a [u8], map: &'a [u8], phase: Phase) -> Result<File<'a>, Refusal> {
-        let map = Map::new(map)?;
+    fn new(image: &'a [u8], map: Map<'a>, phase: Phase) -> File<'a> {
         let survey = map.survey(phase.piece());
-        Ok(File { image, map, survey })
+        File { image, map, survey }
     }
 
     /// Builds the packet that a phase waits on; none for an ending.
@@ -391,16 +390,22 @@ impl<'a> File<'a> {
     }
 }
 
-fn check_lent(image: &[u8], map: &[u8], buffer: &[u8]) -> Result<(), Refusal> {
-    check_sizes(image, map)?;
+/// All that a session is lent is of the right size; gives the map.
+fn check_lent<'a>(
+    board: Board,
+    image: &[u8],
+    map: &'a [u8],
+    buffer: &[u8],
+) -> Result<Map<'a>, Refusal> {
     if buffer.len() < packet::LONGEST {
         return Err(Refusal::Size);
     }
-    Ok(())
+    check_sizes(board, image, map)
 }
 
-fn is_greeting(answer: &[u8]) -> bool {
-    answer.len() == GREETING.len()
-        && answer.starts_with(&GREETING[..GREETING_FIXED])
-        && answer.ends_with(&GREETING[GREETING.len() - 2..])
+fn is_greeting(board: Board, answer: &[u8]) -> bool {
+    let greeting = board.greeting();
+    answer.len() == GREETING_BYTES
+        && answer.starts_with(&greeting[..GREETING_FIXED])
+        && answer.ends_with(&greeting[GREETING_BYTES - 2..])
 }

@@ -44,6 +44,9 @@ fn the_last_line_may_lack_its_end() {
 #[test]
 fn refusals_of_the_hex_reader_show_their_column() {
     let printed = "lend map 7935 -> 0\n\
+                   board 125 -> 0\n\
+                   hex -> 65 0\n\
+                   board 124 -> 0\n\
                    hex -> 20 0\n\
                    record :0000 -> 20 0\n\
                    lend map 7936 -> 0\n\
@@ -77,11 +80,16 @@ fn refusals_of_the_hex_reader_show_their_column() {
 #[test]
 fn other_refusals_show_no_column() {
     let printed = "lend record 43 -> 0\n\
-                   write 00000000 -> 33\n\
+                   write 00000000 0000 -> 33\n\
                    lend map 7935 -> 0\n\
-                   write 00000000 -> 20\n\
+                   write 00000000 0000 -> 20\n\
                    start reset -> 20\n\
                    rehearse reset  -> 20\n\
+                   board 125 -> 0\n\
+                   take  -> 65\n\
+                   write 00000000 0000 -> 65\n\
+                   start reset -> 65\n\
+                   rehearse reset  -> 65\n\
                    read  -> 1\n\
                    logread  -> 50\n";
     check(printed);

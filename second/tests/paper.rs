@@ -4,11 +4,11 @@ use second::cases;
 use second::hex::{self, HexRefusal, Reader};
 use second::line::{rehearse, Exchange};
 use second::listing;
-use second::loader::{Condition, Loader, Protection, GREETING, NO_KEY};
+use second::loader::{Condition, Loader, Protection, NO_KEY};
 use second::log;
 use second::packet::{self, Command};
 use second::session::{Event, Outcome, Phase, Run, Session};
-use second::units::{ByteAddress, Page, FLASH_BYTES, MAP_BYTES};
+use second::units::{Board, ByteAddress, Page};
 use second::Refusal;
 
 fn built(command: Command, address: u32, data: &[u8]) -> Vec<u8> {
@@ -17,19 +17,45 @@ fn built(command: Command, address: u32, data: &[u8]) -> Vec<u8> {
     buffer[..length].to_vec()
 }
 
-/// A loader that serves, with its flash.
+#[test]
+fn boards_are_as_long_as_the_paper_says() {
+    for (board, pages, bytes, map, groups) in [
+        (Board::Short, 124, 63_488, 7_936, 31),
+        (Board::Long, 248, 126_976, 15_872, 62),
+    ] {
+        assert_eq!(board.pages(), pages);
+        assert_eq!(board.flash_bytes(), bytes);
+        assert_eq!(board.flash_end() as usize, bytes);
+        assert_eq!(board.map_bytes(), map);
+        assert_eq!(board.groups(), groups);
+    }
+    assert_eq!(Board::ALL, [Board::Short, Board::Long]);
+    assert_eq!(Board::Short.flash_end(), 0xF800);
+    assert_eq!(Board::Long.flash_end(), 0x1_F000);
+}
+
+fn other(board: Board) -> Board {
+    match board {
+        Board::Short => Board::Long,
+        Board::Long => Board::Short,
+    }
+}
+
+/// A loader that serves on a board, with its flash.
 struct Served {
+    board: Board,
     loader: Loader,
     flash: Vec<u8>,
 }
 
 impl Served {
-    fn new(filling: u8) -> Served {
+    fn new(board: Board, filling: u8) -> Served {
         let mut served = Served {
+            board,
             loader: Loader::factory(),
-            flash: vec![filling; FLASH_BYTES],
+            flash: vec![filling; board.flash_bytes()],
         };
-        assert_eq!(served.input(&[0x08]), Ok(GREETING.to_vec()));
+        assert_eq!(served.input(&[0x08]), Ok(board.greeting().to_vec()));
         served
     }
 
@@ -37,7 +63,10 @@ impl Served {
     fn input(&mut self, input: &[u8]) -> Result<Vec<u8>, u8> {
         let mut answer = [0xAA; 30];
         let (loader, flash) = (self.loader, self.flash.clone());
-        match self.loader.take(input, &mut self.flash, &mut answer) {
+        let taken = self
+            .loader
+            .take(self.board, input, &mut self.flash, &mut answer);
+        match taken {
             Ok(length) => {
                 assert!(answer[length..].iter().all(|byte| *byte == 0xAA));
                 Ok(answer[..length].to_vec())
@@ -136,81 +165,246 @@ fn reader_refuses_in_order() {
 }
 
 #[test]
+fn greetings() {
+    for (board, length) in [(Board::Short, &b"-62 "[..]), (Board::Long, b"-124")] {
+        let mut answer = [0xAA; 25];
+        let mut flash = vec![0; board_bytes(board)];
+        let taken = Loader::factory().take(board, &[0x08], &mut flash, &mut answer);
+        assert_eq!(taken, Ok(24));
+        let end = [0x20, 0x20, 0x20, 0x20, 0x0A, 0x0D, 0xAA];
+        let expected = [b"ADuC702x", &b"   "[..], length, b"I31", &end].concat();
+        assert_eq!(answer[..], expected);
+    }
+}
+
+/// Flash as the paper counts it.
+fn board_bytes(board: Board) -> usize {
+    match board {
+        Board::Short => 63_488,
+        Board::Long => 126_976,
+    }
+}
+
+#[test]
 fn loader_refuses_20_then_11() {
-    let mut loader = Loader::factory();
-    let mut take = |input: &[u8], flash: usize, answer: usize| {
-        let (mut flash, mut answer) = (vec![0; flash], vec![0; answer]);
-        loader.take(input, &mut flash, &mut answer)
-    };
-    assert_eq!(take(&[], FLASH_BYTES - 1, 24), Err(Refusal::Size));
-    assert_eq!(take(&[], FLASH_BYTES + 1, 24), Err(Refusal::Size));
-    assert_eq!(take(&[], FLASH_BYTES, 23), Err(Refusal::Size));
-    assert_eq!(take(&[], FLASH_BYTES, 24), Err(Refusal::NotServing));
-    assert_eq!(take(&[8, 8], FLASH_BYTES, 24), Err(Refusal::NotServing));
-    assert_eq!(take(&[8], FLASH_BYTES, 100), Ok(24));
+    for board in Board::ALL {
+        let bytes = board_bytes(board);
+        let mut loader = Loader::factory();
+        let mut take = |input: &[u8], flash: usize, answer: usize| {
+            let (mut flash, mut answer) = (vec![0; flash], vec![0; answer]);
+            loader.take(board, input, &mut flash, &mut answer)
+        };
+        for wrong in [0, bytes - 1, bytes + 1, board_bytes(other(board))] {
+            assert_eq!(take(&[], wrong, 24), Err(Refusal::Size));
+            assert_eq!(take(&[8], wrong, 24), Err(Refusal::Size));
+        }
+        assert_eq!(take(&[], bytes, 23), Err(Refusal::Size));
+        assert_eq!(take(&[], bytes, 24), Err(Refusal::NotServing));
+        assert_eq!(take(&[8, 8], bytes, 24), Err(Refusal::NotServing));
+        assert_eq!(take(&[8], bytes, 100), Ok(24));
+    }
 }
 
 #[test]
 fn erase_limits() {
-    let mut served = Served::new(0x00);
-    assert_eq!(served.give(Command::Erase, 0x01FF, &[1]), ack());
-    assert!(served.flash[..512].iter().all(|byte| *byte == 0xFF));
-    assert!(served.flash[512..].iter().all(|byte| *byte == 0x00));
-    assert_eq!(served.give(Command::Erase, 0xF600, &[2]), Err(7));
-    assert_eq!(served.give(Command::Erase, 0xF600, &[1]), ack());
-    assert_eq!(served.give(Command::Erase, 1, &[0]), Err(7));
-    assert_eq!(served.give(Command::Erase, 0xF800, &[1]), Err(7));
-    assert_eq!(served.give(Command::Erase, 0xFFFF_FFFF, &[255]), Err(7));
-    assert_eq!(served.give(Command::Erase, 0, &[125]), Err(7));
-    assert_eq!(served.give(Command::Erase, 0, &[124]), ack());
-    assert!(served.flash.iter().all(|byte| *byte == 0xFF));
+    for (board, last, end, pages) in [
+        (Board::Short, 0xF600, 0xF800, 124),
+        (Board::Long, 0x1_EE00, 0x1_F000, 248),
+    ] {
+        let mut served = Served::new(board, 0x00);
+        assert_eq!(served.give(Command::Erase, 0x01FF, &[1]), ack());
+        assert!(served.flash[..512].iter().all(|byte| *byte == 0xFF));
+        assert!(served.flash[512..].iter().all(|byte| *byte == 0x00));
+        assert_eq!(served.give(Command::Erase, last, &[2]), Err(7));
+        assert_eq!(served.give(Command::Erase, last, &[1]), ack());
+        assert_eq!(served.give(Command::Erase, 1, &[0]), Err(7));
+        assert_eq!(served.give(Command::Erase, end, &[1]), Err(7));
+        assert_eq!(served.give(Command::Erase, 0xFFFF_FFFF, &[255]), Err(7));
+        assert_eq!(served.give(Command::Erase, 0, &[pages + 1]), Err(7));
+        assert_eq!(served.give(Command::Erase, 0x200, &[pages]), Err(7));
+        assert_eq!(served.give(Command::Erase, 0, &[pages]), ack());
+        assert!(served.flash.iter().all(|byte| *byte == 0xFF));
+    }
+}
+
+#[test]
+fn mass_erase_clears_the_whole_board() {
+    for board in Board::ALL {
+        let mut served = Served::new(board, 0x00);
+        served.loader.protection = protection(u64::MAX, true);
+        served.loader.key = 6;
+        assert_eq!(served.give(Command::Erase, 0, &[0]), ack());
+        assert!(served.flash.iter().all(|byte| *byte == 0xFF));
+        assert_eq!(served.loader.protection, Protection::default());
+        assert_eq!(served.loader.key, NO_KEY);
+    }
+}
+
+#[test]
+fn erase_past_the_short_board() {
+    let mut served = Served::new(Board::Long, 0x00);
+    for (address, count, pages) in [(0xF7FF, 2, 123..125), (0xFFFF, 2, 127..129)] {
+        served.flash.fill(0x00);
+        assert_eq!(served.give(Command::Erase, address, &[count]), ack());
+        for (page, bytes) in served.flash.chunks(512).enumerate() {
+            let byte = if pages.contains(&page) { 0xFF } else { 0x00 };
+            assert!(bytes.iter().all(|found| *found == byte));
+        }
+    }
 }
 
 #[test]
 fn write_and_verify_limits() {
-    let mut served = Served::new(0xF0);
-    assert_eq!(served.give(Command::Write, 0xF7FF, &[0, 0]), Err(7));
-    assert_eq!(served.give(Command::Verify, 0xF7FF, &[0, 0]), Err(7));
-    assert_eq!(served.give(Command::Write, 0xFFFF_FFFF, &[0; 250]), Err(7));
-    assert_eq!(served.give(Command::Write, 0xF7FF, &[0x0F]), ack());
-    assert_eq!(served.flash[0xF7FF], 0x00);
-    assert_eq!(served.give(Command::Verify, 0xF7FF, &[0x0F]), Err(10));
-    assert_eq!(served.give(Command::Verify, 0xF7FE, &[0xF0, 0x00]), ack());
+    for (board, last) in [(Board::Short, 0xF7FF), (Board::Long, 0x1_EFFF)] {
+        let mut served = Served::new(board, 0xF0);
+        for command in [Command::Write, Command::Verify] {
+            assert_eq!(served.give(command, last, &[0, 0]), Err(7));
+            assert_eq!(served.give(command, last + 1, &[0]), Err(7));
+            assert_eq!(served.give(command, last - 248, &[0; 250]), Err(7));
+            assert_eq!(served.give(command, 0xFFFF_FFFF, &[0; 250]), Err(7));
+        }
+        assert_eq!(served.give(Command::Write, last, &[0x0F]), ack());
+        assert_eq!(served.flash[last as usize], 0x00);
+        assert_eq!(served.give(Command::Verify, last, &[0x0F]), Err(10));
+        assert_eq!(served.give(Command::Verify, last - 1, &[0xF0, 0x00]), ack());
+        assert_eq!(
+            served.give(Command::Verify, last - 249, &[0xF0; 249]),
+            ack()
+        );
+    }
+}
+
+#[test]
+fn write_and_verify_past_the_short_board() {
+    let mut served = Served::new(Board::Long, 0xFF);
+    for address in [0xF7FF, 0xF800, 0xFFFF, 0x1_0000] {
+        assert_eq!(served.give(Command::Write, address, &[0x12, 0x34]), ack());
+        assert_eq!(served.give(Command::Verify, address, &[0x12, 0x34]), ack());
+        assert_eq!(
+            served.give(Command::Verify, address, &[0x12, 0x35]),
+            Err(10)
+        );
+        let at = address as usize;
+        assert_eq!(served.flash[at - 1..at + 3], [0xFF, 0x12, 0x34, 0xFF]);
+        served.flash.fill(0xFF);
+    }
+}
+
+/// What type 0x0F adds by itself; None where it is 7.
+fn added_by(board: Board, address: u32) -> Option<Protection> {
+    let mut served = Served::new(board, 0xFF);
+    assert_eq!(served.give(Command::Protect, 0, &[0x00]), ack());
+    match served.give(Command::Protect, address, &[0x0F]) {
+        Ok(_) => assert_eq!(served.give(Command::Protect, 0, &[0x01]), ack()),
+        Err(number) => {
+            assert_eq!(number, 7);
+            return None;
+        }
+    }
+    Some(served.loader.protection)
+}
+
+#[test]
+fn addresses_of_groups_and_of_read_protection() {
+    let group = |number: u32| Some(protection(1 << number, false));
+    let read = Some(protection(0, true));
+    for (board, address, added) in [
+        (Board::Short, 0x200, group(0)),
+        (Board::Short, 0x800, group(1)),
+        (Board::Short, 0xF7FF, group(30)),
+        (Board::Short, 0xF800, read),
+        (Board::Short, 0xFFFF, read),
+        (Board::Short, 0x1_0000, None),
+        (Board::Short, 0x1_F000, None),
+        (Board::Short, 0xFFFF_FFFF, None),
+        (Board::Long, 0x200, group(0)),
+        (Board::Long, 0x800, group(1)),
+        (Board::Long, 0xF7FF, group(30)),
+        (Board::Long, 0xF800, group(31)),
+        (Board::Long, 0xFFFF, group(31)),
+        (Board::Long, 0x1_0000, group(32)),
+        (Board::Long, 0x1_EFFF, group(61)),
+        (Board::Long, 0x1_F000, read),
+        (Board::Long, 0x1_F7FF, read),
+        (Board::Long, 0x1_F800, None),
+        (Board::Long, 0x2_0000, None),
+        (Board::Long, 0xFFFF_FFFF, None),
+    ] {
+        assert_eq!(added_by(board, address), added, "{board:?} {address:X}");
+    }
+}
+
+/// Each group guards its own four pages, and no others.
+#[test]
+fn each_group_is_protected_by_itself() {
+    for (board, groups) in [(Board::Short, 31), (Board::Long, 62)] {
+        let mut served = Served::new(board, 0xFF);
+        for protected in 0..groups {
+            served.loader.protection = protection(1 << protected, false);
+            for group in 0..groups {
+                let given = if group == protected { Err(8) } else { ack() };
+                let first = group * 0x800;
+                for place in [first, first + 0x7FF] {
+                    assert_eq!(served.give(Command::Write, place, &[0xFF]), given);
+                    assert_eq!(served.give(Command::Verify, place, &[0xFF]), ack());
+                    assert_eq!(served.give(Command::Erase, place, &[1]), given);
+                }
+                assert_eq!(served.give(Command::Erase, first, &[4]), given);
+            }
+        }
+    }
+}
+
+#[test]
+fn nothing_of_a_sequence_takes_effect_before_its_end() {
+    for board in Board::ALL {
+        let mut served = Served::new(board, 0xFF);
+        assert_eq!(served.give(Command::Protect, 0, &[0x0F]), Err(9));
+        assert_eq!(served.give(Command::Protect, 0, &[0x01]), Err(9));
+        assert_eq!(served.give(Command::Protect, 7, &[0x00]), ack());
+        assert_eq!(served.give(Command::Protect, 7, &[0x00]), Err(9));
+        assert_eq!(served.give(Command::Erase, 0, &[0]), Err(9));
+        assert_eq!(served.give(Command::Write, 0x1_F000, &[0]), Err(9));
+        assert_eq!(served.give(Command::Verify, 0, &[0xFF]), Err(9));
+        assert_eq!(served.give(Command::Run, 0, &[]), Err(9));
+        assert_eq!(served.give(Command::Protect, 0x200, &[0x0F]), ack());
+        assert_eq!(served.give(Command::Protect, 0x1_F800, &[0x0F]), Err(7));
+        assert_eq!(served.loader.protection, Protection::default());
+        assert_eq!(served.give(Command::Protect, 0x1234_5678, &[0x01]), ack());
+        assert_eq!(served.loader.key, 0x1234_5678);
+        assert_eq!(served.loader.protection, protection(1, false));
+    }
 }
 
 #[test]
 fn protection_takes_effect_at_the_closing_packet() {
-    let mut served = Served::new(0xFF);
-    assert_eq!(served.give(Command::Protect, 0, &[0x0F]), Err(9));
-    assert_eq!(served.give(Command::Protect, 0, &[0x01]), Err(9));
-    assert_eq!(served.give(Command::Protect, 7, &[0x00]), ack());
-    assert_eq!(served.give(Command::Protect, 7, &[0x00]), Err(9));
-    assert_eq!(served.give(Command::Erase, 0, &[0]), Err(9));
-    assert_eq!(served.give(Command::Write, 0xF800, &[0]), Err(9));
-    assert_eq!(served.give(Command::Verify, 0, &[0xFF]), Err(9));
-    assert_eq!(served.give(Command::Run, 0, &[]), Err(9));
-    assert_eq!(served.give(Command::Protect, 0x200, &[0x0F]), ack());
-    assert_eq!(served.give(Command::Protect, 0xF7FF, &[0x0F]), ack());
-    assert_eq!(served.give(Command::Protect, 0x1_0000, &[0x0F]), Err(7));
-    assert_eq!(served.give(Command::Protect, 0xFFFF, &[0x0F]), ack());
-    assert_eq!(served.loader.protection, Protection::default());
-    assert_eq!(served.give(Command::Protect, 0x1234_5678, &[0x01]), ack());
-    assert_eq!(served.loader.key, 0x1234_5678);
-    assert_eq!(served.loader.protection, protection(0x4000_0001, true));
-    assert_eq!(served.give(Command::Write, 0x7FF, &[0]), Err(8));
-    assert_eq!(served.give(Command::Write, 0x800, &[0xFF]), ack());
-    assert_eq!(served.give(Command::Erase, 0x600, &[1]), Err(8));
-    assert_eq!(served.give(Command::Erase, 0x800, &[117]), Err(8));
-    assert_eq!(served.give(Command::Erase, 0x800, &[116]), ack());
-    assert_eq!(served.give(Command::Verify, 0x800, &[0x00]), Err(8));
-    assert_eq!(served.give(Command::Erase, 0, &[0]), ack());
-    assert_eq!(served.loader.protection, Protection::default());
-    assert_eq!(served.loader.key, NO_KEY);
+    for (board, last, read, groups, free) in [
+        (Board::Short, 0xF7FF, 0xFFFF, 0x4000_0001, 116),
+        (Board::Long, 0x1_EFFF, 0x1_F7FF, 0x2000_0000_0000_0001, 240),
+    ] {
+        let mut served = Served::new(board, 0xFF);
+        assert_eq!(served.give(Command::Protect, 0, &[0x00]), ack());
+        for address in [0x200, last, read] {
+            assert_eq!(served.give(Command::Protect, address, &[0x0F]), ack());
+        }
+        assert_eq!(served.give(Command::Protect, 6, &[0x01]), ack());
+        assert_eq!(served.loader.protection, protection(groups, true));
+        assert_eq!(served.give(Command::Write, 0x7FF, &[0]), Err(8));
+        assert_eq!(served.give(Command::Write, last, &[0]), Err(8));
+        assert_eq!(served.give(Command::Write, 0x800, &[0xFF]), ack());
+        assert_eq!(served.give(Command::Erase, 0x600, &[1]), Err(8));
+        assert_eq!(served.give(Command::Erase, 0x800, &[free + 1]), Err(8));
+        assert_eq!(served.give(Command::Erase, 0x800, &[free]), ack());
+        assert_eq!(served.give(Command::Verify, 0x800, &[0x00]), Err(8));
+        assert_eq!(served.give(Command::Erase, 0, &[0]), ack());
+        assert_eq!(served.loader.protection, Protection::default());
+        assert_eq!(served.loader.key, NO_KEY);
+    }
 }
 
 #[test]
 fn reset_drops_a_sequence_and_keeps_protection() {
-    let mut served = Served::new(0xFF);
+    let mut served = Served::new(Board::Long, 0xFF);
     served.loader.protection = protection(5, false);
     served.loader.key = 6;
     assert_eq!(served.give(Command::Protect, 0, &[0x00]), ack());
@@ -226,14 +420,16 @@ fn reset_drops_a_sequence_and_keeps_protection() {
 
 #[test]
 fn run_leaves() {
-    let mut served = Served::new(0xFF);
-    assert_eq!(served.give(Command::Run, 2, &[]), Err(7));
-    assert_eq!(served.give(Command::Run, 1, &[]), ack());
-    assert_eq!(served.give(Command::Run, 1, &[]), Err(11));
-    assert_eq!(served.input(&[0x08]), Err(11));
-    served.loader.reset();
-    assert_eq!(served.input(&[0x08]).map(|answer| answer.len()), Ok(24));
-    assert_eq!(served.give(Command::Run, 0, &[]), ack());
+    for board in Board::ALL {
+        let mut served = Served::new(board, 0xFF);
+        assert_eq!(served.give(Command::Run, 2, &[]), Err(7));
+        assert_eq!(served.give(Command::Run, 1, &[]), ack());
+        assert_eq!(served.give(Command::Run, 1, &[]), Err(11));
+        assert_eq!(served.input(&[0x08]), Err(11));
+        served.loader.reset();
+        assert_eq!(served.input(&[0x08]), Ok(board.greeting().to_vec()));
+        assert_eq!(served.give(Command::Run, 0, &[]), ack());
+    }
 }
 
 /// The number and the column of a refusal of the hex reader; both 0 for none.
@@ -253,19 +449,24 @@ struct Reading {
 }
 
 impl Reading {
-    fn new() -> Reading {
-        let (mut image, mut map) = (vec![0; FLASH_BYTES], vec![1; MAP_BYTES]);
-        let reader = Reader::start(&mut image, &mut map).unwrap();
+    fn new(board: Board) -> Reading {
+        let mut image = vec![0; board.flash_bytes()];
+        let mut map = vec![1; board.map_bytes()];
+        let reader = Reader::start(board, &mut image, &mut map).unwrap();
         assert!(image.iter().all(|byte| *byte == 0xFF) && map.iter().all(|byte| *byte == 0));
         Reading { reader, image, map }
     }
 
-    fn of(records: &[&str]) -> Reading {
-        let mut reading = Reading::new();
+    fn of(board: Board, records: &[&str]) -> Reading {
+        let mut reading = Reading::new(board);
         for record in records {
-            assert_eq!(reading.record(record), 0);
+            assert_eq!(reading.record(record), 0, "{record}");
         }
         reading
+    }
+
+    fn board(&self) -> Board {
+        self.reader.board
     }
 
     /// What comes of a record; refusals leave everything as it stood.
@@ -289,7 +490,9 @@ impl Reading {
 
     fn session(&self, run: Run) -> Session {
         let mut packet = [0xAA; packet::LONGEST];
-        let (session, length) = Session::start(run, &self.image, &self.map, &mut packet).unwrap();
+        let (image, map) = (&self.image, &self.map);
+        let started = Session::start(self.board(), run, image, map, &mut packet);
+        let (session, length) = started.unwrap();
         assert_eq!((length, packet[0], packet[1]), (1, 0x08, 0xAA));
         session
     }
@@ -321,80 +524,223 @@ impl Reading {
 
 #[test]
 fn printed_records() {
-    assert_eq!(Reading::new().record(":020000001234B8"), 0);
-    assert_eq!(Reading::new().record(":00000001FF"), 0);
-    assert_eq!(Reading::new().record(":020000040108EA"), 26);
-    assert_eq!(Reading::new().record(":020000040108F1"), 0);
-    assert_eq!(Reading::new().record(":0200000212FFBD"), 26);
-    assert_eq!(Reading::new().record(":0200000212FFEB"), 0);
-    assert_eq!(Reading::new().record(":0401000090FFAA5502"), 26);
-    assert_eq!(Reading::new().record(":0401000090FFAA556D"), 0);
-    assert_eq!(Reading::new().record(":0401000090ffaa556d"), 0);
+    for board in Board::ALL {
+        for (record, number) in [
+            (":020000001234B8", 0),
+            (":00000001FF", 0),
+            (":020000040108EA", 26),
+            (":020000040108F1", 0),
+            (":0200000212FFBD", 26),
+            (":0200000212FFEB", 0),
+            (":0401000090FFAA5502", 26),
+            (":0401000090FFAA556D", 0),
+            (":0401000090ffaa556d", 0),
+        ] {
+            assert_eq!(Reading::new(board).record(record), number, "{record}");
+        }
+    }
+}
+
+#[test]
+fn reader_starts_20_at_any_other_size() {
+    for board in Board::ALL {
+        let (bytes, map) = (board.flash_bytes(), board.map_bytes());
+        let far = other(board);
+        for (image, map) in [
+            (bytes - 1, map),
+            (bytes + 1, map),
+            (bytes, map - 1),
+            (bytes, map + 1),
+            (far.flash_bytes(), map),
+            (bytes, far.map_bytes()),
+            (far.flash_bytes(), far.map_bytes()),
+        ] {
+            let (mut image, mut map) = (vec![0x5A; image], vec![0x5A; map]);
+            assert_eq!(told(Reader::start(board, &mut image, &mut map)), (20, 0));
+            let mut reader = Reading::new(board).reader;
+            let taken = reader.record(b":00000001FF", &mut image, &mut map);
+            assert_eq!(told(taken), (20, 0));
+            assert_eq!(reader, Reading::new(board).reader);
+            assert!(image.iter().chain(&map).all(|byte| *byte == 0x5A));
+        }
+    }
 }
 
 #[test]
 fn empty_data_is_accepted_anywhere() {
-    let mut reading = Reading::new();
-    assert_eq!(reading.record(":00FFFF0002"), 0);
-    assert_eq!(reading, Reading::new());
-    assert_eq!(reading.record(":00000001FF"), 0);
-    assert_eq!(reading.close(), (32, 0));
+    for board in Board::ALL {
+        let mut reading = Reading::new(board);
+        assert_eq!(reading.record(":00FFFF0002"), 0);
+        assert_eq!(reading, Reading::new(board));
+        assert_eq!(reading.record(":00000001FF"), 0);
+        assert_eq!(reading.close(), (32, 0));
+    }
 }
 
 #[test]
 fn record_refusals() {
-    let mut reading = Reading::of(&[":020000001234B8"]);
-    for (record, number, column) in [
-        ("", 22, 0),
-        ("020000001234B8", 22, 0),
-        (":00000001F", 23, 10),
-        (":0000000", 23, 8),
-        (":000000G1FF", 24, 7),
-        (":010000001234B8", 25, 15),
-        (":020000001234B9", 26, 13),
-        (":00000006FA", 27, 7),
-        (":0100000100FE", 28, 1),
-        (":00000101FE", 28, 3),
-        (":0100000200FD", 28, 1),
-        (":020001020000FB", 28, 3),
-        (":020000030000FB", 28, 1),
-        (":02000005FFFFFB", 28, 1),
-        (":02F7FF00000008", 29, 0),
-        (":01F800000007", 29, 0),
-        (":010001000AF4", 30, 0),
-    ] {
-        let taken = reading.take(record.as_bytes());
-        assert_eq!(taken, (number, column), "{record}");
+    for board in Board::ALL {
+        let mut reading = Reading::of(board, &[":020000001234B8"]);
+        for (record, number, column) in [
+            ("", 22, 0),
+            ("020000001234B8", 22, 0),
+            (":00000001F", 23, 10),
+            (":0000000", 23, 8),
+            (":000000G1FF", 24, 7),
+            (":010000001234B8", 25, 15),
+            (":020000001234B9", 26, 13),
+            (":00000006FA", 27, 7),
+            (":0100000100FE", 28, 1),
+            (":00000101FE", 28, 3),
+            (":0100000200FD", 28, 1),
+            (":020001020000FB", 28, 3),
+            (":020000030000FB", 28, 1),
+            (":02000005FFFFFB", 28, 1),
+            (":010001000AF4", 30, 0),
+        ] {
+            let taken = reading.take(record.as_bytes());
+            assert_eq!(taken, (number, column), "{record}");
+        }
+        assert_eq!(reading.record(":01F7FF000009"), 0);
+        assert_eq!(reading.record(":0400000300000000F9"), 0);
+        assert_eq!(reading.record(":04000005FFFFFFFFFB"), 0);
+        assert_eq!(reading.close(), (31, 0));
+        assert_eq!(reading.record(":00000001FF"), 0);
+        assert_eq!(reading.record(""), 21);
+        assert_eq!(reading.close(), (0, 0));
     }
+}
+
+/// The record of these bytes, with the checksum that brings all to zero.
+fn hex_record(kind: u8, address: u16, data: &[u8]) -> String {
+    let [high, low] = address.to_be_bytes();
+    let mut bytes = vec![data.len() as u8, high, low, kind];
+    bytes.extend(data);
+    let sum: u32 = bytes.iter().map(|byte| u32::from(*byte)).sum();
+    bytes.push(((256 - sum % 256) % 256) as u8);
+    format!(":{}", listing::hex_digits(&bytes))
+}
+
+/// Sets the segment base to 16 times this.
+fn segment(value: u16) -> String {
+    hex_record(2, 0, &value.to_be_bytes())
+}
+
+/// Sets the linear base to 65,536 times this.
+fn linear(value: u16) -> String {
+    hex_record(4, 0, &value.to_be_bytes())
+}
+
+#[test]
+fn made_records_are_the_printed_ones() {
+    assert_eq!(hex_record(0, 0, &[0x12, 0x34]), ":020000001234B8");
+    assert_eq!(hex_record(1, 0, &[]), ":00000001FF");
+    assert_eq!(segment(0x12FF), ":0200000212FFEB");
+    assert_eq!(linear(0x0108), ":020000040108F1");
+}
+
+#[test]
+fn data_past_the_short_board_is_29() {
+    let mut reading = Reading::of(Board::Short, &[":01F7FE005AB0"]);
+    for record in [
+        ":02F7FF00000008",
+        ":01F800000007",
+        ":01FFFF000001",
+        ":02FFFF001234BA",
+    ] {
+        assert_eq!(reading.take(record.as_bytes()), (29, 0), "{record}");
+    }
+    assert_eq!(reading.record(":02F7FE00000009"), 30);
     assert_eq!(reading.record(":01F7FF000009"), 0);
-    assert_eq!(reading.record(":0400000300000000F9"), 0);
-    assert_eq!(reading.record(":04000005FFFFFFFFFB"), 0);
-    assert_eq!(reading.close(), (31, 0));
-    assert_eq!(reading.record(":00000001FF"), 0);
-    assert_eq!(reading.record(""), 21);
-    assert_eq!(reading.close(), (0, 0));
+    assert_eq!(reading.record(&linear(1)), 0);
+    assert_eq!(reading.record(":0100000000FF"), 29);
+}
+
+/// The last byte is named by the linear base, by the segment base and by both.
+#[test]
+fn data_past_the_long_board_is_29() {
+    for (bases, offset) in [
+        (vec![linear(1)], 0xEFFF),
+        (vec![segment(0x1EFF)], 0x000F),
+        (vec![segment(0x1000)], 0xEFFF),
+        (vec![linear(1), segment(0x0EFF)], 0x000F),
+    ] {
+        let mut reading = Reading::new(Board::Long);
+        for base in bases {
+            assert_eq!(reading.record(&base), 0);
+        }
+        assert_eq!(reading.record(&hex_record(0, offset, &[1, 2])), 29);
+        assert_eq!(reading.record(&hex_record(0, offset + 1, &[1])), 29);
+        assert_eq!(reading.record(&hex_record(0, offset + 1, &[])), 0);
+        assert_eq!(reading.record(&hex_record(0, offset, &[0x5A])), 0);
+        assert_eq!(reading.record(&hex_record(0, offset, &[0x5A])), 30);
+        assert_eq!(reading.image[0x1_EFFE..], [0xFF, 0x5A]);
+        assert_eq!(reading.map[15_870..], [0, 0x80]);
+    }
+    let mut far = Reading::of(Board::Long, &[&linear(2)]);
+    assert_eq!(far.record(&hex_record(0, 0, &[0])), 29);
+    let mut far = Reading::of(Board::Long, &[&linear(0xFFFF), &segment(0xFFFF)]);
+    assert_eq!(far.record(&hex_record(0, 0xFFFF, &[0])), 29);
+}
+
+/// The base stays, so that a place past 64 KiB is no place below it.
+#[test]
+fn data_of_the_long_board_runs_over_64_kib() {
+    let mut reading = Reading::new(Board::Long);
+    assert_eq!(reading.record(":02FFFF001234BA"), 0);
+    assert_eq!(reading.image[0xFFFE..0x1_0002], [0xFF, 0x12, 0x34, 0xFF]);
+    assert_eq!(reading.image[..2], [0xFF, 0xFF]);
+    assert_eq!(reading.map[0x1FFF..0x2001], [0x80, 0x01]);
+    for base in [linear(1), segment(0x1000)] {
+        let mut reading = reading.clone();
+        assert_eq!(reading.record(&base), 0);
+        assert_eq!(reading.record(&hex_record(0, 0, &[0x56])), 30);
+        assert_eq!(reading.record(&hex_record(0, 1, &[0x56])), 0);
+        assert_eq!(reading.image[0xFFFF..0x1_0002], [0x12, 0x34, 0x56]);
+        assert_eq!(reading.image[..2], [0xFF, 0xFF]);
+    }
+}
+
+#[test]
+fn one_file_by_04_and_by_02() {
+    let bytes: Vec<u8> = (1..=250).collect();
+    let data = hex_record(0, 0x2345, &bytes);
+    let by_04 = Reading::of(Board::Long, &[&linear(1), &data]);
+    let by_02 = Reading::of(Board::Long, &[&segment(0x1000), &data]);
+    assert_eq!(by_04.image[0x1_2345..0x1_2345 + 250], bytes);
+    assert!(by_04.image == by_02.image && by_04.map == by_02.map);
+    assert_eq!((by_04.reader.linear, by_04.reader.segment), (0x1_0000, 0));
+    assert_eq!((by_02.reader.linear, by_02.reader.segment), (0, 0x1_0000));
+    // the two bases add up
+    let mut both = Reading::of(Board::Long, &[&linear(1), &segment(0x1000)]);
+    assert_eq!(both.record(&data), 29);
 }
 
 #[test]
 fn bases_add_without_wrap() {
-    let mut reading = Reading::of(&[":02000002F7FF06"]);
-    assert_eq!(reading.reader.segment, 0xF7FF0);
-    assert_eq!(reading.record(":0100000000FF"), 29);
-    assert_eq!(reading.record(":02000002001FDD"), 0);
-    assert_eq!(reading.record(":020010001234A8"), 0);
-    assert_eq!(reading.image[0x200..0x202], [0x12, 0x34]);
-    assert_eq!(reading.map[0x40], 3);
-    reading.reader.linear = 0xFFFF_FFFF;
-    reading.reader.segment = 1;
-    assert_eq!(reading.record(":0100000000FF"), 29);
-    assert_eq!(reading.record(":0000000000"), 0);
+    for board in Board::ALL {
+        let mut reading = Reading::of(board, &[":02000002F7FF06"]);
+        assert_eq!(reading.reader.segment, 0xF7FF0);
+        assert_eq!(reading.record(":0100000000FF"), 29);
+        assert_eq!(reading.record(":02000002001FDD"), 0);
+        assert_eq!(reading.record(":020010001234A8"), 0);
+        assert_eq!(reading.image[0x200..0x202], [0x12, 0x34]);
+        assert_eq!(reading.map[0x40], 3);
+        reading.reader.linear = 0xFFFF_FFFF;
+        reading.reader.segment = 1;
+        assert_eq!(reading.record(":0100000000FF"), 29);
+        assert_eq!(reading.record(":0000000000"), 0);
+    }
 }
 
 /// What a new reader says to each record, with the column.
 fn check_records(cases: &[(&str, u8, usize)]) {
-    for (record, number, column) in cases {
-        let taken = Reading::new().take(record.as_bytes());
-        assert_eq!(taken, (*number, *column), "{record}");
+    for board in Board::ALL {
+        let new = Reading::new(board);
+        for (record, number, column) in cases {
+            let taken = new.clone().take(record.as_bytes());
+            assert_eq!(taken, (*number, *column), "{record}");
+        }
     }
 }
 
@@ -483,12 +829,14 @@ fn length_and_checksum_of_a_start_record_go_before_its_shape() {
 
 #[test]
 fn start_record_after_the_end() {
-    let mut reading = Reading::of(&[":020000001234B8", ":00000001FF"]);
-    for record in START_RECORDS {
-        assert_eq!(reading.record(record), 21);
+    for board in Board::ALL {
+        let mut reading = Reading::of(board, &[":020000001234B8", ":00000001FF"]);
+        for record in START_RECORDS {
+            assert_eq!(reading.record(record), 21);
+        }
+        assert_eq!(reading.record(":020000030000FB"), 21);
+        assert_eq!(reading.record(":020000050000F9"), 21);
     }
-    assert_eq!(reading.record(":020000030000FB"), 21);
-    assert_eq!(reading.record(":020000050000F9"), 21);
 }
 
 #[test]
@@ -498,46 +846,54 @@ fn start_record_changes_nothing() {
         &[":020000001234B8"],
         &[":020000001234B8", ":02000002001FDD", ":020000040001F9"],
     ];
-    for records in before {
-        let stood = Reading::of(records);
-        for record in START_RECORDS {
-            let mut reading = stood.clone();
-            assert_eq!(reading.record(record), 0);
-            assert_eq!(reading, stood, "{record}");
+    for board in Board::ALL {
+        for records in before {
+            let stood = Reading::of(board, records);
+            for record in START_RECORDS {
+                let mut reading = stood.clone();
+                assert_eq!(reading.record(record), 0);
+                assert_eq!(reading, stood, "{record}");
+            }
         }
     }
 }
 
 #[test]
 fn start_record_is_no_data() {
-    for record in START_RECORDS {
-        let mut reading = Reading::of(&[record]);
-        assert_eq!(reading.close(), (31, 0));
-        assert_eq!(reading.record(":00000001FF"), 0);
-        assert_eq!(reading.close(), (32, 0));
+    for board in Board::ALL {
+        for record in START_RECORDS {
+            let mut reading = Reading::of(board, &[record]);
+            assert_eq!(reading.close(), (31, 0));
+            assert_eq!(reading.record(":00000001FF"), 0);
+            assert_eq!(reading.close(), (32, 0));
+        }
     }
 }
 
 #[test]
 fn start_record_is_no_base() {
-    for record in START_RECORDS {
-        let reading = Reading::of(&[record, ":020000001234B8"]);
-        assert_eq!(reading.image[..3], [0x12, 0x34, 0xFF]);
-        assert_eq!(reading.map[..3], [3, 0, 0]);
-        // nor does it clear one
-        let reading = Reading::of(&[":02000002001FDD", record, ":020010001234A8"]);
-        assert_eq!(reading.image[0x200..0x203], [0x12, 0x34, 0xFF]);
-        assert_eq!(reading.map[0x40], 3);
-        let mut reading = Reading::of(&[":020000040001F9", record]);
-        assert_eq!(reading.record(":0100000000FF"), 29);
+    for board in Board::ALL {
+        for record in START_RECORDS {
+            let reading = Reading::of(board, &[record, ":020000001234B8"]);
+            assert_eq!(reading.image[..3], [0x12, 0x34, 0xFF]);
+            assert_eq!(reading.map[..3], [3, 0, 0]);
+            // nor does it clear one
+            let reading = Reading::of(board, &[":02000002001FDD", record, ":020010001234A8"]);
+            assert_eq!(reading.image[0x200..0x203], [0x12, 0x34, 0xFF]);
+            assert_eq!(reading.map[0x40], 3);
+            let mut reading = Reading::of(board, &[":020000040002F8", record]);
+            assert_eq!(reading.record(":0100000000FF"), 29);
+        }
     }
 }
 
 #[test]
 fn longest_record() {
     let zeros = "0".repeat(510);
-    assert_eq!(Reading::new().record(&format!(":FF000000{zeros}01")), 0);
-    assert_eq!(Reading::new().record(&format!(":FF000000{zeros}0001")), 23);
+    check_records(&[
+        (&format!(":FF000000{zeros}01"), 0, 0),
+        (&format!(":FF000000{zeros}0001"), 23, 523),
+    ]);
 }
 
 /// 510 digits between a head and an end; the longest record's are nine
@@ -651,7 +1007,7 @@ fn column_of_24_before_count_checksum_type_and_shape() {
 
 #[test]
 fn each_character_that_is_no_digit_is_a_column_of_24() {
-    let mut reading = Reading::new();
+    let mut reading = Reading::new(Board::Short);
     for place in 1..=10 {
         let others = (0..=255u8).filter(|character| !character.is_ascii_hexdigit());
         for character in others {
@@ -770,72 +1126,243 @@ fn other_refusals_have_column_0() {
         ":00000101FE",
         ":00000001FF",
     ];
-    let shorten: [fn(&mut Reading); 2] = [
-        |reading| reading.image.truncate(FLASH_BYTES - 1),
-        |reading| reading.map.truncate(MAP_BYTES - 1),
-    ];
-    for shorten in shorten {
-        let mut reading = Reading::new();
-        shorten(&mut reading);
-        let started = Reader::start(&mut reading.image, &mut reading.map);
-        assert_eq!(told(started), (20, 0));
-        for line in lines {
-            assert_eq!(reading.take(line.as_bytes()), (20, 0), "{line}");
+    let shorten: [fn(&mut Reading) -> Option<u8>; 2] =
+        [|reading| reading.image.pop(), |reading| reading.map.pop()];
+    for board in Board::ALL {
+        for shorten in shorten {
+            let mut reading = Reading::new(board);
+            shorten(&mut reading);
+            let started = Reader::start(board, &mut reading.image, &mut reading.map);
+            assert_eq!(told(started), (20, 0));
+            for line in lines {
+                assert_eq!(reading.take(line.as_bytes()), (20, 0), "{line}");
+            }
         }
+        let mut ended = Reading::of(board, &[":00000001FF"]);
+        for line in lines {
+            assert_eq!(ended.take(line.as_bytes()), (21, 0), "{line}");
+        }
+        assert_eq!(ended.close(), (32, 0));
+        let mut reading = Reading::of(board, &[":020000001234B8"]);
+        assert_eq!(reading.take(b":010001000AF4"), (30, 0));
+        assert_eq!(reading.record(&linear(2)), 0);
+        assert_eq!(reading.take(b":010001000AF4"), (29, 0));
+        assert_eq!(reading.close(), (31, 0));
     }
-    let mut ended = Reading::of(&[":00000001FF"]);
-    for line in lines {
-        assert_eq!(ended.take(line.as_bytes()), (21, 0), "{line}");
-    }
-    assert_eq!(ended.close(), (32, 0));
-    let mut reading = Reading::of(&[":020000001234B8"]);
-    for (line, number) in [
-        (":02F7FF00000008", 29),
-        (":01F800000007", 29),
-        (":010001000AF4", 30),
-    ] {
-        assert_eq!(reading.take(line.as_bytes()), (number, 0), "{line}");
-    }
-    assert_eq!(reading.close(), (31, 0));
 }
 
+/// What the writer gives: the record without its line end, the address and the
+/// upper half to go on with.
+fn write(reading: &Reading, from: u32, upper: u16) -> (String, u32, u16) {
+    let mut buffer = [0xAA; 50];
+    let (image, map) = (&reading.image, &reading.map);
+    let given = hex::write(reading.board(), image, map, from, upper, &mut buffer).unwrap();
+    let (text, rest) = buffer.split_at(given.length);
+    assert!(rest.iter().all(|byte| *byte == 0xAA));
+    let text = std::str::from_utf8(text).unwrap();
+    assert_eq!(text.matches('\n').count(), usize::from(!text.is_empty()));
+    let record = text.strip_suffix('\n').unwrap_or_default();
+    (record.to_string(), given.next, given.upper)
+}
+
+/// A whole file: from address 0 and upper half 0 until nothing is written.
 fn written(reading: &Reading) -> Vec<String> {
     let mut records = Vec::new();
-    let mut from = 0;
+    let (mut from, mut upper) = (0, 0);
     loop {
-        let mut buffer = [0xAA; 50];
-        let (length, next) = hex::write(&reading.image, &reading.map, from, &mut buffer).unwrap();
-        assert!(buffer[length..].iter().all(|byte| *byte == 0xAA));
-        if length == 0 {
-            assert_eq!((from, next), (0xF801, 0xF801));
+        let (record, next, half) = write(reading, from, upper);
+        if record.is_empty() {
+            let behind = board_bytes(reading.board()) as u32 + 1;
+            assert_eq!((from, next, half), (behind, behind, upper));
             return records;
         }
-        let text = std::str::from_utf8(&buffer[..length]).unwrap();
-        records.push(text.strip_suffix('\n').unwrap().to_string());
-        from = next;
+        records.push(record);
+        (from, upper) = (next, half);
     }
+}
+
+/// A file of these bytes, each 0x5A.
+fn naming(board: Board, places: &[u32]) -> Reading {
+    let mut reading = Reading::new(board);
+    for place in places {
+        let at = *place as usize;
+        reading.image[at] = 0x5A;
+        reading.map[at / 8] |= 1 << (at % 8);
+    }
+    reading
+}
+
+fn check_reads_back(reading: &Reading) {
+    let records = written(reading);
+    let records: Vec<&str> = records.iter().map(String::as_str).collect();
+    let again = Reading::of(reading.board(), &records);
+    assert!(again.map == reading.map);
+    let named = |at: &usize| reading.map[at / 8] >> (at % 8) & 1 != 0;
+    let mut places = (0..reading.image.len()).filter(named);
+    assert!(places.all(|at| again.image[at] == reading.image[at]));
+    assert_eq!(again.close(), (0, 0));
 }
 
 #[test]
 fn written_file_reads_back() {
     let zeros = "0".repeat(510);
     let first = format!(":FF000E00{zeros}F3");
-    let mut reading = Reading::of(&[&first, ":01F7FF005AAF", ":00000001FF"]);
+    for board in Board::ALL {
+        let reading = Reading::of(board, &[&first, ":01F7FF005AAF", ":00000001FF"]);
+        let records = written(&reading);
+        assert_eq!(records[0], ":02000E000000F0");
+        assert_eq!(records.len(), 1 + 15 + 1 + 1 + 1);
+        assert_eq!(records[16], ":0D01000000000000000000000000000000F2");
+        assert_eq!(records[17], ":01F7FF005AAF");
+        assert_eq!(records[18], ":00000001FF");
+        let records: Vec<&str> = records.iter().map(String::as_str).collect();
+        assert_eq!(Reading::of(board, &records), reading);
+    }
+}
+
+#[test]
+fn files_of_all_kinds_read_back() {
+    for board in Board::ALL {
+        let last = board.flash_end() - 1;
+        for places in [
+            &[0][..],
+            &[last],
+            &[0, last],
+            &[0xF7FE, 0xF7FF],
+            &[0x0F, 0x10, 0x11, 0x1F, 0x20, last - 1],
+        ] {
+            check_reads_back(&naming(board, places));
+        }
+        check_reads_back(&full_file(board));
+        check_reads_back(&most_pieces(board));
+    }
+    for places in [
+        &[0xFFFF, 0x1_0000][..],
+        &[0xF7FF, 0xF800, 0xFFFE, 0x1_0001],
+        &[0x1_0000],
+        &[0x1_2345, 0x1_EFFF],
+    ] {
+        check_reads_back(&naming(Board::Long, places));
+    }
+}
+
+#[test]
+fn writer_refuses_20_then_33() {
+    for board in Board::ALL {
+        let reading = full_file(board);
+        let far = full_file(other(board));
+        let refused = |image: &[u8], map: &[u8], from, upper, length: usize| {
+            let mut buffer = vec![0xAA; length];
+            let refusal = hex::write(board, image, map, from, upper, &mut buffer).unwrap_err();
+            assert!(buffer.iter().all(|byte| *byte == 0xAA));
+            refusal
+        };
+        let (image, map) = (&reading.image[..], &reading.map[..]);
+        for (from, upper) in [(0, 0), (0, 1), (0x1_0000, 0), (0x1_F000, 0), (u32::MAX, 1)] {
+            for (image, map) in [
+                (&image[1..], map),
+                (image, &map[1..]),
+                (&far.image, map),
+                (image, &far.map),
+                (&far.image, &far.map),
+            ] {
+                assert_eq!(refused(image, map, from, upper, 43), Refusal::Size);
+                assert_eq!(refused(image, map, from, upper, 44), Refusal::Size);
+            }
+            for length in [0, 12, 16, 43] {
+                let refusal = refused(image, map, from, upper, length);
+                assert_eq!(refusal, Refusal::RecordBuffer);
+            }
+        }
+    }
+}
+
+fn gives(record: &str, next: u32, upper: u16) -> (String, u32, u16) {
+    (record.to_string(), next, upper)
+}
+
+#[test]
+fn upper_half_is_written_where_it_changes() {
+    let reading = naming(Board::Long, &[0xFFFE, 0xFFFF, 0x1_0000, 0x1_0001]);
+    for (from, upper, given) in [
+        (0, 0, gives(":02FFFE005A5A4D", 0x1_0000, 0)),
+        (0x1_0000, 0, gives(":020000040001F9", 0x1_0000, 1)),
+        (0x1_0000, 1, gives(":020000005A5A4A", 0x1_0002, 1)),
+        (0x1_0002, 1, gives(":00000001FF", 0x1_F001, 1)),
+        (0x1_F001, 1, gives("", 0x1_F001, 1)),
+    ] {
+        assert_eq!(write(&reading, from, upper), given);
+    }
     let records = written(&reading);
-    assert_eq!(records[0], ":02000E000000F0");
-    assert_eq!(records.len(), 1 + 15 + 1 + 1 + 1);
-    assert_eq!(records[16], ":0D01000000000000000000000000000000F2");
-    assert_eq!(records[17], ":01F7FF005AAF");
-    assert_eq!(records[18], ":00000001FF");
-    let records: Vec<&str> = records.iter().map(String::as_str).collect();
-    assert_eq!(Reading::of(&records), reading);
-    let mut short = [0xAA; 43];
-    let refusal = hex::write(&reading.image, &reading.map, u32::MAX, &mut short);
-    assert_eq!(refusal, Err(Refusal::RecordBuffer));
-    reading.image.pop();
-    let refusal = hex::write(&reading.image, &reading.map, 0, &mut short);
-    assert_eq!(refusal, Err(Refusal::Size));
-    assert_eq!(short, [0xAA; 43]);
+    assert_eq!(records.len(), 4);
+    check_reads_back(&reading);
+}
+
+/// Not the lowest named one above it.
+#[test]
+fn upper_half_is_written_with_the_address_kept() {
+    let reading = naming(Board::Long, &[0x1_2345]);
+    for from in [0, 1, 0x100, 0xFFFF, 0x1_0000, 0x1_2344, 0x1_2345] {
+        for upper in [0, 2, 0x0100, 0xFFFF] {
+            let given = gives(":020000040001F9", from, 1);
+            assert_eq!(write(&reading, from, upper), given);
+        }
+        let given = gives(":012345005A3D", 0x1_2346, 1);
+        assert_eq!(write(&reading, from, 1), given);
+    }
+}
+
+#[test]
+fn upper_half_goes_back_to_0_too() {
+    for board in Board::ALL {
+        let reading = naming(board, &[0x1234, 0xF7FF]);
+        for upper in [1, 2, 0x0100, 0xFFFF] {
+            for from in [0, 0x1234, 0x1235, 0xF7FF] {
+                let given = gives(":020000040000FA", from, 0);
+                assert_eq!(write(&reading, from, upper), given);
+            }
+        }
+        assert_eq!(write(&reading, 0, 0), gives(":011234005A5F", 0x1235, 0));
+        assert_eq!(
+            write(&reading, 0x1235, 0),
+            gives(":01F7FF005AAF", 0xF800, 0)
+        );
+    }
+}
+
+/// No data record follows, so that the upper half does not matter.
+#[test]
+fn no_upper_half_is_written_before_the_end_record() {
+    for (board, end) in [(Board::Short, 0xF800), (Board::Long, 0x1_F000)] {
+        let reading = naming(board, &[0x1234]);
+        for upper in [0, 1, 2, 0xFFFF] {
+            for from in [0x1235, 0xF7FF, end - 1, end] {
+                let given = gives(":00000001FF", end + 1, upper);
+                assert_eq!(write(&reading, from, upper), given);
+            }
+            for from in [end + 1, end + 2, 0x2_0000, u32::MAX] {
+                assert_eq!(write(&reading, from, upper), gives("", from, upper));
+            }
+            let empty = Reading::new(board);
+            let given = gives(":00000001FF", end + 1, upper);
+            assert_eq!(write(&empty, 0, upper), given);
+        }
+    }
+}
+
+#[test]
+fn written_file_of_a_full_board() {
+    let records = written(&full_file(Board::Short));
+    assert_eq!(records.len(), 3_968 + 1);
+    assert!(records.iter().all(|record| record[7..9] != *"04"));
+    let records = written(&full_file(Board::Long));
+    assert_eq!(records.len(), 4_096 + 1 + 3_840 + 1);
+    let zeros = "0".repeat(32);
+    assert_eq!(records[4_095], format!(":10FFF000{zeros}01"));
+    assert_eq!(records[4_096], ":020000040001F9");
+    assert_eq!(records[4_097], format!(":10000000{zeros}F0"));
+    assert_eq!(records[7_936], format!(":10EFF000{zeros}11"));
+    assert_eq!(records[7_937], ":00000001FF");
 }
 
 const ACK: Event = Event::Answer(&[0x06]);
@@ -843,114 +1370,183 @@ const ACK: Event = Event::Answer(&[0x06]);
 const RUNS: [Run; 3] = [Run::Reset, Run::Jump, Run::Hold];
 
 /// Events that end a session wherever it waits for the answer to a packet.
-const UNEXPECTED: [(Event, Outcome); 7] = [
+const UNEXPECTED: [(Event, Outcome); 8] = [
     (Event::Silence, Outcome::Silent),
     (Event::Answer(&[0x07]), Outcome::Refused),
     (Event::Answer(&[]), Outcome::WrongAnswer),
     (Event::Answer(&[0x06, 0x06]), Outcome::WrongAnswer),
     (Event::Answer(&[0x07, 0x07]), Outcome::WrongAnswer),
     (Event::Answer(&[0x08]), Outcome::WrongAnswer),
-    (Event::Answer(GREETING), Outcome::WrongAnswer),
+    (Event::Answer(Board::Short.greeting()), Outcome::WrongAnswer),
+    (Event::Answer(Board::Long.greeting()), Outcome::WrongAnswer),
 ];
 
-fn plan_file() -> Reading {
-    Reading::of(&[":020200001234B6", ":00000001FF"])
+/// These files on each board.
+fn files<const N: usize>(made: [fn(Board) -> Reading; N]) -> impl Iterator<Item = Reading> {
+    let boards = Board::ALL.into_iter();
+    boards.flat_map(move |board| made.map(|made| made(board)))
+}
+
+fn plan_file(board: Board) -> Reading {
+    Reading::of(board, &[":020200001234B6", ":00000001FF"])
 }
 
 fn greeted(reading: &Reading, run: Run) -> Session {
     let session = reading.session(run);
-    let mut greeting = *GREETING;
+    let mut greeting = *reading.board().greeting();
     greeting[15..22].fill(0);
     reading.step(session, Event::Answer(&greeting)).unwrap().0
 }
 
 #[test]
-fn full_file_is_one_erase_and_254_pieces() {
-    let reading = full_file();
-    let session = reading.session(Run::Reset);
-    assert_eq!((session.total, session.named), (1 + 2 * 254 + 1, 63_488));
-    let (_, erase) = reading.step(session, Event::Answer(GREETING)).unwrap();
-    assert_eq!(erase, built(Command::Erase, 0, &[124]));
+fn full_file_is_one_erase() {
+    for (board, pieces, named, pages) in [
+        (Board::Short, 254, 63_488, 124),
+        (Board::Long, 508, 126_976, 248),
+    ] {
+        let reading = full_file(board);
+        let session = reading.session(Run::Reset);
+        assert_eq!((session.total, session.named), (1 + 2 * pieces + 1, named));
+        let greeting = Event::Answer(board.greeting());
+        let (_, erase) = reading.step(session, greeting).unwrap();
+        assert_eq!(erase, built(Command::Erase, 0, &[pages]));
+    }
+}
+
+#[test]
+fn file_with_the_most_packets() {
+    for (board, pieces) in [(Board::Short, 31_744), (Board::Long, 63_488)] {
+        let reading = most_pieces(board);
+        for (run, total) in [
+            (Run::Reset, 1 + 2 * pieces + 1),
+            (Run::Jump, 1 + 2 * pieces + 1),
+            (Run::Hold, 1 + 2 * pieces),
+        ] {
+            let session = reading.session(run);
+            assert_eq!((session.total, session.named), (total, pieces));
+        }
+    }
 }
 
 #[test]
 fn start_refusals() {
-    let reading = Reading::new();
-    let start = |image: &[u8], map: &[u8], length: usize| {
-        let mut packet = vec![0xAA; length];
-        let refusal = Session::start(Run::Reset, image, map, &mut packet).unwrap_err();
-        assert!(packet.iter().all(|byte| *byte == 0xAA));
-        refusal
-    };
-    assert_eq!(start(&reading.image[1..], &reading.map, 259), Refusal::Size);
-    assert_eq!(start(&reading.image, &reading.map[1..], 259), Refusal::Size);
-    assert_eq!(start(&reading.image, &reading.map, 258), Refusal::Size);
-    assert_eq!(start(&reading.image, &reading.map, 259), Refusal::NoData);
+    for board in Board::ALL {
+        let (reading, far) = (Reading::new(board), Reading::new(other(board)));
+        let start = |image: &[u8], map: &[u8], length: usize| {
+            let mut packet = vec![0xAA; length];
+            let refusal = Session::start(board, Run::Reset, image, map, &mut packet).unwrap_err();
+            assert!(packet.iter().all(|byte| *byte == 0xAA));
+            refusal
+        };
+        for (image, map) in [
+            (&reading.image[1..], &reading.map[..]),
+            (&reading.image, &reading.map[1..]),
+            (&far.image, &reading.map),
+            (&reading.image, &far.map),
+            (&far.image, &far.map),
+        ] {
+            assert_eq!(start(image, map, 259), Refusal::Size);
+        }
+        assert_eq!(start(&reading.image, &reading.map, 258), Refusal::Size);
+        assert_eq!(start(&reading.image, &reading.map, 259), Refusal::NoData);
+    }
 }
 
 #[test]
 fn greeting_is_exact_where_the_paper_says() {
-    let reading = plan_file();
-    let session = reading.session(Run::Reset);
-    for place in 0..24 {
-        let mut greeting = *GREETING;
-        greeting[place] ^= 1;
-        let (next, _) = reading.step(session, Event::Answer(&greeting)).unwrap();
-        let free = (15..22).contains(&place);
-        let expected = match free {
-            true => Phase::Erase(Page(1)),
-            false => Phase::Ended(Outcome::WrongGreeting),
-        };
-        assert_eq!(next.phase, expected);
+    for board in Board::ALL {
+        let reading = plan_file(board);
+        let session = reading.session(Run::Reset);
+        for place in 0..24 {
+            let mut greeting = *board.greeting();
+            greeting[place] ^= 1;
+            let (next, _) = reading.step(session, Event::Answer(&greeting)).unwrap();
+            let free = (15..22).contains(&place);
+            let expected = match free {
+                true => Phase::Erase(Page(1)),
+                false => Phase::Ended(Outcome::WrongGreeting),
+            };
+            assert_eq!(next.phase, expected);
+        }
+        for answer in [&[][..], &[0x06], &board.greeting()[..23], &[0; 25]] {
+            let phase = reading.ending(session, Event::Answer(answer));
+            assert_eq!(phase, Phase::Ended(Outcome::WrongGreeting));
+        }
     }
-    for answer in [&[][..], &[0x06], &GREETING[..23], &[0; 25]] {
-        let phase = reading.ending(session, Event::Answer(answer));
-        assert_eq!(phase, Phase::Ended(Outcome::WrongGreeting));
+}
+
+#[test]
+fn greeting_of_the_other_board_ends_with_42() {
+    for board in Board::ALL {
+        let reading = plan_file(board);
+        for run in RUNS {
+            let start = reading.session(run);
+            let mut greeting = *other(board).greeting();
+            // whatever stands in the bytes that are free
+            for free in [None, Some(0x00), Some(0x20)] {
+                if let Some(free) = free {
+                    greeting[15..22].fill(free);
+                }
+                let ended = Session {
+                    phase: Phase::Ended(Outcome::WrongGreeting),
+                    ..start
+                };
+                let stepped = reading.step(start, Event::Answer(&greeting));
+                assert_eq!(stepped, Ok((ended, vec![])));
+            }
+        }
     }
 }
 
 #[test]
 fn endings_while_packets_are_sent() {
-    let reading = plan_file();
-    for run in RUNS {
-        let session = greeted(&reading, run);
-        for (event, outcome) in UNEXPECTED {
-            assert_eq!(reading.ending(session, event), Phase::Ended(outcome));
+    for reading in files([plan_file]) {
+        for run in RUNS {
+            let session = greeted(&reading, run);
+            for (event, outcome) in UNEXPECTED {
+                assert_eq!(reading.ending(session, event), Phase::Ended(outcome));
+            }
         }
+    }
+}
+
+fn check_end_after_r(reading: &Reading, run: Run, address: u32) {
+    let mut session = greeted(reading, run);
+    let mut last = Vec::new();
+    for _ in 0..3 {
+        assert_eq!(reading.mark(session, 0x200), Ok(false));
+        (session, last) = reading.step(session, ACK).unwrap();
+    }
+    assert_eq!(last, built(Command::Run, address, &[]));
+    assert_eq!(reading.mark(session, 0x201), Ok(true));
+    assert_eq!(reading.mark(session, 0x202), Ok(false));
+    assert_eq!(reading.ending(session, ACK), Phase::Ended(Outcome::Valid));
+    for (event, outcome) in UNEXPECTED {
+        assert_eq!(reading.ending(session, event), Phase::Ended(outcome));
     }
 }
 
 #[test]
 fn reset_and_jump_end_valid_after_r() {
-    let reading = plan_file();
-    for (run, address) in [(Run::Reset, 1), (Run::Jump, 0)] {
-        let mut session = greeted(&reading, run);
-        let mut last = Vec::new();
-        for _ in 0..3 {
-            assert_eq!(reading.mark(session, 0x200), Ok(false));
-            (session, last) = reading.step(session, ACK).unwrap();
-        }
-        assert_eq!(last, built(Command::Run, address, &[]));
-        assert_eq!(reading.mark(session, 0x201), Ok(true));
-        assert_eq!(reading.mark(session, 0x202), Ok(false));
-        assert_eq!(reading.ending(session, ACK), Phase::Ended(Outcome::Valid));
-        for (event, outcome) in UNEXPECTED {
-            assert_eq!(reading.ending(session, event), Phase::Ended(outcome));
-        }
+    for reading in files([plan_file]) {
+        check_end_after_r(&reading, Run::Reset, 1);
+        check_end_after_r(&reading, Run::Jump, 0);
     }
 }
 
 #[test]
 fn hold_is_the_default() {
     assert_eq!(Run::default(), Run::Hold);
-    let total = |run| plan_file().session(run).total;
-    assert_eq!(total(Run::default()), 3);
-    assert_eq!([Run::Reset, Run::Jump].map(total), [4, 4]);
+    for reading in files([plan_file]) {
+        let total = |run| reading.session(run).total;
+        assert_eq!(total(Run::default()), 3);
+        assert_eq!([Run::Reset, Run::Jump].map(total), [4, 4]);
+    }
 }
 
 /// What is written at the greeting and at each ACK; nothing at the end.
 fn packets(reading: &Reading, run: Run) -> Vec<Vec<u8>> {
-    let greeting = Event::Answer(GREETING);
+    let greeting = Event::Answer(reading.board().greeting());
     let (mut session, first) = reading.step(reading.session(run), greeting).unwrap();
     let mut packets = vec![first];
     while is_open(&session) {
@@ -973,45 +1569,63 @@ fn packets_of_the_plan_under_each_run_kind() {
         (Run::Jump, Some("070E055200000000A9")),
         (Run::Hold, None),
     ] {
-        let sent = packets(&plan_file(), run);
-        let digits: Vec<String> = sent.iter().map(|sent| listing::hex_digits(sent)).collect();
-        let expected: Vec<&str> = loading.into_iter().chain(r).chain([""]).collect();
-        assert_eq!(digits, expected);
+        for reading in files([plan_file]) {
+            let sent = packets(&reading, run);
+            let digits: Vec<String> = sent.iter().map(|sent| listing::hex_digits(sent)).collect();
+            let expected: Vec<&str> = loading.into_iter().chain(r).chain([""]).collect();
+            assert_eq!(digits, expected);
+        }
     }
 }
 
 #[test]
 fn hold_session_is_e_and_2w_packets() {
-    let reading = three_pieces();
-    assert_eq!(reading.session(Run::Hold).total, 2 + 2 * 3);
-    let expected = [
-        built(Command::Erase, 0x0000, &[2]),
-        built(Command::Erase, 0xF000, &[1]),
-        built(Command::Write, 0x1FF, &[0; 250]),
-        built(Command::Write, 0x2F9, &[0; 5]),
-        built(Command::Write, 0xF000, &[0]),
-        built(Command::Verify, 0x1FF, &[0; 250]),
-        built(Command::Verify, 0x2F9, &[0; 5]),
-        built(Command::Verify, 0xF000, &[0]),
-        vec![],
-    ];
-    assert_eq!(packets(&reading, Run::Hold), expected);
+    for reading in files([three_pieces]) {
+        assert_eq!(reading.session(Run::Hold).total, 2 + 2 * 3);
+        let (low, high) = runs_of(reading.board());
+        let expected = [
+            built(Command::Erase, low - 0x1FF, &[2]),
+            built(Command::Erase, high, &[1]),
+            built(Command::Write, low, &[0; 250]),
+            built(Command::Write, low + 250, &[0; 5]),
+            built(Command::Write, high, &[0]),
+            built(Command::Verify, low, &[0; 250]),
+            built(Command::Verify, low + 250, &[0; 5]),
+            built(Command::Verify, high, &[0]),
+            vec![],
+        ];
+        assert_eq!(packets(&reading, Run::Hold), expected);
+    }
 }
 
 #[test]
 fn hold_session_of_the_full_file() {
-    let reading = full_file();
-    assert_eq!(reading.session(Run::Hold).total, 1 + 2 * 254);
-    let mut sent = packets(&reading, Run::Hold);
-    assert_eq!(sent.pop(), Some(vec![]));
-    let commands: Vec<u8> = sent.iter().map(|packet| packet[3]).collect();
-    assert_eq!(commands, [&[b'E'][..], &[b'W'; 254], &[b'V'; 254]].concat());
-    assert_eq!(most_pieces().session(Run::Hold).total, 1 + 2 * 31_744);
+    for (board, pieces) in [(Board::Short, 254), (Board::Long, 508)] {
+        let reading = full_file(board);
+        let mut sent = packets(&reading, Run::Hold);
+        assert_eq!(sent.len(), 1 + 2 * pieces + 1);
+        assert_eq!(sent.pop(), Some(vec![]));
+        let commands: Vec<u8> = sent.iter().map(|packet| packet[3]).collect();
+        let (writes, verifies) = (vec![b'W'; pieces], vec![b'V'; pieces]);
+        assert_eq!(commands, [vec![b'E'], writes, verifies].concat());
+    }
+}
+
+/// A run that goes over 64 KiB is cut from its own start.
+#[test]
+fn pieces_of_the_full_long_file() {
+    let sent = packets(&full_file(Board::Long), Run::Hold);
+    for (index, packet) in sent[1..=508].iter().enumerate() {
+        let start = index * 250;
+        let data = vec![0; 250.min(126_976 - start)];
+        assert_eq!(*packet, built(Command::Write, start as u32, &data));
+    }
+    assert_eq!(sent[508].len(), 9 + 226);
 }
 
 #[test]
 fn hold_session_ends_with_the_last_v() {
-    for reading in [plan_file(), three_pieces(), full_file()] {
+    for reading in files([plan_file, three_pieces, full_file]) {
         let states = whole_session(&reading, Run::Hold);
         let [.., last, end] = states[..] else {
             panic!("a session has several states");
@@ -1036,107 +1650,142 @@ fn hold_session_ends_with_the_last_v() {
 
 #[test]
 fn step_refuses_20_then_44() {
-    let reading = plan_file();
-    let session = greeted(&reading, Run::Reset);
-    let ended = Session {
-        phase: Phase::Ended(Outcome::Valid),
-        ..session
-    };
-    for session in [session, ended] {
-        let mut short = [0; 258];
-        let refusal = session.step(ACK, &reading.image, &reading.map, &mut short);
-        assert_eq!(refusal, Err(Refusal::Size));
+    for board in Board::ALL {
+        let (reading, far) = (plan_file(board), plan_file(other(board)));
+        let session = greeted(&reading, Run::Reset);
+        let ended = Session {
+            phase: Phase::Ended(Outcome::Valid),
+            ..session
+        };
+        for session in [session, ended] {
+            let mut short = [0; 258];
+            let refusal = session.step(ACK, &reading.image, &reading.map, &mut short);
+            assert_eq!(refusal, Err(Refusal::Size));
+            for (image, map) in [
+                (&far.image, &reading.map),
+                (&reading.image, &far.map),
+                (&far.image, &far.map),
+            ] {
+                let refusal = session.step(ACK, image, map, &mut [0; 259]);
+                assert_eq!(refusal, Err(Refusal::Size));
+            }
+        }
+        assert_eq!(reading.step(ended, ACK), Err(44));
     }
-    assert_eq!(reading.step(ended, ACK), Err(44));
 }
 
 #[test]
 fn step_refuses_a_session_of_another_file() {
-    let reading = plan_file();
-    let session = greeted(&reading, Run::Reset);
-    let made_up = |change: fn(&mut Session)| {
-        let mut session = session;
-        change(&mut session);
-        reading.step(session, ACK).map(|_| ())
-    };
-    assert_eq!(made_up(|s| s.total = 5), Err(46));
-    assert_eq!(made_up(|s| s.named = 3), Err(46));
-    assert_eq!(made_up(|s| s.acknowledged = 4), Err(46));
-    assert_eq!(made_up(|s| s.acknowledged = u32::MAX), Err(46));
-    assert_eq!(made_up(|s| s.acknowledged = 1), Err(46));
-    assert_eq!(made_up(|s| s.phase = Phase::Erase(Page(0))), Err(46));
-    assert_eq!(made_up(|s| s.phase = Phase::Erase(Page(u32::MAX))), Err(46));
-    let wrong_greeting = |s: &mut Session| (s.phase, s.acknowledged) = (Phase::Greeting, 1);
-    assert_eq!(made_up(wrong_greeting), Err(46));
-    let empty = Session {
-        total: 1,
-        named: 0,
-        ..session
-    };
-    assert_eq!(Reading::new().step(empty, ACK), Err(46));
+    for reading in files([plan_file]) {
+        let session = greeted(&reading, Run::Reset);
+        let made_up = |change: fn(&mut Session)| {
+            let mut session = session;
+            change(&mut session);
+            reading.step(session, ACK).map(|_| ())
+        };
+        assert_eq!(made_up(|s| s.total = 5), Err(46));
+        assert_eq!(made_up(|s| s.named = 3), Err(46));
+        assert_eq!(made_up(|s| s.acknowledged = 4), Err(46));
+        assert_eq!(made_up(|s| s.acknowledged = u32::MAX), Err(46));
+        assert_eq!(made_up(|s| s.acknowledged = 1), Err(46));
+        for page in [0, 2, 129, u32::MAX] {
+            let session = Session {
+                phase: Phase::Erase(Page(page)),
+                ..session
+            };
+            assert_eq!(reading.step(session, ACK), Err(46));
+        }
+        let wrong_greeting = |s: &mut Session| (s.phase, s.acknowledged) = (Phase::Greeting, 1);
+        assert_eq!(made_up(wrong_greeting), Err(46));
+        let empty = Session {
+            total: 1,
+            named: 0,
+            ..session
+        };
+        assert_eq!(Reading::new(reading.board()).step(empty, ACK), Err(46));
+    }
 }
 
 #[test]
 fn step_refuses_a_place_that_no_acknowledgements_lead_to() {
-    let reading = plan_file();
-    let session = greeted(&reading, Run::Reset);
-    let at = |phase: fn(ByteAddress) -> Phase, start, acknowledged| {
-        let session = Session {
-            phase: phase(ByteAddress(start)),
-            acknowledged,
-            ..session
+    for reading in files([plan_file]) {
+        let session = greeted(&reading, Run::Reset);
+        let at = |phase: fn(ByteAddress) -> Phase, start, acknowledged| {
+            let session = Session {
+                phase: phase(ByteAddress(start)),
+                acknowledged,
+                ..session
+            };
+            reading.step(session, ACK).map(|_| ())
         };
-        reading.step(session, ACK).map(|_| ())
-    };
-    assert_eq!(at(Phase::Write, 0x200, 1), Ok(()));
-    assert_eq!(at(Phase::Write, 0x200, 2), Err(46));
-    assert_eq!(at(Phase::Write, 0x201, 1), Err(46));
-    assert_eq!(at(Phase::Verify, 0x200, 2), Ok(()));
-    assert_eq!(at(Phase::Verify, 0x200, 1), Err(46));
-    assert_eq!(at(|_| Phase::Run, 0, 3), Ok(()));
-    assert_eq!(at(|_| Phase::Run, 0, 2), Err(46));
+        assert_eq!(at(Phase::Write, 0x200, 1), Ok(()));
+        assert_eq!(at(Phase::Write, 0x200, 2), Err(46));
+        assert_eq!(at(Phase::Write, 0x201, 1), Err(46));
+        assert_eq!(at(Phase::Write, 0x1_0200, 1), Err(46));
+        assert_eq!(at(Phase::Verify, 0x200, 2), Ok(()));
+        assert_eq!(at(Phase::Verify, 0x200, 1), Err(46));
+        assert_eq!(at(|_| Phase::Run, 0, 3), Ok(()));
+        assert_eq!(at(|_| Phase::Run, 0, 2), Err(46));
+    }
 }
 
-/// Two runs of pages and three pieces: 250 bytes from 0x1FF, 5 from 0x2F9 and
-/// one at 0xF000.
-fn three_pieces() -> Reading {
-    let zeros = "0".repeat(510);
-    Reading::of(&[&format!(":FF01FF00{zeros}01"), ":01F00000000F"])
+/// Where `three_pieces` has its two runs; the first begins with the last byte
+/// of a page. On the long board it goes over 64 KiB.
+fn runs_of(board: Board) -> (u32, u32) {
+    match board {
+        Board::Short => (0x1FF, 0xF000),
+        Board::Long => (0xFFFF, 0x1_EE00),
+    }
+}
+
+/// Two runs of pages and three pieces: 250 bytes from the first run on, 5 behind
+/// them and one in the second run.
+fn three_pieces(board: Board) -> Reading {
+    let (low, high) = runs_of(board);
+    let [upper, lower] = [high / 0x1_0000, high % 0x1_0000].map(|half| half as u16);
+    let first = hex_record(0, low as u16, &[0; 255]);
+    Reading::of(
+        board,
+        &[&first, &linear(upper), &hex_record(0, lower, &[0])],
+    )
 }
 
 /// Bytes around these pieces, each with the number of the V that holds it: the
 /// packets are two E, three W, the V numbers 6 to 8, and R if asked for.
-const HELD_BY: [(u32, Option<u32>); 12] = [
-    (0, None),
-    (0x1FE, None),
-    (0x1FF, Some(6)),
-    (0x2F8, Some(6)),
-    (0x2F9, Some(7)),
-    (0x2FD, Some(7)),
-    (0x2FE, None),
-    (0xEFFF, None),
-    (0xF000, Some(8)),
-    (0xF001, None),
-    (0xF800, None),
-    (u32::MAX, None),
-];
+fn held_by(board: Board) -> [(u32, Option<u32>); 12] {
+    let (low, high) = runs_of(board);
+    [
+        (0, None),
+        (low - 1, None),
+        (low, Some(6)),
+        (low + 249, Some(6)),
+        (low + 250, Some(7)),
+        (low + 254, Some(7)),
+        (low + 255, None),
+        (high - 1, None),
+        (high, Some(8)),
+        (high + 1, None),
+        (board.flash_end(), None),
+        (u32::MAX, None),
+    ]
+}
 
 /// The file of this map, all its bytes 0.
-fn mapped(map: u8) -> Reading {
+fn mapped(board: Board, map: u8) -> Reading {
     Reading {
-        image: vec![0x00; FLASH_BYTES],
-        map: vec![map; MAP_BYTES],
-        ..Reading::new()
+        image: vec![0x00; board.flash_bytes()],
+        map: vec![map; board.map_bytes()],
+        ..Reading::new(board)
     }
 }
 
-fn full_file() -> Reading {
-    mapped(0xFF)
+fn full_file(board: Board) -> Reading {
+    mapped(board, 0xFF)
 }
 
 /// Every second byte, so that no file has more pieces.
-fn most_pieces() -> Reading {
-    mapped(0x55)
+fn most_pieces(board: Board) -> Reading {
+    mapped(board, 0x55)
 }
 
 /// The start and every state that expected answers lead to, the end last.
@@ -1170,52 +1819,71 @@ fn is_open(session: &Session) -> bool {
     !matches!(session.phase, Phase::Ended(_))
 }
 
+#[test]
+fn session_keeps_its_board() {
+    for reading in files([plan_file, three_pieces]) {
+        for session in RUNS.into_iter().flat_map(|run| states(&reading, run)) {
+            assert_eq!(session.board, reading.board());
+        }
+    }
+}
+
 fn check_marks(reading: &Reading, session: Session) {
-    for (address, held_by) in HELD_BY {
+    for (address, held_by) in held_by(reading.board()) {
         let proved = held_by.is_some_and(|number| number <= session.acknowledged);
         assert_eq!(reading.mark(session, address), Ok(proved), "{session:?}");
     }
 }
 
+fn check_marks_of_states(reading: &Reading, run: Run, packets: usize) {
+    let states = whole_session(reading, run);
+    assert_eq!(states.len(), 1 + packets + 1);
+    for state in &states {
+        check_marks(reading, *state);
+    }
+    for state in states.into_iter().filter(is_open) {
+        for event in [Event::Silence, Event::Answer(&[7]), Event::Answer(&[])] {
+            let (ended, _) = reading.step(state, event).unwrap();
+            assert!(!is_open(&ended));
+            check_marks(reading, ended);
+        }
+    }
+}
+
 #[test]
 fn marks_stand_in_every_state_and_after_every_ending() {
-    let reading = three_pieces();
-    for (run, packets) in [(Run::Reset, 9), (Run::Jump, 9), (Run::Hold, 8)] {
-        let states = whole_session(&reading, run);
-        assert_eq!(states.len(), 1 + packets + 1);
-        for state in &states {
-            check_marks(&reading, *state);
-        }
-        for state in states.into_iter().filter(is_open) {
-            for event in [Event::Silence, Event::Answer(&[7]), Event::Answer(&[])] {
-                let (ended, _) = reading.step(state, event).unwrap();
-                assert!(!is_open(&ended));
-                check_marks(&reading, ended);
-            }
+    for reading in files([three_pieces]) {
+        for (run, packets) in [(Run::Reset, 9), (Run::Jump, 9), (Run::Hold, 8)] {
+            check_marks_of_states(&reading, run, packets);
         }
     }
 }
 
 #[test]
 fn marks_are_refused_over_a_foreign_map() {
-    let (large, small) = (full_file(), plan_file());
-    for run in RUNS {
-        let ended = whole_end(&large, run);
-        for address in [0x200, 0x201, 0, 0xF800] {
-            assert_eq!(small.mark(ended, address), Err(46));
-        }
-        assert_eq!(large.mark(ended, 0xF7FF), Ok(true));
-        for state in whole_session(&small, run) {
-            assert_eq!(large.mark(state, 0x200), Err(46));
-            assert_eq!(three_pieces().mark(state, 0x200), Err(46));
+    for board in Board::ALL {
+        let (large, small) = (full_file(board), plan_file(board));
+        let (last, behind) = (board.flash_end() - 1, board.flash_end());
+        for run in RUNS {
+            let ended = whole_end(&large, run);
+            for address in [0x200, 0x201, 0, behind] {
+                assert_eq!(small.mark(ended, address), Err(46));
+            }
+            assert_eq!(large.mark(ended, last), Ok(true));
+            assert_eq!(large.mark(ended, behind), Ok(false));
+            for state in whole_session(&small, run) {
+                assert_eq!(large.mark(state, 0x200), Err(46));
+                assert_eq!(three_pieces(board).mark(state, 0x200), Err(46));
+            }
         }
     }
 }
 
 /// What an empty file would lead to if a start did not refuse it: R alone, or
 /// no packet at all.
-fn sessions_over_nothing() -> Vec<Session> {
+fn sessions_over_nothing(board: Board) -> Vec<Session> {
     let over_nothing = |(run, phase, total, acknowledged)| Session {
+        board,
         run,
         phase,
         acknowledged,
@@ -1239,23 +1907,27 @@ fn sessions_over_nothing() -> Vec<Session> {
 
 #[test]
 fn marks_are_refused_20_then_46() {
-    let (reading, empty) = (plan_file(), Reading::new());
-    let mut longer = reading.map.clone();
-    longer.push(0);
-    let own = RUNS
-        .into_iter()
-        .flat_map(|run| whole_session(&reading, run));
-    for session in own.chain(sessions_over_nothing()) {
-        for wrong in [&[][..], &reading.map[1..], &empty.map[1..], &longer] {
-            assert_eq!(session.proved(wrong, 0x200), Err(Refusal::Size));
+    for board in Board::ALL {
+        let (reading, empty) = (plan_file(board), Reading::new(board));
+        let far = plan_file(other(board));
+        let mut longer = reading.map.clone();
+        longer.push(0);
+        let own = RUNS
+            .into_iter()
+            .flat_map(|run| whole_session(&reading, run));
+        for session in own.chain(sessions_over_nothing(board)) {
+            let shorter = [&[], &reading.map[1..], &empty.map[1..]];
+            for wrong in shorter.into_iter().chain([&longer[..], &far.map]) {
+                assert_eq!(session.proved(wrong, 0x200), Err(Refusal::Size));
+            }
+            assert_eq!(empty.mark(session, 0x200), Err(46));
         }
-        assert_eq!(empty.mark(session, 0x200), Err(46));
-    }
-    for session in sessions_over_nothing() {
-        assert_eq!(reading.mark(session, 0x200), Err(46));
-    }
-    for session in sessions_over_nothing().into_iter().filter(is_open) {
-        assert_eq!(empty.step(session, ACK), Err(46));
+        for session in sessions_over_nothing(board) {
+            assert_eq!(reading.mark(session, 0x200), Err(46));
+        }
+        for session in sessions_over_nothing(board).into_iter().filter(is_open) {
+            assert_eq!(empty.step(session, ACK), Err(46));
+        }
     }
 }
 
@@ -1287,7 +1959,7 @@ fn check_ends(reading: &Reading, run: Run) {
 
 #[test]
 fn marks_are_refused_of_an_end_that_no_event_brings() {
-    for reading in [plan_file(), three_pieces(), full_file(), most_pieces()] {
+    for reading in files([plan_file, three_pieces, full_file, most_pieces]) {
         for run in RUNS {
             check_ends(&reading, run);
         }
@@ -1304,27 +1976,46 @@ fn states(reading: &Reading, run: Run) -> Vec<Session> {
 
 #[test]
 fn marks_are_refused_where_a_count_is_not_the_files() {
-    let reading = three_pieces();
-    for state in RUNS.into_iter().flat_map(|run| states(&reading, run)) {
-        let changes: [fn(&mut Session); 6] = [
-            |s| s.total += 1,
-            |s| s.total -= 1,
-            |s| s.total = u32::MAX,
-            |s| s.named += 1,
-            |s| s.named -= 1,
-            |s| s.named = u32::MAX,
-        ];
-        for change in changes {
-            let mut made_up = state;
-            change(&mut made_up);
-            assert_eq!(reading.mark(made_up, 0x1FF), Err(46), "{made_up:?}");
+    let changes: [fn(&mut Session); 6] = [
+        |s| s.total += 1,
+        |s| s.total -= 1,
+        |s| s.total = u32::MAX,
+        |s| s.named += 1,
+        |s| s.named -= 1,
+        |s| s.named = u32::MAX,
+    ];
+    for reading in files([three_pieces]) {
+        for state in RUNS.into_iter().flat_map(|run| states(&reading, run)) {
+            for change in changes {
+                let mut made_up = state;
+                change(&mut made_up);
+                assert_eq!(reading.mark(made_up, 0x1FF), Err(46), "{made_up:?}");
+            }
+        }
+    }
+}
+
+/// The file of the other board has other sizes.
+#[test]
+fn sessions_changed_to_the_other_board_are_refused() {
+    for board in Board::ALL {
+        let (reading, far) = (plan_file(board), plan_file(other(board)));
+        for state in RUNS.into_iter().flat_map(|run| states(&reading, run)) {
+            let changed = Session {
+                board: other(board),
+                ..state
+            };
+            assert_eq!(reading.mark(changed, 0x200), Err(20));
+            assert_eq!(reading.step(changed, ACK), Err(20));
+            // over a file with the same map both go on alike
+            assert_eq!(far.mark(changed, 0x200), reading.mark(state, 0x200));
         }
     }
 }
 
 #[test]
 fn sessions_changed_to_or_from_hold_are_refused() {
-    for reading in [plan_file(), three_pieces()] {
+    for reading in files([plan_file, three_pieces]) {
         for (run, other) in [
             (Run::Reset, Run::Hold),
             (Run::Jump, Run::Hold),
@@ -1346,26 +2037,27 @@ fn sessions_changed_to_or_from_hold_are_refused() {
 
 #[test]
 fn hold_session_never_waits_for_the_answer_to_r() {
-    let reading = plan_file();
-    for (acknowledged, total) in [(2, 3), (3, 3), (3, 4), (4, 4)] {
-        let session = Session {
-            phase: Phase::Run,
-            acknowledged,
-            total,
-            ..reading.session(Run::Hold)
-        };
-        for event in [ACK, Event::Silence] {
-            assert_eq!(reading.step(session, event), Err(46));
+    for reading in files([plan_file]) {
+        for (acknowledged, total) in [(2, 3), (3, 3), (3, 4), (4, 4)] {
+            let session = Session {
+                phase: Phase::Run,
+                acknowledged,
+                total,
+                ..reading.session(Run::Hold)
+            };
+            for event in [ACK, Event::Silence] {
+                assert_eq!(reading.step(session, event), Err(46));
+            }
+            assert_eq!(reading.mark(session, 0x200), Err(46));
+            assert_eq!(log::write(&session, &mut [0; 16]), Err(Refusal::NoLog));
         }
-        assert_eq!(reading.mark(session, 0x200), Err(46));
-        assert_eq!(log::write(&session, &mut [0; 10]), Err(Refusal::NoLog));
     }
 }
 
 /// Hold that ended 0, or reset or jump that ended 1, all acknowledged.
 #[test]
 fn an_end_that_is_another_run_kinds_is_none() {
-    for reading in [plan_file(), three_pieces()] {
+    for reading in files([plan_file, three_pieces]) {
         for (run, other) in [
             (Run::Reset, Outcome::Held),
             (Run::Jump, Outcome::Held),
@@ -1382,59 +2074,70 @@ fn an_end_that_is_another_run_kinds_is_none() {
             for event in [ACK, Event::Silence] {
                 assert_eq!(reading.step(mixed, event), Err(44));
             }
-            let mut buffer = [0xAA; 10];
+            let mut buffer = [0xAA; 16];
             assert_eq!(log::write(&mixed, &mut buffer), Err(Refusal::NoLog));
-            assert_eq!(buffer, [0xAA; 10]);
+            assert_eq!(buffer, [0xAA; 16]);
         }
     }
 }
 
 /// The packets of `three_pieces`, each with how many go before it; the last is
 /// not sent by hold.
-const SENT: [(Phase, u32); 9] = [
-    (Phase::Erase(Page(0)), 0),
-    (Phase::Erase(Page(120)), 1),
-    (Phase::Write(ByteAddress(0x1FF)), 2),
-    (Phase::Write(ByteAddress(0x2F9)), 3),
-    (Phase::Write(ByteAddress(0xF000)), 4),
-    (Phase::Verify(ByteAddress(0x1FF)), 5),
-    (Phase::Verify(ByteAddress(0x2F9)), 6),
-    (Phase::Verify(ByteAddress(0xF000)), 7),
-    (Phase::Run, 8),
-];
+fn sent(board: Board) -> [(Phase, u32); 9] {
+    let (low, high) = runs_of(board);
+    let [first, second, third] = [low, low + 250, high].map(ByteAddress);
+    [
+        (Phase::Erase(Page(low / 512)), 0),
+        (Phase::Erase(Page(high / 512)), 1),
+        (Phase::Write(first), 2),
+        (Phase::Write(second), 3),
+        (Phase::Write(third), 4),
+        (Phase::Verify(first), 5),
+        (Phase::Verify(second), 6),
+        (Phase::Verify(third), 7),
+        (Phase::Run, 8),
+    ]
+}
 
 /// Open phases of all kinds, among them pages and addresses past the last.
-fn open_phases() -> Vec<Phase> {
+fn open_phases(board: Board) -> Vec<Phase> {
     let mut phases = vec![Phase::Greeting, Phase::Run];
-    let pages = (0..130).chain([u32::MAX]);
+    let pages = (0..260).chain([u32::MAX]);
     phases.extend(pages.map(|page| Phase::Erase(Page(page))));
-    let near = [0x1FF, 0x2F9, 0xF000].map(|start| start - 1..start + 2);
+    let (low, high) = runs_of(board);
+    let near = [low, low + 250, high].map(|start| start - 1..start + 2);
     let places = near.into_iter().flatten();
-    for place in places.chain([0, 0x2F8, 0x2FE, 0xF800, u32::MAX]) {
+    let others = [0, low + 249, low + 255, 0xF800, 0x1_F000, u32::MAX];
+    for place in places.chain(others) {
         phases.push(Phase::Write(ByteAddress(place)));
         phases.push(Phase::Verify(ByteAddress(place)));
     }
     phases
 }
 
+fn check_open_phases(reading: &Reading, run: Run, sent: &[(Phase, u32)]) {
+    let start = reading.session(run);
+    for phase in open_phases(reading.board()) {
+        for acknowledged in (0..11).chain([u32::MAX]) {
+            let session = Session {
+                phase,
+                acknowledged,
+                ..start
+            };
+            let comes = session == start || sent.contains(&(phase, acknowledged));
+            let expected = if comes { Ok(()) } else { Err(46) };
+            assert_eq!(reading.mark(session, 0).map(|_| ()), expected);
+            assert_eq!(reading.step(session, ACK).map(|_| ()), expected);
+        }
+    }
+}
+
 #[test]
 fn marks_are_refused_of_open_sessions_where_steps_are() {
-    let reading = three_pieces();
-    for (run, sent) in [(Run::Jump, &SENT[..]), (Run::Hold, &SENT[..8])] {
-        let start = reading.session(run);
-        for phase in open_phases() {
-            for acknowledged in (0..11).chain([u32::MAX]) {
-                let session = Session {
-                    phase,
-                    acknowledged,
-                    ..start
-                };
-                let comes = session == start || sent.contains(&(phase, acknowledged));
-                let expected = if comes { Ok(()) } else { Err(46) };
-                assert_eq!(reading.mark(session, 0).map(|_| ()), expected);
-                assert_eq!(reading.step(session, ACK).map(|_| ()), expected);
-            }
-        }
+    for reading in files([three_pieces]) {
+        let sent = sent(reading.board());
+        check_open_phases(&reading, Run::Jump, &sent);
+        check_open_phases(&reading, Run::Hold, &sent[..8]);
     }
 }
 
@@ -1442,114 +2145,262 @@ fn marks_are_refused_of_open_sessions_where_steps_are() {
 /// would have led to as well cannot be refused, and its map then decides.
 #[test]
 fn files_with_equal_counts_are_not_told_apart() {
-    let reading = plan_file();
-    let other = Reading::of(&[":020400001234B4", ":00000001FF"]);
-    for run in RUNS {
-        let ended = whole_end(&reading, run);
-        assert_eq!(ended, whole_end(&other, run));
-        assert_eq!(reading.mark(ended, 0x200), Ok(true));
-        assert_eq!(other.mark(ended, 0x400), Ok(true));
-        assert_eq!(other.mark(ended, 0x200), Ok(false));
-        // the place of a packet tells them apart
-        let sent = whole_session(&reading, run);
-        for state in &sent[1..4] {
-            assert_eq!(other.mark(*state, 0x400), Err(46));
+    for reading in files([plan_file]) {
+        let other = Reading::of(reading.board(), &[":020400001234B4", ":00000001FF"]);
+        for run in RUNS {
+            let ended = whole_end(&reading, run);
+            assert_eq!(ended, whole_end(&other, run));
+            assert_eq!(reading.mark(ended, 0x200), Ok(true));
+            assert_eq!(other.mark(ended, 0x400), Ok(true));
+            assert_eq!(other.mark(ended, 0x200), Ok(false));
+            // the place of a packet tells them apart
+            let sent = whole_session(&reading, run);
+            for state in &sent[1..4] {
+                assert_eq!(other.mark(*state, 0x400), Err(46));
+            }
         }
     }
+}
+
+fn check_verdict(reading: &Reading, run: Run, total: u32) {
+    let mut session = greeted(reading, run);
+    assert_eq!(session.total, total);
+    assert_eq!(session.named, 256);
+    let mut events = 1;
+    while is_open(&session) {
+        (session, _) = reading.step(session, ACK).unwrap();
+        events += 1;
+    }
+    assert_eq!(session.phase, Phase::Ended(asked_end(run)));
+    assert_eq!(events, total + 1);
 }
 
 #[test]
 fn verdict_comes_within_the_packets_and_one_event() {
-    let reading = three_pieces();
-    for (run, total) in [
-        (Run::Reset, 2 + 2 * 3 + 1),
-        (Run::Jump, 2 + 2 * 3 + 1),
-        (Run::Hold, 2 + 2 * 3),
-    ] {
-        let mut session = greeted(&reading, run);
-        assert_eq!(session.total, total);
-        assert_eq!(session.named, 256);
-        let mut events = 1;
-        while is_open(&session) {
-            (session, _) = reading.step(session, ACK).unwrap();
-            events += 1;
+    for reading in files([three_pieces]) {
+        check_verdict(&reading, Run::Reset, 2 + 2 * 3 + 1);
+        check_verdict(&reading, Run::Jump, 2 + 2 * 3 + 1);
+        check_verdict(&reading, Run::Hold, 2 + 2 * 3);
+    }
+}
+
+/// The record of these fields in the version of a board.
+fn log_record(board: Board, outcome: u8, counts: [u32; 3]) -> Vec<u8> {
+    match board {
+        Board::Short => {
+            let counts = counts.map(|count| u16::try_from(count).unwrap().to_be_bytes());
+            [&[0, 8, 1, outcome][..], &counts.concat()].concat()
         }
-        assert_eq!(session.phase, Phase::Ended(asked_end(run)));
-        assert_eq!(events, total + 1);
+        Board::Long => {
+            let counts = counts.map(u32::to_be_bytes);
+            [&[0, 0x0E, 2, outcome][..], &counts.concat()].concat()
+        }
     }
 }
 
 #[test]
-fn log_of_the_plan() {
-    let valid = Session {
+fn made_log_records() {
+    let made = |board| log_record(board, 41, [1, 0x0304, 2]);
+    assert_eq!(made(Board::Short), [0, 8, 1, 41, 0, 1, 3, 4, 0, 2]);
+    let long = [0, 14, 2, 41, 0, 0, 0, 1, 0, 0, 3, 4, 0, 0, 0, 2];
+    assert_eq!(made(Board::Long), long);
+}
+
+/// The size of a log record.
+fn log_bytes(board: Board) -> usize {
+    match board {
+        Board::Short => 10,
+        Board::Long => 16,
+    }
+}
+
+/// A session of two bytes that ended as asked by reset.
+fn valid(board: Board) -> Session {
+    Session {
+        board,
         run: Run::Reset,
         phase: Phase::Ended(Outcome::Valid),
         acknowledged: 4,
         total: 4,
         named: 2,
-    };
+    }
+}
+
+#[test]
+fn log_of_the_plan() {
     let mut buffer = [0xAA; 11];
-    assert_eq!(log::write(&valid, &mut buffer), Ok(10));
+    assert_eq!(log::write(&valid(Board::Short), &mut buffer), Ok(10));
     assert_eq!(buffer, [0, 8, 1, 0, 0, 4, 0, 4, 0, 2, 0xAA]);
-    let refused = |change: fn(&mut Session)| {
-        let mut session = valid;
-        change(&mut session);
-        log::write(&session, &mut [0; 9]).unwrap_err()
-    };
-    assert_eq!(refused(|_| ()), Refusal::Size);
-    let all_45: [fn(&mut Session); 10] = [
+    let mut buffer = [0xAA; 17];
+    assert_eq!(log::write(&valid(Board::Long), &mut buffer), Ok(16));
+    let record = [0, 14, 2, 0, 0, 0, 0, 4, 0, 0, 0, 4, 0, 0, 0, 2, 0xAA];
+    assert_eq!(buffer, record);
+    assert_eq!(
+        whole_end(&plan_file(Board::Long), Run::Reset),
+        valid(Board::Long)
+    );
+}
+
+/// What comes of a session with a change, into a buffer that is too short.
+fn log_refused(board: Board, change: fn(&mut Session)) -> Refusal {
+    let mut session = valid(board);
+    change(&mut session);
+    let mut refusals = (0..log_bytes(board)).map(|length| {
+        let mut buffer = vec![0xAA; length];
+        let refusal = log::write(&session, &mut buffer).unwrap_err();
+        assert!(buffer.iter().all(|byte| *byte == 0xAA));
+        refusal
+    });
+    let refusal = refusals.next().unwrap();
+    assert!(refusals.all(|other| other == refusal));
+    refusal
+}
+
+#[test]
+fn log_write_refuses_45_then_20() {
+    let all_45: [fn(&mut Session); 11] = [
         |s| s.run = Run::Hold,
         |s| s.phase = Phase::Run,
         |s| s.phase = Phase::Ended(Outcome::Held),
         |s| s.phase = Phase::Ended(Outcome::Silent),
         |s| s.acknowledged = 3,
+        |s| s.acknowledged = 5,
         |s| (s.acknowledged, s.total) = (3, 3),
-        |s| (s.acknowledged, s.total) = (65_536, 65_536),
         |s| s.named = 0,
-        |s| s.named = 63_489,
+        |s| s.named = 126_977,
+        |s| s.named = u32::MAX,
         |s| (s.phase, s.acknowledged) = (Phase::Ended(Outcome::WrongGreeting), 1),
     ];
-    for change in all_45 {
-        assert_eq!(refused(change), Refusal::NoLog);
+    for board in Board::ALL {
+        assert_eq!(log_refused(board, |_| ()), Refusal::Size);
+        for change in all_45 {
+            assert_eq!(log_refused(board, change), Refusal::NoLog);
+        }
     }
 }
 
 #[test]
-fn log_read_refusals() {
-    let number = |input: &[u8]| log::read(input).map_or_else(Refusal::number, |_| 0);
-    assert_eq!(number(&[0, 8, 1, 0, 0, 4, 0, 4, 0, 2]), 0);
-    assert_eq!(number(&[0, 9, 2, 0, 0, 4, 0, 4, 0]), 50);
-    assert_eq!(number(&[0, 9, 2, 0, 0, 4, 0, 4, 0, 2]), 51);
-    assert_eq!(number(&[0, 8, 1, 0, 0, 4, 0, 4, 0, 2, 0]), 51);
-    assert_eq!(number(&[0, 8, 2, 9, 0, 4, 0, 4, 0, 2]), 52);
-    for (outcome, acknowledged, total, named) in [
-        (2, 4, 4, 2),
-        (39, 3, 4, 2),
-        (44, 3, 4, 2),
-        (1, 2, 2, 2),
-        (0, 3, 3, 2),
-        (0, 4, 4, 0),
-        (0, 4, 4, 63_489),
-        (1, 3, 3, 0),
-        (1, 3, 3, 63_489),
-        (40, 5, 4, 2),
-        (0, 3, 4, 2),
-        (1, 2, 3, 2),
-        (1, 3, 4, 2),
-        (41, 4, 4, 2),
-        (40, 3, 3, 2),
-        (42, 1, 4, 2),
-    ] {
-        let record = log_record(outcome, acknowledged, total, named);
-        assert_eq!(number(&record), 53);
+fn counts_that_only_version_2_holds() {
+    let changes: [fn(&mut Session); 7] = [
+        |s| (s.acknowledged, s.total) = (65_536, 65_536),
+        |s| (s.acknowledged, s.total) = (126_978, 126_978),
+        |s| (s.acknowledged, s.total) = (u32::MAX, u32::MAX),
+        |s| (s.phase, s.total) = (Phase::Ended(Outcome::Silent), 65_536),
+        |s| s.named = 63_489,
+        |s| s.named = 65_536,
+        |s| s.named = 126_976,
+    ];
+    for change in changes {
+        assert_eq!(log_refused(Board::Short, change), Refusal::NoLog);
+        assert_eq!(log_refused(Board::Long, change), Refusal::Size);
+        let mut session = valid(Board::Long);
+        change(&mut session);
+        let counts = [session.acknowledged, session.total, session.named];
+        let outcome = session.outcome().unwrap().number();
+        assert_eq!(logged(&session), log_record(Board::Long, outcome, counts));
     }
 }
 
-fn log_record(outcome: u8, acknowledged: u16, total: u16, named: u16) -> [u8; 10] {
-    let [a, b] = acknowledged.to_be_bytes();
-    let [c, d] = total.to_be_bytes();
-    let [e, f] = named.to_be_bytes();
-    [0, 8, 1, outcome, a, b, c, d, e, f]
+/// The number of a log record, 0 where it is true.
+fn log_number(input: &[u8]) -> u8 {
+    log::read(input).map_or_else(Refusal::number, |_| 0)
+}
+
+#[test]
+fn log_read_refusals() {
+    assert_eq!(log_number(&[0, 8, 1, 0, 0, 4, 0, 4, 0, 2]), 0);
+    assert_eq!(log_number(&[0, 9, 2, 0, 0, 4, 0, 4, 0]), 50);
+    assert_eq!(log_number(&[0, 9, 2, 0, 0, 4, 0, 4, 0, 2]), 51);
+    assert_eq!(log_number(&[0, 8, 1, 0, 0, 4, 0, 4, 0, 2, 0]), 51);
+    assert_eq!(log_number(&[0, 8, 2, 9, 0, 4, 0, 4, 0, 2]), 52);
+    let long = [0, 14, 2, 0, 0, 0, 0, 4, 0, 0, 0, 4, 0, 0, 0, 2];
+    assert_eq!(log_number(&long), 0);
+    for board in Board::ALL {
+        let most = board_bytes(board) as u32;
+        for (outcome, acknowledged, total, named) in [
+            (2, 4, 4, 2),
+            (39, 3, 4, 2),
+            (44, 3, 4, 2),
+            (1, 2, 2, 2),
+            (0, 3, 3, 2),
+            (0, 4, 4, 0),
+            (0, 4, 4, most + 1),
+            (1, 3, 3, 0),
+            (1, 3, 3, most + 1),
+            (40, 5, 4, 2),
+            (0, 3, 4, 2),
+            (1, 2, 3, 2),
+            (1, 3, 4, 2),
+            (41, 4, 4, 2),
+            (40, 3, 3, 2),
+            (42, 1, 4, 2),
+        ] {
+            let record = log_record(board, outcome, [acknowledged, total, named]);
+            assert_eq!(log_number(&record), 53, "{record:?}");
+        }
+    }
+}
+
+/// Inputs of each length that begin like a record of each board.
+#[test]
+fn log_of_any_other_length_is_50_or_51() {
+    for board in Board::ALL {
+        let record = log_record(board, 0, [4, 4, 2]);
+        for length in 0..40 {
+            let mut input = record.clone();
+            input.resize(length, 0);
+            let number = match length {
+                0..=9 => 50,
+                _ if length == log_bytes(board) => 0,
+                _ => 51,
+            };
+            assert_eq!(log_number(&input), number, "{board:?} {length}");
+        }
+    }
+}
+
+/// Whatever the version says, and whatever stands behind it.
+#[test]
+fn log_with_any_other_length_field_is_51() {
+    let near = (0..0x20).chain([0x0108, 0x010E, 0x0800, 0x0E00, 0xFFFF]);
+    for field in near.filter(|field: &u16| ![8, 14].contains(field)) {
+        let told = field.to_be_bytes();
+        for board in Board::ALL {
+            for version in [0, 1, 2, 3] {
+                let mut record = log_record(board, 99, [4, 4, 2]);
+                record[..2].copy_from_slice(&told);
+                record[2] = version;
+                assert_eq!(log_number(&record), 51, "{field}");
+            }
+        }
+        // an input of the length that the field tells
+        let input = [&told[..], &vec![1; field.into()]].concat();
+        let number = if input.len() < 10 { 50 } else { 51 };
+        assert_eq!(log_number(&input), number, "{field}");
+    }
+}
+
+#[test]
+fn log_of_another_version_than_its_length_tells_is_52() {
+    for (board, own) in [(Board::Short, 1), (Board::Long, 2)] {
+        for version in (0..=255).filter(|version| *version != own) {
+            // 53 comes later
+            for outcome in [0, 99] {
+                let mut record = log_record(board, outcome, [4, 4, 2]);
+                record[2] = version;
+                assert_eq!(log_number(&record), 52, "{version}");
+            }
+        }
+    }
+}
+
+fn check_outcomes(board: Board, acknowledged: u32, total: u32, outcomes: &[u8]) {
+    for named in [1, 63_488, board_bytes(board) as u32] {
+        let counts = [acknowledged, total, named];
+        let read = |outcome: &u8| log::read(&log_record(board, *outcome, counts)).is_ok();
+        let taken: Vec<u8> = (0..=255).filter(read).collect();
+        assert_eq!(taken, outcomes, "{acknowledged} of {total}");
+    }
 }
 
 #[test]
@@ -1571,68 +2422,116 @@ fn outcomes_that_a_log_can_have() {
         (65_534, 65_535, &[40, 41, 43]),
         (65_535, 65_535, &[0, 1]),
     ] {
-        for named in [1, 63_488] {
-            let read = |outcome: &u8| log::read(&log_record(*outcome, acknowledged, total, named));
-            let taken = (0..=255).filter(|outcome| read(outcome).is_ok());
-            assert_eq!(
-                taken.collect::<Vec<u8>>(),
-                outcomes,
-                "{acknowledged} of {total}"
-            );
-        }
+        check_outcomes(Board::Short, acknowledged, total, outcomes);
+        check_outcomes(Board::Long, acknowledged, total, outcomes);
+    }
+    for (acknowledged, total, outcomes) in [
+        (0, 65_536, &[40, 41, 42, 43][..]),
+        (65_536, 65_536, &[0, 1]),
+        (65_537, 65_536, &[]),
+        (126_977, 126_978, &[40, 41, 43]),
+        (126_978, 126_978, &[0, 1]),
+        (u32::MAX, u32::MAX, &[0, 1]),
+    ] {
+        check_outcomes(Board::Long, acknowledged, total, outcomes);
     }
 }
 
-fn logged(session: &Session) -> [u8; 10] {
-    let mut buffer = [0xAA; 11];
-    assert_eq!(log::write(session, &mut buffer), Ok(10));
-    assert_eq!(buffer[10], 0xAA);
-    buffer[..10].try_into().unwrap()
+fn logged(session: &Session) -> Vec<u8> {
+    let length = log_bytes(session.board);
+    let mut buffer = vec![0xAA; length + 1];
+    assert_eq!(log::write(session, &mut buffer), Ok(length));
+    assert_eq!(buffer.pop(), Some(0xAA));
+    buffer
+}
+
+fn check_log(session: Session, record: &[u8]) {
+    assert_eq!(logged(&session), record);
+    let entry = log::read(record).unwrap();
+    assert_eq!(entry.version(), record[2]);
+    assert_eq!(Some(entry.outcome), session.outcome());
+    assert_eq!(entry.acknowledged, session.acknowledged);
+    assert_eq!(entry.total, session.total);
+    assert_eq!(entry.named, session.named);
+}
+
+fn one_byte(board: Board) -> Reading {
+    Reading::of(board, &[":010000005AA5", ":00000001FF"])
 }
 
 #[test]
 fn log_of_a_hold_session_reads_back() {
-    let one_byte = Reading::of(&[":010000005AA5", ":00000001FF"]);
-    for (reading, record) in [
-        (one_byte, [0, 8, 1, 1, 0, 3, 0, 3, 0, 1]),
-        (plan_file(), [0, 8, 1, 1, 0, 3, 0, 3, 0, 2]),
-        (three_pieces(), [0, 8, 1, 1, 0, 8, 0, 8, 1, 0]),
-        (full_file(), [0, 8, 1, 1, 1, 0xFD, 1, 0xFD, 0xF8, 0]),
+    let held = |reading: Reading| whole_end(&reading, Run::Hold);
+    for (made, record) in [
+        (
+            one_byte as fn(Board) -> Reading,
+            [0, 8, 1, 1, 0, 3, 0, 3, 0, 1],
+        ),
+        (plan_file, [0, 8, 1, 1, 0, 3, 0, 3, 0, 2]),
+        (three_pieces, [0, 8, 1, 1, 0, 8, 0, 8, 1, 0]),
+        (full_file, [0, 8, 1, 1, 1, 0xFD, 1, 0xFD, 0xF8, 0]),
     ] {
-        let held = whole_end(&reading, Run::Hold);
-        assert_eq!(logged(&held), record);
-        let entry = log::read(&record).unwrap();
-        assert_eq!(entry.outcome, Outcome::Held);
-        assert_eq!(u32::from(entry.acknowledged), held.acknowledged);
-        assert_eq!(u32::from(entry.total), held.total);
-        assert_eq!(u32::from(entry.named), held.named);
+        check_log(held(made(Board::Short)), &record);
+    }
+    for (made, counts) in [
+        (
+            one_byte as fn(Board) -> Reading,
+            [0, 0, 0, 3, 0, 0, 0, 3, 0, 0, 0, 1],
+        ),
+        (plan_file, [0, 0, 0, 3, 0, 0, 0, 3, 0, 0, 0, 2]),
+        (three_pieces, [0, 0, 0, 8, 0, 0, 0, 8, 0, 0, 1, 0]),
+        (full_file, [0, 0, 3, 0xF9, 0, 0, 3, 0xF9, 0, 1, 0xF0, 0]),
+    ] {
+        let record = [&[0, 14, 2, 1][..], &counts].concat();
+        check_log(held(made(Board::Long)), &record);
+    }
+}
+
+/// Its counts are the largest that a session has, and too large for version 1.
+#[test]
+fn log_of_the_long_file_with_the_most_packets() {
+    let reading = most_pieces(Board::Long);
+    for (run, outcome, total) in [
+        (Run::Reset, Outcome::Valid, 126_978),
+        (Run::Hold, Outcome::Held, 126_977),
+    ] {
+        let ended = Session {
+            phase: Phase::Ended(outcome),
+            acknowledged: total,
+            ..reading.session(run)
+        };
+        assert_eq!(ended.total, total);
+        assert_eq!(reading.mark(ended, 0x1_EFFE), Ok(true));
+        let counts = [total, total, 63_488];
+        check_log(ended, &log_record(Board::Long, outcome.number(), counts));
     }
 }
 
 #[test]
 fn log_of_a_hold_session_that_ended_otherwise() {
-    let reading = plan_file();
-    let states = whole_session(&reading, Run::Hold);
-    for (acknowledged, state) in [
-        (0, states[0]),
-        (0, states[1]),
-        (1, states[2]),
-        (2, states[3]),
-    ] {
-        let (ended, _) = reading.step(state, Event::Silence).unwrap();
-        let record = [0, 8, 1, 40, 0, acknowledged, 0, 3, 0, 2];
-        assert_eq!(logged(&ended), record);
-        assert_eq!(log::read(&record).unwrap().outcome, Outcome::Silent);
-        assert_eq!(log::write(&state, &mut [0; 10]), Err(Refusal::NoLog));
+    for reading in files([plan_file]) {
+        let states = whole_session(&reading, Run::Hold);
+        for (acknowledged, state) in [
+            (0, states[0]),
+            (0, states[1]),
+            (1, states[2]),
+            (2, states[3]),
+        ] {
+            let (ended, _) = reading.step(state, Event::Silence).unwrap();
+            let record = log_record(reading.board(), 40, [acknowledged, 3, 2]);
+            check_log(ended, &record);
+            assert_eq!(log::write(&state, &mut [0; 16]), Err(Refusal::NoLog));
+        }
     }
 }
 
 /// A rehearsal over a flash of zeros.
 fn load(reading: &Reading, run: Run, exchanges: &[Exchange]) -> (Session, Loader, Vec<u8>) {
+    let board = reading.board();
     let mut loader = Loader::factory();
-    let mut flash = vec![0x00; FLASH_BYTES];
+    let mut flash = vec![0x00; board.flash_bytes()];
     let (image, map) = (&reading.image, &reading.map);
-    let ended = rehearse(run, image, map, &mut loader, &mut flash, exchanges).unwrap();
+    let ended = rehearse(board, run, image, map, &mut loader, &mut flash, exchanges).unwrap();
     (ended, loader, flash)
 }
 
@@ -1643,14 +2542,29 @@ fn whole_rehearsal_ends_as_asked() {
         (Run::Jump, 4, Condition::Left),
         (Run::Hold, 3, Condition::Serving),
     ] {
-        let (ended, loader, flash) = load(&plan_file(), run, &[]);
-        assert_eq!(ended.phase, Phase::Ended(asked_end(run)));
-        assert_eq!(ended.acknowledged, acknowledged);
-        assert_eq!(loader.condition, condition);
-        assert!(flash[..0x200].iter().all(|byte| *byte == 0x00));
-        assert_eq!(flash[0x200..0x202], [0x12, 0x34]);
-        assert!(flash[0x202..0x400].iter().all(|byte| *byte == 0xFF));
-        assert!(flash[0x400..].iter().all(|byte| *byte == 0x00));
+        for reading in files([plan_file]) {
+            let (ended, loader, flash) = load(&reading, run, &[]);
+            assert_eq!(ended.phase, Phase::Ended(asked_end(run)));
+            assert_eq!(ended.acknowledged, acknowledged);
+            assert_eq!(loader.condition, condition);
+            assert!(flash[..0x200].iter().all(|byte| *byte == 0x00));
+            assert_eq!(flash[0x200..0x202], [0x12, 0x34]);
+            assert!(flash[0x202..0x400].iter().all(|byte| *byte == 0xFF));
+            assert!(flash[0x400..].iter().all(|byte| *byte == 0x00));
+        }
+    }
+}
+
+#[test]
+fn whole_rehearsal_of_a_full_board() {
+    for board in Board::ALL {
+        let mut reading = full_file(board);
+        for (at, byte) in reading.image.iter_mut().enumerate() {
+            *byte = (at % 251) as u8;
+        }
+        let (ended, _, flash) = load(&reading, Run::Hold, &[]);
+        assert_eq!(ended.phase, Phase::Ended(Outcome::Held));
+        assert!(flash == reading.image);
     }
 }
 
@@ -1661,67 +2575,103 @@ fn loss_at(place: usize, lost: Exchange) -> Vec<Exchange> {
     exchanges
 }
 
+fn check_losses(reading: &Reading, run: Run, lost: Exchange) {
+    let total = reading.session(run).total as usize;
+    for place in 0..=total {
+        let (ended, _, _) = load(reading, run, &loss_at(place, lost));
+        assert_eq!(ended.phase, Phase::Ended(Outcome::Silent));
+        assert_eq!(ended.acknowledged as usize, place.saturating_sub(1));
+    }
+    // past the last exchange nothing is left to lose
+    let (ended, _, _) = load(reading, run, &loss_at(total + 1, lost));
+    assert_eq!(ended.phase, Phase::Ended(asked_end(run)));
+}
+
 #[test]
 fn rehearsal_with_a_loss_ends_silent() {
-    for reading in [plan_file(), three_pieces()] {
+    for reading in files([plan_file, three_pieces]) {
         for run in RUNS {
-            let total = reading.session(run).total as usize;
+            check_losses(&reading, run, Exchange::PacketLost);
+            check_losses(&reading, run, Exchange::AnswerLost);
+        }
+    }
+}
+
+/// A flash of zeros with `three_pieces` loaded.
+fn loaded_pieces(board: Board) -> Vec<u8> {
+    let (low, high) = runs_of(board);
+    let mut flash = Vec::new();
+    for (end, byte) in [
+        (low - 0x1FF, 0x00),
+        (low, 0xFF),
+        (low + 255, 0x00),
+        (low + 0x201, 0xFF),
+        (high + 1, 0x00),
+        (high + 0x200, 0xFF),
+        (board.flash_end(), 0x00),
+    ] {
+        flash.resize(end as usize, byte);
+    }
+    flash
+}
+
+#[test]
+fn rehearsal_by_hold_never_sends_r() {
+    for reading in files([three_pieces]) {
+        let (ended, loader, flash) = load(&reading, Run::Hold, &[]);
+        assert_eq!(ended.phase, Phase::Ended(Outcome::Held));
+        assert_eq!(loader.condition, Condition::Serving);
+        assert!(flash == loaded_pieces(reading.board()));
+        for place in 0..=8 {
             for lost in [Exchange::PacketLost, Exchange::AnswerLost] {
-                for place in 0..=total {
-                    let (ended, _, _) = load(&reading, run, &loss_at(place, lost));
-                    assert_eq!(ended.phase, Phase::Ended(Outcome::Silent));
-                    assert_eq!(ended.acknowledged as usize, place.saturating_sub(1));
-                }
-                // past the last exchange nothing is left to lose
-                let (ended, _, _) = load(&reading, run, &loss_at(total + 1, lost));
-                assert_eq!(ended.phase, Phase::Ended(asked_end(run)));
+                let (_, loader, _) = load(&reading, Run::Hold, &loss_at(place, lost));
+                assert_ne!(loader.condition, Condition::Left);
             }
         }
     }
 }
 
+/// The second E is refused, so that the session ends with 41.
 #[test]
-fn rehearsal_by_hold_never_sends_r() {
-    let reading = three_pieces();
-    let (ended, loader, flash) = load(&reading, Run::Hold, &[]);
-    assert_eq!(ended.phase, Phase::Ended(Outcome::Held));
+fn rehearsal_stops_at_a_protected_group() {
+    for (board, group) in [(Board::Short, 30), (Board::Long, 61)] {
+        let reading = naming(board, &[0, board.flash_end() - 1]);
+        let mut loader = Loader::factory();
+        loader.protection = protection(1 << group, false);
+        let mut flash = vec![0x00; board.flash_bytes()];
+        let (image, map) = (&reading.image, &reading.map);
+        let ended = rehearse(board, Run::Hold, image, map, &mut loader, &mut flash, &[]).unwrap();
+        assert_eq!(ended.phase, Phase::Ended(Outcome::Refused));
+        assert_eq!(ended.acknowledged, 1);
+        assert!(flash[..512].iter().all(|byte| *byte == 0xFF));
+        assert!(flash[512..].iter().all(|byte| *byte == 0x00));
+    }
+}
+
+/// What comes of a rehearsal over a flash of so many bytes.
+fn rehearsal_refused(board: Board, reading: &Reading, flash: usize) -> Refusal {
+    let mut loader = Served::new(board, 0x00).loader;
+    let mut flash = vec![0x00; flash];
+    let (image, map) = (&reading.image, &reading.map);
+    let given = rehearse(board, Run::Reset, image, map, &mut loader, &mut flash, &[]);
     assert_eq!(loader.condition, Condition::Serving);
-    let mut expected = Vec::new();
-    for (end, byte) in [
-        (0x1FF, 0xFF),
-        (0x2FE, 0x00),
-        (0x400, 0xFF),
-        (0xF001, 0x00),
-        (0xF200, 0xFF),
-        (0xF800, 0x00),
-    ] {
-        expected.resize(end, byte);
-    }
-    assert!(flash == expected);
-    for place in 0..=8 {
-        for lost in [Exchange::PacketLost, Exchange::AnswerLost] {
-            let (_, loader, _) = load(&reading, Run::Hold, &loss_at(place, lost));
-            assert_ne!(loader.condition, Condition::Left);
-        }
-    }
+    assert!(flash.iter().all(|byte| *byte == 0x00));
+    given.unwrap_err()
 }
 
 #[test]
 fn rehearsal_refuses_20_then_32_and_sends_nothing() {
-    let refused = |reading: &Reading, flash: usize| {
-        let mut loader = Served::new(0x00).loader;
-        let mut flash = vec![0x00; flash];
-        let (image, map) = (&reading.image, &reading.map);
-        let refusal = rehearse(Run::Reset, image, map, &mut loader, &mut flash, &[]).unwrap_err();
-        assert_eq!(loader.condition, Condition::Serving);
-        assert!(flash.iter().all(|byte| *byte == 0x00));
-        refusal
-    };
-    for wrong in [0, FLASH_BYTES - 1, FLASH_BYTES + 1] {
-        assert_eq!(refused(&plan_file(), wrong), Refusal::Size);
-        assert_eq!(refused(&Reading::new(), wrong), Refusal::Size);
+    for board in Board::ALL {
+        let (bytes, far) = (board_bytes(board), other(board));
+        let refused = |reading: &Reading, flash| rehearsal_refused(board, reading, flash);
+        for wrong in [0, bytes - 1, bytes + 1, board_bytes(far)] {
+            assert_eq!(refused(&plan_file(board), wrong), Refusal::Size);
+            assert_eq!(refused(&Reading::new(board), wrong), Refusal::Size);
+        }
+        assert_eq!(refused(&plan_file(far), bytes), Refusal::Size);
+        assert_eq!(refused(&plan_file(far), board_bytes(far)), Refusal::Size);
+        assert_eq!(refused(&Reading::new(board), bytes), Refusal::NoData);
     }
-    assert_eq!(refused(&Reading::new(), FLASH_BYTES), Refusal::NoData);
 }
 
 #[test]
@@ -1755,37 +2705,119 @@ fn printed_listings() {
     assert_eq!(listing::readlog(&[]), "REFUSED 50\n");
 }
 
-/// Asks each line again, behind a file of two bytes, and compares all.
-fn check_cases(printed: &str) {
-    let file = "hex -> 0\nrecord :020200001234B6 -> 0\nrecord :00000001FF -> 0\n";
-    let expected = format!("{file}{printed}");
-    let asked: String = expected
+#[test]
+fn listings_of_version_2() {
+    let read = |outcome, counts| listing::readlog(&log_record(Board::Long, outcome, counts));
+    assert_eq!(
+        read(0, [4, 4, 2]),
+        "VERSION 2 OUTCOME 0 ACKED 4 TOTAL 4 BYTES 2\n"
+    );
+    assert_eq!(
+        read(1, [126_977, 126_977, 63_488]),
+        "VERSION 2 OUTCOME 1 ACKED 126977 TOTAL 126977 BYTES 63488\n"
+    );
+    assert_eq!(
+        read(40, [0, u32::MAX, 126_976]),
+        "VERSION 2 OUTCOME 40 ACKED 0 TOTAL 4294967295 BYTES 126976\n"
+    );
+    assert_eq!(read(0, [4, 4, 126_977]), "REFUSED 53\n");
+    let record = log_record(Board::Long, 0, [4, 4, 2]);
+    assert_eq!(listing::readlog(&record[..9]), "REFUSED 50\n");
+    for length in 10..16 {
+        assert_eq!(listing::readlog(&record[..length]), "REFUSED 51\n");
+    }
+    let longer = [&record[..], &[0]].concat();
+    assert_eq!(listing::readlog(&longer), "REFUSED 51\n");
+}
+
+/// Programs stay with the short board.
+#[test]
+fn plan_is_of_the_short_board() {
+    check_plans(&[
+        (":01F800000007\n", "REFUSED 1 29 0"),
+        (":02FFFF001234BA\n", "REFUSED 1 29 0"),
+        (":020000040001F9\n:0100000000FF\n", "REFUSED 2 29 0"),
+        (":020000021000EC\n:0100000000FF\n", "REFUSED 2 29 0"),
+    ]);
+    let records = written(&full_file(Board::Short)).join("\n");
+    let planned = listing::plan(records.as_bytes());
+    let lines: Vec<&str> = planned.lines().collect();
+    assert_eq!(lines[1], "1 E 070E0645000000007C39");
+    assert_eq!(lines[510], "510 R 070E055200000001A8");
+    assert_eq!(lines[511..], ["TOTAL 510"]);
+    let records = written(&full_file(Board::Long)).join("\n");
+    let planned = listing::plan(records.as_bytes());
+    assert_eq!(planned, "REFUSED 3969 29 0\n");
+}
+
+/// Asks each line again and compares all.
+fn check_lines(printed: &str) {
+    let asked: String = printed
         .lines()
         .map(|line| format!("{}\n", cases::asked(line)))
         .collect();
     let mut output = Vec::new();
     cases::run(asked.as_bytes(), &mut output).unwrap();
-    assert_eq!(String::from_utf8(output).unwrap(), expected);
+    assert_eq!(String::from_utf8(output).unwrap(), printed);
+}
+
+/// Lines that lend each part as long as a board has it.
+fn lent(board: Board) -> &'static str {
+    match board {
+        Board::Short => {
+            "lend flash 63488 -> 0\nlend image 63488 -> 0\nlend map 7936 -> 0\nlend log 10 -> 0\n"
+        }
+        Board::Long => {
+            "lend flash 126976 -> 0\nlend image 126976 -> 0\nlend map 15872 -> 0\nlend log 16 -> 0\n"
+        }
+    }
+}
+
+/// The same on a board, behind a file of two bytes.
+fn check_cases(board: Board, printed: &str) {
+    let (pages, lent) = (board.pages(), lent(board));
+    let file = "hex -> 0\nrecord :020200001234B6 -> 0\nrecord :00000001FF -> 0\n";
+    check_lines(&format!("board {pages} -> 0\n{lent}{file}{printed}"));
+}
+
+/// On each board, whose number of pages stands for `BOARD`.
+fn check_cases_of_both(printed: &str) {
+    for (board, pages) in [(Board::Short, "124"), (Board::Long, "248")] {
+        check_cases(board, &printed.replace("BOARD", pages));
+    }
 }
 
 #[test]
 fn case_lines_of_a_hold_session() {
-    check_cases(
-        "start hold -> 0 08\n\
-         session -> 0 2 0 0 0 0 0 3 2\n\
-         answer 41447543373032782020202D363220493331202020200A0D -> 0 070E06450000020001B2\n\
-         answer 06 -> 0 070E07570000020012345A\n\
-         answer 06 -> 0 070E07560000020090A170\n\
-         session -> 0 2 3 0 512 0 2 3 2\n\
-         outcome -> 45\n\
-         proved 00000200 -> 0 0\n\
-         answer 06 -> 0 ended 1\n\
-         session -> 0 2 5 0 0 1 3 3 2\n\
-         outcome -> 0 ended 1\n\
-         proved 00000200 -> 0 1\n\
-         log -> 0 00080101000300030002\n\
-         silence -> 44\n",
-    );
+    for (board, pages, greeting, record) in [
+        (Board::Short, 124, "2D363220", "00080101000300030002"),
+        (
+            Board::Long,
+            248,
+            "2D313234",
+            "000E0201000000030000000300000002",
+        ),
+    ] {
+        check_cases(
+            board,
+            &format!(
+                "start hold -> 0 08\n\
+                 session -> 0 {pages} 2 0 0 0 0 0 3 2\n\
+                 answer 4144754337303278202020{greeting}493331202020200A0D -> 0 070E06450000020001B2\n\
+                 answer 06 -> 0 070E07570000020012345A\n\
+                 answer 06 -> 0 070E07560000020090A170\n\
+                 session -> 0 {pages} 2 3 0 512 0 2 3 2\n\
+                 outcome -> 45\n\
+                 proved 00000200 -> 0 0\n\
+                 answer 06 -> 0 ended 1\n\
+                 session -> 0 {pages} 2 5 0 0 1 3 3 2\n\
+                 outcome -> 0 ended 1\n\
+                 proved 00000200 -> 0 1\n\
+                 log -> 0 {record}\n\
+                 silence -> 44\n"
+            ),
+        );
+    }
 }
 
 #[test]
@@ -1800,19 +2832,19 @@ fn case_lines_with_run_kinds_by_word_and_number() {
         ("3", 2, 3),
         ("4294967295", 2, 3),
     ] {
-        check_cases(&format!(
-            "start {word} -> 0 08\nsession -> 0 {number} 0 0 0 0 0 {total} 2\n"
+        check_cases_of_both(&format!(
+            "start {word} -> 0 08\nsession -> 0 BOARD {number} 0 0 0 0 0 {total} 2\n"
         ));
     }
-    check_cases("start held -> ?\nstart  -> ?\nstart 4294967296 -> ?\n");
+    check_cases_of_both("start held -> ?\nstart  -> ?\nstart 4294967296 -> ?\n");
 }
 
 #[test]
 fn case_lines_of_rehearsals_by_hold() {
-    check_cases(
+    check_cases_of_both(
         "factory 00 -> 0\n\
          rehearse hold  -> 0 ended 1 3\n\
-         session -> 0 2 5 0 0 1 3 3 2\n\
+         session -> 0 BOARD 2 5 0 0 1 3 3 2\n\
          loader -> 0 0 0 4294967295 1 0 0 0\n\
          look flash 000001FF 4 -> 0 001234FF\n\
          rehearse hold 01 -> 0 ended 40 0\n\
@@ -1821,7 +2853,7 @@ fn case_lines_of_rehearsals_by_hold() {
          rehearse hold 0000000001 -> 0 ended 1 3\n\
          rehearse 2  -> 0 ended 1 3\n\
          rehearse 7  -> 0 ended 1 3\n\
-         session -> 0 2 5 0 0 1 3 3 2\n\
+         session -> 0 BOARD 2 5 0 0 1 3 3 2\n\
          rehearse reset  -> 0 ended 0 4\n\
          loader -> 0 0 0 4294967295 2 0 0 0\n",
     );
@@ -1830,18 +2862,18 @@ fn case_lines_of_rehearsals_by_hold() {
 /// A record under any other number is hold's, and stays as it is if refused.
 #[test]
 fn case_lines_of_records_under_hold() {
-    check_cases(
-        "session 7 3 0 512 0 2 3 2 -> 0\n\
+    check_cases_of_both(
+        "session BOARD 7 3 0 512 0 2 3 2 -> 0\n\
          proved 00000200 -> 0 0\n\
          answer 06 -> 0 ended 1\n\
-         session -> 0 2 5 0 0 1 3 3 2\n\
-         session 7 3 0 512 0 2 4 2 -> 0\n\
+         session -> 0 BOARD 2 5 0 0 1 3 3 2\n\
+         session BOARD 7 3 0 512 0 2 4 2 -> 0\n\
          answer 06 -> 46\n\
          proved 00000200 -> 46\n\
-         session -> 0 7 3 0 512 0 2 4 2\n\
-         session 0 3 0 512 0 2 3 2 -> 0\n\
+         session -> 0 BOARD 7 3 0 512 0 2 4 2\n\
+         session BOARD 0 3 0 512 0 2 3 2 -> 0\n\
          answer 06 -> 46\n\
-         session 2 4 0 0 0 3 3 2 -> 0\n\
+         session BOARD 2 4 0 0 0 3 3 2 -> 0\n\
          answer 06 -> 46\n\
          proved 00000200 -> 46\n\
          outcome -> 45\n\
@@ -1852,15 +2884,233 @@ fn case_lines_of_records_under_hold() {
 #[test]
 fn case_lines_of_ends_that_are_another_run_kinds() {
     for record in ["2 5 0 0 0 3 3 2", "0 5 0 0 1 4 4 2", "1 5 0 0 1 4 4 2"] {
-        check_cases(&format!(
-            "session {record} -> 0\n\
+        check_cases_of_both(&format!(
+            "session BOARD {record} -> 0\n\
              outcome -> 45\n\
              log -> 45\n\
              proved 00000200 -> 46\n\
              answer 06 -> 44\n\
              silence -> 44\n\
-             session -> 0 {record}\n"
+             session -> 0 BOARD {record}\n"
         ));
+    }
+}
+
+/// The short board's sizes are lent until a line lends others.
+#[test]
+fn case_lines_begin_with_the_short_board() {
+    check_lines(
+        "reader -> 0 124 0 0 0 0\n\
+         session -> ?\n\
+         take 08 -> 0 41447543373032782020202D363220493331202020200A0D\n\
+         hex -> 0\n\
+         write 00000000 0000 -> 0 :00000001FF 0000F801 0000\n\
+         board 248 -> 0\n\
+         take 08 -> 20\n\
+         hex -> 20 0\n\
+         write 00000000 0000 -> 20\n\
+         start hold -> 20\n\
+         rehearse hold  -> 20\n\
+         reader -> 0 124 0 0 0 0\n\
+         record :010000005AA5 -> 0\n\
+         board 124 -> 0\n\
+         write 00000000 0000 -> 0 :010000005AA5 00000001 0000\n",
+    );
+}
+
+#[test]
+fn case_lines_that_are_no_board() {
+    check_lines(
+        "board -> ?\n\
+         board  -> ?\n\
+         board 0124 -> ?\n\
+         board 7C -> ?\n\
+         board short -> ?\n\
+         board 124 248 -> ?\n\
+         board 4294967296 -> ?\n\
+         take 08 -> 0 41447543373032782020202D363220493331202020200A0D\n\
+         board 4294967295 -> 0\n\
+         board 0 -> 0\n\
+         take  -> 65\n",
+    );
+}
+
+#[test]
+fn case_lines_of_the_writer() {
+    let lines = "put image 0000FFFF 1234 -> 0\n\
+                 put map 00001FFF 8001 -> 0\n\
+                 write 00000000 0000 -> 0 :01FFFF0012EF 00010000 0000\n\
+                 fill record 00000000 44 AA -> 0\n\
+                 write 00010000 0000 -> 0 :020000040001F9 00010000 0001\n\
+                 changed -> 0 record 00000000 3A30323030303030343030303146390A\n\
+                 write 00010000 0001 -> 0 :0100000034CB 00010001 0001\n\
+                 write 00010001 0001 -> 0 :00000001FF 0001F001 0001\n\
+                 write 0001F001 0001 -> 0 0001F001 0001\n\
+                 write 00000000 FFFF -> 0 :020000040000FA 00000000 0000\n\
+                 write 00000000 -> ?\n\
+                 write 00000000 000 -> ?\n\
+                 write 00000000 00000 -> ?\n\
+                 write 00000000 000a -> ?\n\
+                 write 00000000 00000000 -> ?\n\
+                 write 0000 0000 -> ?\n\
+                 lend record 43 -> 0\n\
+                 write 00010000 0000 -> 33\n\
+                 lend map 7936 -> 0\n\
+                 write 00010000 0000 -> 20\n";
+    check_lines(&format!("board 248 -> 0\n{}{lines}", lent(Board::Long)));
+}
+
+/// They keep it, whatever board calls are told later.
+#[test]
+fn reader_and_session_carry_their_board() {
+    check_lines(&format!(
+        "board 248 -> 0\n\
+         {}\
+         hex -> 0\n\
+         board 0 -> 0\n\
+         record :020000040001F9 -> 0\n\
+         record :01EFFF005AB7 -> 0\n\
+         record :00000001FF -> 0\n\
+         close -> 0\n\
+         reader -> 0 248 65536 0 1 1\n\
+         board 248 -> 0\n\
+         start hold -> 0 08\n\
+         board 124 -> 0\n\
+         answer 41447543373032782020202D313234493331202020200A0D -> 0 070E06450001EE0001C5\n\
+         answer 06 -> 0 070E06570001EFFF5A5A\n\
+         answer 06 -> 0 070E06560001EFFFD2E3\n\
+         answer 06 -> 0 ended 1\n\
+         proved 0001EFFF -> 0 1\n\
+         log -> 0 000E0201000000030000000300000001\n\
+         session -> 0 248 2 5 0 0 1 3 3 1\n",
+        lent(Board::Long)
+    ));
+}
+
+#[test]
+fn case_lines_with_records_of_too_few_or_too_many_fields() {
+    check_lines(
+        "reader 124 0 0 0 -> ?\n\
+         reader 124 0 0 0 0 0 -> ?\n\
+         reader 4294967296 0 0 0 0 -> ?\n\
+         reader 248 1 2 3 4 -> 0\n\
+         reader -> 0 248 1 2 3 4\n\
+         session 2 5 0 0 1 3 3 2 -> ?\n\
+         session 124 2 5 0 0 1 3 3 2 0 -> ?\n\
+         session 4294967296 2 5 0 0 1 3 3 2 -> ?\n\
+         session -> ?\n\
+         session 0 2 5 0 0 1 3 3 2 -> 0\n\
+         session -> 0 0 2 5 0 0 1 3 3 2\n",
+    );
+}
+
+#[test]
+fn case_lines_of_both_versions_of_the_log() {
+    check_lines(
+        "logread 00080100000400040002 -> 0 VERSION 1 OUTCOME 0 ACKED 4 TOTAL 4 BYTES 2\n\
+         logread 000E0200000000040000000400000002 -> 0 VERSION 2 OUTCOME 0 ACKED 4 TOTAL 4 BYTES 2\n\
+         logread 000E02 -> 50\n\
+         logread 000E0200000400040002 -> 51\n\
+         logread 00080100000000040000000400000002 -> 51\n\
+         logread 00080200000400040002 -> 52\n\
+         logread 000E0100000000040000000400000002 -> 52\n\
+         logread 000E020000000004000000040001F001 -> 53\n\
+         session 248 0 5 0 0 0 4 4 2 -> 0\n\
+         log -> 20\n\
+         lend log 15 -> 0\n\
+         log -> 20\n\
+         lend log 16 -> 0\n\
+         log -> 0 000E0200000000040000000400000002\n\
+         session 124 0 5 0 0 0 4 4 2 -> 0\n\
+         log -> 0 00080100000400040002\n",
+    );
+}
+
+/// Numbers of pages that no board has.
+const NO_BOARDS: [u32; 9] = [0, 1, 62, 123, 125, 247, 249, 372, u32::MAX];
+
+/// Whatever is lent, brought or kept, and nothing is written.
+#[test]
+fn unknown_board_is_65_before_all_else() {
+    let lines = "factory 00 -> 0\n\
+                 put map 00000000 FF -> 0\n\
+                 board BOARD -> 0\n\
+                 take 08 -> 65\n\
+                 take 00 -> 65\n\
+                 take  -> 65\n\
+                 hex -> 65 0\n\
+                 write 00000000 0000 -> 65\n\
+                 write FFFFFFFF FFFF -> 65\n\
+                 start hold -> 65\n\
+                 rehearse hold  -> 65\n\
+                 changed -> 0\n\
+                 session -> ?\n\
+                 loader -> 0 0 0 4294967295 0 0 0 0\n\
+                 reader -> 0 124 0 0 0 0\n\
+                 look answer 00000000 4 -> 0 AAAAAAAA\n\
+                 look packet 00000000 4 -> 0 AAAAAAAA\n\
+                 look record 00000000 4 -> 0 AAAAAAAA\n\
+                 look map 00000000 2 -> 0 FF00\n";
+    let wrong = "lend flash null -> 0\n\
+                 lend answer null -> 0\n\
+                 lend image null -> 0\n\
+                 lend map null -> 0\n\
+                 lend packet null -> 0\n\
+                 lend record null -> 0\n";
+    for pages in NO_BOARDS {
+        let lines = lines.replace("BOARD", &pages.to_string());
+        for lent in [wrong, lent(Board::Short), lent(Board::Long)] {
+            check_lines(&format!("{lent}{lines}"));
+        }
+    }
+}
+
+#[test]
+fn reader_of_an_unknown_board_is_65() {
+    let lines = "reader BOARD 0 0 ENDED 0 -> 0\n\
+                 record :020000001234B8 -> 65 0\n\
+                 record :0000 -> 65 0\n\
+                 record  -> 65 0\n\
+                 line 00 -> 65 0\n\
+                 close -> 65 0\n\
+                 changed -> 0\n\
+                 lend image null -> 0\n\
+                 record :020000001234B8 -> 65 0\n\
+                 reader -> 0 BOARD 0 0 ENDED 0\n";
+    for pages in NO_BOARDS {
+        for ended in ["0", "1"] {
+            let lines = lines.replace("BOARD", &pages.to_string());
+            check_lines(&lines.replace("ENDED", ended));
+        }
+    }
+}
+
+/// Of one that has ended too, and of one that came from no start.
+#[test]
+fn session_of_an_unknown_board_is_65_and_its_outcome_45() {
+    let lines = "session BOARD FIELDS -> 0\n\
+                 answer 06 -> 65\n\
+                 silence -> 65\n\
+                 proved 00000200 -> 65\n\
+                 outcome -> 45\n\
+                 log -> 65\n\
+                 changed -> 0\n\
+                 lend map null -> 0\n\
+                 lend log null -> 0\n\
+                 answer 06 -> 65\n\
+                 proved 00000200 -> 65\n\
+                 log -> 65\n\
+                 session -> 0 BOARD FIELDS\n";
+    for pages in NO_BOARDS {
+        let lines = lines.replace("BOARD", &pages.to_string());
+        for fields in [
+            "2 0 0 0 0 0 3 2",
+            "2 3 0 512 0 2 3 2",
+            "2 5 0 0 1 3 3 2",
+            "7 6 5 4 3 2 1 0",
+        ] {
+            check_cases(Board::Long, &lines.replace("FIELDS", fields));
+        }
     }
 }
 

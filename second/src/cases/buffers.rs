@@ -3,10 +3,8 @@
 use std::ops::Range;
 
 use crate::hex::RECORD_BUFFER;
-use crate::loader::GREETING;
-use crate::log;
 use crate::packet;
-use crate::units::{FLASH_BYTES, MAP_BYTES};
+use crate::units::{Board, GREETING_BYTES};
 
 pub const CAPACITY: u32 = 131_072;
 /// How many bytes are compared at a time.
@@ -69,16 +67,16 @@ impl Buffer {
         vec![filling; CAPACITY as usize]
     }
 
-    /// How much of it a call is lent at first; none of those that no call
-    /// has a part for.
+    /// How much of it a call is lent at first, by the short board; none of
+    /// those that no call has a part for.
     fn lent_at_first(self) -> Option<u32> {
         let length = match self {
-            Buffer::Flash | Buffer::Image => FLASH_BYTES,
-            Buffer::Answer => GREETING.len(),
-            Buffer::Map => MAP_BYTES,
+            Buffer::Flash | Buffer::Image => Board::Short.flash_bytes(),
+            Buffer::Answer => GREETING_BYTES,
+            Buffer::Map => Board::Short.map_bytes(),
             Buffer::Packet => packet::LONGEST,
             Buffer::Record => RECORD_BUFFER,
-            Buffer::Log => log::RECORD,
+            Buffer::Log => Board::Short.log_bytes(),
             Buffer::Input | Buffer::Other | Buffer::Spare => return None,
         };
         Some(length as u32)

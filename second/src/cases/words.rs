@@ -26,15 +26,20 @@ fn upper_digit(digit: u8) -> Option<u8> {
 }
 
 pub fn byte(word: &str) -> Option<u8> {
-    match bytes(word)?[..] {
-        [byte] => Some(byte),
-        _ => None,
-    }
+    exactly(word).map(u8::from_be_bytes)
 }
 
 pub fn address(word: &str) -> Option<u32> {
-    let bytes: [u8; 4] = bytes(word)?.try_into().ok()?;
-    Some(u32::from_be_bytes(bytes))
+    exactly(word).map(u32::from_be_bytes)
+}
+
+/// The upper half of an address.
+pub fn half(word: &str) -> Option<u16> {
+    exactly(word).map(u16::from_be_bytes)
+}
+
+fn exactly<const LENGTH: usize>(word: &str) -> Option<[u8; LENGTH]> {
+    bytes(word)?.try_into().ok()
 }
 
 /// A decimal number without leading zeros, as large as its type allows.

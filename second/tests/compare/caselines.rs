@@ -5,29 +5,46 @@ use std::fs;
 use second::cases::{self, Desk};
 use second::hex;
 use second::listing::hex_digits;
-use second::loader::GREETING;
-use second::log;
 use second::packet::{self, ADD, CLOSE, OPEN};
-use second::units::{FLASH_END, MAP_BYTES};
+use second::units::{Board, GREETING_BYTES};
 
+use crate::boards;
 use crate::files;
 use crate::loaders::built;
 use crate::random::Random;
 use crate::root;
+use crate::site::{Site, SITES};
 use crate::wire::Wire;
 
 const LIST: &str = "tests/cases.txt";
 const SCRIPTS: u64 = 12;
 const EPISODES: u32 = 12;
 
-const PARTS: [(&str, u32); 7] = [
-    ("flash", FLASH_END),
-    ("answer", GREETING.len() as u32),
-    ("image", FLASH_END),
-    ("map", MAP_BYTES as u32),
-    ("packet", packet::LONGEST as u32),
-    ("record", hex::RECORD_BUFFER as u32),
-    ("log", log::RECORD as u32),
+/// A part that calls lend, with how long it is for a board.
+type Lent = (&'static str, u32);
+
+const ANSWER: Lent = ("answer", GREETING_BYTES as u32);
+const PACKET: Lent = ("packet", packet::LONGEST as u32);
+const RECORD: Lent = ("record", hex::RECORD_BUFFER as u32);
+
+fn flash(site: Site) -> Lent {
+    ("flash", site.end())
+}
+
+fn image(site: Site) -> Lent {
+    ("image", site.end())
+}
+
+fn map(site: Site) -> Lent {
+    ("map", site.map.length())
+}
+
+fn log(site: Site) -> Lent {
+    ("log", site.board.log_bytes() as u32)
+}
+
+const BUFFERS: [&str; 10] = [
+    "flash", "answer", "image", "map", "packet", "record", "log", "input", "other", "spare",
 ];
 
 /// Compares the stored list and gives its number of lines.
@@ -82,14 +99,34 @@ fn script(random: &mut Random) -> Vec<String> {
         lines.push(line.to_string());
     }
     for _ in 0..EPISODES {
+        let site = random.pick(&SITES);
+        lend_for(site, &mut lines);
         bytes_and_packets(random, &mut lines);
-        let named = file(random, &mut lines);
-        session(random, &mut lines, named);
-        loader(random, &mut lines);
-        rehearsals(random, &mut lines);
+        let named = file(random, &mut lines, site);
+        session(random, &mut lines, site, named);
+        loader(random, &mut lines, site);
+        rehearsals(random, &mut lines, site);
         desk(random, &mut lines);
     }
     lines
+}
+
+/// Calls are told a board and lent what it asks for from now on.
+fn lend_for(site: Site, lines: &mut Vec<String>) {
+    lines.push(format!("board {}", site.pages()));
+    for (part, length) in [flash(site), image(site), map(site), log(site)] {
+        lines.push(format!("lend {part} {length}"));
+    }
+}
+
+/// One line with calls told another board, or none.
+fn wrongly_told(random: &mut Random, lines: &mut Vec<String>, site: Site, line: &str) {
+    let none = boards::unknown(random);
+    let board = random.pick(&[site.other().pages(), none, none]);
+    lines.push(format!("board {board}"));
+    lines.push(line.to_string());
+    lines.push("changed".to_string());
+    lines.push(format!("board {}", site.pages()));
 }
 
 fn bytes_and_packets(random: &mut Random, lines: &mut Vec<String>) {
@@ -101,27 +138,22 @@ fn bytes_and_packets(random: &mut Random, lines: &mut Vec<String>) {
         let command = random.pick(b"EWVPRQ");
         lines.push(format!("build {command:02X} {:08X} {data}", random.word()));
         lines.push("changed".to_string());
-        let mut packet = packet(random);
+        let site = random.pick(&SITES);
+        let mut packet = packet(random, site);
         if random.once_in(2) {
             random.damage(&mut packet);
         }
         lines.push(format!("read {}", hex_digits(&packet)));
     }
-    wrongly_lent(random, lines, ("packet", 259), "build 52 00000001 ");
+    wrongly_lent(random, lines, PACKET, "build 52 00000001 ");
 }
 
 /// One line with a part lent otherwise, which is then lent whole again.
-fn wrongly_lent(
-    random: &mut Random,
-    lines: &mut Vec<String>,
-    (part, whole): (&str, u32),
-    line: &str,
-) {
+fn wrongly_lent(random: &mut Random, lines: &mut Vec<String>, (part, whole): Lent, line: &str) {
     let any = random.below(whole);
-    let length = random.pick(&[whole - 1, whole, whole + 1, any]);
-    let (buffer, _) = random.pick(&PARTS);
-    let buffer = random.pick(&[buffer, "input", "other", "spare"]);
-    let place = random.pick(&[0, 1, 0xF800, 0xF801, 0x10000, any]);
+    let length = random.pick(&[whole - 1, whole, whole + 1, whole / 2, any]);
+    let buffer = random.pick(&BUFFERS);
+    let place = random.pick(&[0, 1, 0xF800, 0xF801, 0x1_0000, 0x1_F000, any]);
     lines.push(match random.below(6) {
         0 => format!("lend {part} null"),
         1 | 2 => format!("lend {part} {length}"),
@@ -133,16 +165,16 @@ fn wrongly_lent(
 }
 
 /// Reads a file and gives the address of a byte that it names.
-fn file(random: &mut Random, lines: &mut Vec<String>) -> u32 {
+fn file(random: &mut Random, lines: &mut Vec<String>, site: Site) -> u32 {
+    let past = site.end() + 0x100;
     lines.push("hex".to_string());
+    wrongly_told(random, lines, site, "hex");
     // the session before has lost its file
-    lines.push(format!("proved {:08X}", random.below(0xF900)));
-    let named = random.below(0xF700);
-    let first = files::encoded(named as u16, 0, &random.bytes(3));
-    lines.push(format!("record {}", String::from_utf8_lossy(&first)));
+    lines.push(format!("proved {:08X}", random.below(past)));
+    let named = first_byte(random, lines, site);
     let records = random.within(1, 30);
     for _ in 0..records {
-        let text = files::text(random);
+        let text = files::text(random, site);
         if text.iter().all(|byte| (b' '..0x7F).contains(byte)) {
             lines.push(format!("record {}", String::from_utf8_lossy(&text)));
         }
@@ -150,27 +182,39 @@ fn file(random: &mut Random, lines: &mut Vec<String>) -> u32 {
             lines.push(random.pick(&["changed", "reader"]).to_string());
         }
     }
-    let part = random.pick(&[PARTS[2], PARTS[3], PARTS[5]]);
-    wrongly_lent(random, lines, part, "write 00000000");
-    lines.push(format!("proved {:08X}", random.below(0xF900)));
-    let part = random.pick(&[PARTS[2], PARTS[3]]);
+    let part = random.pick(&[image(site), map(site), RECORD]);
+    wrongly_lent(random, lines, part, "write 00000000 0000");
+    wrongly_told(random, lines, site, "write 00000000 0001");
+    lines.push(format!("proved {:08X}", random.below(past)));
+    let part = random.pick(&[image(site), map(site)]);
     wrongly_lent(random, lines, part, "record :00000001FF");
     lines.push("record :00000001FF".to_string());
     lines.push("close".to_string());
     for _ in 0..4 {
-        let inside = random.below(FLASH_END);
-        let any = random.word();
-        let from = random.pick(&[0, inside, inside, 0xF800, 0xF801, any]);
-        lines.push(format!("write {from:08X}"));
-        look(random, lines, "image");
-        look(random, lines, "map");
+        let from = files::any_address(random, site);
+        let upper = files::any_upper(random);
+        lines.push(format!("write {from:08X} {upper:04X}"));
+        look(random, lines, site, "image");
+        look(random, lines, site, "map");
     }
     named
 }
 
-fn look(random: &mut Random, lines: &mut Vec<String>, buffer: &str) {
-    let place = random.below(FLASH_END);
-    let place = random.pick(&[place, place % 7936, 131_070]);
+/// Names three bytes of the board and gives the address of the first.
+fn first_byte(random: &mut Random, lines: &mut Vec<String>, site: Site) -> u32 {
+    let named = random.below(site.end() - 0x100);
+    let upper = (named >> 16) as u16;
+    let base = files::encoded(0, 4, &upper.to_be_bytes());
+    let first = files::encoded(named as u16, 0, &random.bytes(3));
+    for text in [base, first] {
+        lines.push(format!("record {}", String::from_utf8_lossy(&text)));
+    }
+    named
+}
+
+fn look(random: &mut Random, lines: &mut Vec<String>, site: Site, buffer: &str) {
+    let place = random.below(site.end());
+    let place = random.pick(&[place, place % site.map.length(), 131_070]);
     lines.push(format!("look {buffer} {place:08X} {}", random.below(40)));
 }
 
@@ -181,10 +225,12 @@ fn run(random: &mut Random) -> String {
     random.pick(&["reset", "0", "jump", "1", hold, hold]).into()
 }
 
-fn session(random: &mut Random, lines: &mut Vec<String>, named: u32) {
+fn session(random: &mut Random, lines: &mut Vec<String>, site: Site, named: u32) {
     lines.push(format!("start {}", run(random)));
-    let greeting = hex_digits(GREETING);
-    let wrong = greeting.replace("2D3632", "2D3633");
+    let line = format!("start {}", run(random));
+    wrongly_told(random, lines, site, &line);
+    let greeting = hex_digits(site.board.greeting());
+    let wrong = hex_digits(site.other().board.greeting());
     let answer = random.pick(&[
         &greeting[..],
         &greeting,
@@ -206,60 +252,72 @@ fn session(random: &mut Random, lines: &mut Vec<String>, named: u32) {
         };
         lines.push(line.to_string());
         if random.once_in(8) {
-            let any = random.below(0xF900);
+            let any = random.below(site.end() + 0x100);
             lines.push(format!("proved {:08X}", random.pick(&[named, any])));
             let more = random.pick(&["session", "outcome", "changed", "look packet 00000000 9"]);
             lines.push(more.to_string());
         }
     }
-    after_steps(random, lines, named);
+    after_steps(random, lines, site, named);
 }
 
 /// Marks, outcome and log record of the session as it stands.
-fn after_steps(random: &mut Random, lines: &mut Vec<String>, named: u32) {
-    let part = random.pick(&[PARTS[2], PARTS[3], PARTS[4]]);
+fn after_steps(random: &mut Random, lines: &mut Vec<String>, site: Site, named: u32) {
+    let part = random.pick(&[image(site), map(site), PACKET]);
     wrongly_lent(random, lines, part, "answer 06");
     let proved = format!("proved {named:08X}");
-    wrongly_lent(random, lines, PARTS[3], &proved);
+    wrongly_lent(random, lines, map(site), &proved);
     lines.push(proved);
     lines.push("outcome".to_string());
-    wrongly_lent(random, lines, PARTS[6], "log");
+    wrongly_lent(random, lines, log(site), "log");
     lines.push("log".to_string());
-    let valid = [0, 8, 1, 0, 0, 4, 0, 4, 0, 2];
-    let held = [0, 8, 1, 1, 0, 3, 0, 3, 0, 2];
-    let mut record = random.pick(&[valid, held]).to_vec();
+    let mut record = log_record(random);
     random.damage(&mut record);
     lines.push(format!("logread {}", hex_digits(&record)));
 }
 
-fn loader(random: &mut Random, lines: &mut Vec<String>) {
+/// A true record of either version.
+fn log_record(random: &mut Random) -> Vec<u8> {
+    let (outcome, count) = random.pick(&[(0, 4), (1, 3)]);
+    match random.pick(&Board::ALL) {
+        Board::Short => vec![0, 8, 1, outcome, 0, count, 0, count, 0, 2],
+        Board::Long => {
+            let counts = [0, 0, 0, count, 0, 0, 0, count, 0, 1, 0, 2];
+            [&[0, 14, 2, outcome], &counts[..]].concat()
+        }
+    }
+}
+
+fn loader(random: &mut Random, lines: &mut Vec<String>, site: Site) {
     if random.once_in(3) {
         lines.push(format!("factory {:02X}", random.byte()));
     }
     lines.push("reset".to_string());
+    wrongly_told(random, lines, site, "take 08");
     lines.push("take 08".to_string());
     for _ in 0..20 {
-        let mut packet = packet(random);
+        let mut packet = packet(random, site);
         if random.once_in(6) {
             random.damage(&mut packet);
         }
         lines.push(format!("take {}", hex_digits(&packet)));
         match random.below(6) {
-            0 => look(random, lines, "flash"),
+            0 => look(random, lines, site, "flash"),
             1 => lines.push("loader".to_string()),
             2 => lines.push("changed".to_string()),
             _ => {}
         }
     }
-    let part = random.pick(&[PARTS[0], PARTS[1]]);
+    let part = random.pick(&[flash(site), ANSWER]);
     wrongly_lent(random, lines, part, "take 08");
 }
 
-/// A packet of the table around the first groups.
-fn packet(random: &mut Random) -> Vec<u8> {
+/// A packet of the table around the first groups, or around some others.
+fn packet(random: &mut Random, site: Site) -> Vec<u8> {
     let any = random.word();
     let near = random.below(0x1200);
-    let address = random.pick(&[0, 1, near, near, near, near, 0xF7FF, any]);
+    let (last, far) = (site.end() - 1, 0xF000 + near);
+    let address = random.pick(&[0, 1, near, near, near, far, far, last, last + near, any]);
     match random.below(8) {
         0 => built(b'E', address, &[random.below(3) as u8]),
         1 | 2 => built(b'W', address, &random.bytes(2)),
@@ -270,24 +328,24 @@ fn packet(random: &mut Random) -> Vec<u8> {
     }
 }
 
-fn rehearsals(random: &mut Random, lines: &mut Vec<String>) {
+fn rehearsals(random: &mut Random, lines: &mut Vec<String>, site: Site) {
     let whole = vec![0; random.below(12) as usize];
     let any = format!("{:02X}", random.byte());
     for lost in ["", "01", &any] {
         let (run, whole) = (run(random), hex_digits(&whole));
         lines.push(format!("rehearse {run} {whole}{lost}"));
         lines.push(random.pick(&["session", "loader", "changed"]).to_string());
-        look(random, lines, "flash");
+        look(random, lines, site, "flash");
     }
     let line = format!("rehearse {} ", run(random));
-    wrongly_lent(random, lines, PARTS[0], &line);
+    wrongly_lent(random, lines, flash(site), &line);
+    wrongly_told(random, lines, site, &line);
 }
 
 /// Lines about what is kept, right and wrong.
 fn desk(random: &mut Random, lines: &mut Vec<String>) {
-    let buffers = ["flash", "answer", "image", "map", "input", "other", "spare"];
     for _ in 0..4 {
-        let buffer = random.pick(&buffers);
+        let buffer = random.pick(&BUFFERS);
         let place = random.pick(&[0, 1, 100, 131_071, 131_072, 131_073, u32::MAX]);
         let length = random.below(3);
         let bytes = hex_digits(&random.bytes(length));
@@ -297,7 +355,7 @@ fn desk(random: &mut Random, lines: &mut Vec<String>) {
         lines.push(format!("fill {buffer} {place:08X} {length} {byte:02X}"));
         lines.push("changed".to_string());
     }
-    let record = random.pick(&[("loader", 7), ("reader", 4), ("session", 8)]);
+    let record = random.pick(&[("loader", 7), ("reader", 5), ("session", 9)]);
     made_up(random, lines, record);
     let junk = [
         "",
@@ -320,6 +378,12 @@ fn desk(random: &mut Random, lines: &mut Vec<String>) {
         "lend input 1",
         "start -1",
         "start 4294967296",
+        "board",
+        "board 0124",
+        "board 4294967296",
+        "write 00000000",
+        "write 00000000 000",
+        "write 00000000 0000 0",
     ];
     lines.push(random.pick(&junk).to_string());
 }
@@ -328,12 +392,14 @@ fn desk(random: &mut Random, lines: &mut Vec<String>) {
 fn made_up(random: &mut Random, lines: &mut Vec<String>, (name, fields): (&str, u32)) {
     let fields = random.pick(&[fields, fields, fields, fields, fields - 1, fields + 1]);
     let values: String = (0..fields)
-        .map(|_| {
+        .map(|field| {
             let any = random.word().into();
             let large = random.pick(&[256, 1 << 32, u64::MAX]);
             let value = match random.below(40) {
                 0 => large,
                 1 => any,
+                // the board's, where the record has one
+                _ if field == 0 => random.pick(&[124, 124, 248, 248, 0]),
                 _ => random.pick(&[0, 0, 1, 1, 2, 5, 40]),
             };
             format!(" {value}")
@@ -344,6 +410,7 @@ fn made_up(random: &mut Random, lines: &mut Vec<String>, (name, fields): (&str, 
     for line in [
         "reset",
         "take 08",
+        "record :00000001FF",
         "close",
         "outcome",
         "log",

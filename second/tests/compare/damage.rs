@@ -2,36 +2,37 @@
 
 use second::boundary::ReaderRecord;
 
-use crate::files::{self, encoded, IMAGE, MAP};
+use crate::files::{self, encoded};
 use crate::pair::Pair;
 use crate::random::Random;
+use crate::site::Site;
 
 const DIGITS: &[u8] = b"0123456789ABCDEFabcdef";
 /// Characters that are no digits, those next to the digits among them.
 const BAD: &[u8] = b"\0\n\r /:@G`g\x7F\x80\xFF";
-/// How often each place is damaged in each way.
-const ROUNDS: u32 = 8;
+/// How often each place is damaged in each way, on each board.
+const ROUNDS: u32 = 4;
 const ROUNDS_OF_LONGEST: u32 = 2;
 /// Past the longest record's length.
 const LENGTHS: usize = 530;
 const LONG_LENGTHS: [usize; 6] = [1000, 5000, 65_535, 65_536, 65_537, 70_000];
 
-pub fn compare(pair: &mut Pair, random: &mut Random) {
-    pair.hex(IMAGE, MAP);
+pub fn compare(pair: &mut Pair, random: &mut Random, site: Site) {
+    pair.hex(site.pages(), site.image, site.map);
     for record in short_records() {
         for _ in 0..ROUNDS {
-            each_place(pair, random, &record);
+            each_place(pair, random, site, &record);
         }
     }
     for _ in 0..ROUNDS_OF_LONGEST {
         let longest = encoded(0x1234, 0, &random.bytes(255));
-        each_place(pair, random, &longest);
+        each_place(pair, random, site, &longest);
     }
     for length in (0..=LENGTHS).chain(LONG_LENGTHS) {
-        each_filling(pair, length);
+        each_filling(pair, site, length);
     }
     for count in 0..=255 {
-        each_later_refusal(pair, &random.bytes(count));
+        each_later_refusal(pair, site, &random.bytes(count));
     }
 }
 
@@ -50,20 +51,20 @@ fn short_records() -> [Vec<u8>; 9] {
     ]
 }
 
-fn each_place(pair: &mut Pair, random: &mut Random, record: &[u8]) {
+fn each_place(pair: &mut Pair, random: &mut Random, site: Site, record: &[u8]) {
     for place in 0..record.len() {
         let bad = replaced(record, place, random.pick(BAD));
         let second = random.place(record);
         let two_bad = replaced(&bad, second, random.pick(BAD));
         let other = replaced(record, place, other_digit(random, record[place]));
         for text in [bad, two_bad, mended(&other), other] {
-            alone(pair, &text);
+            alone(pair, site, &text);
         }
     }
 }
 
 /// Lines of one length, with a colon or none and good or bad characters.
-fn each_filling(pair: &mut Pair, length: usize) {
+fn each_filling(pair: &mut Pair, site: Site, length: usize) {
     let zeros = filled(length, b':', b'0');
     let mut lines = vec![
         filled(length, b'0', b'0'),
@@ -75,31 +76,32 @@ fn each_filling(pair: &mut Pair, length: usize) {
     }
     lines.push(zeros);
     for line in lines {
-        alone(pair, &line);
+        alone(pair, site, &line);
     }
 }
 
 /// Records of these data bytes that are refused for their checksum, their
 /// type and, but for an end record, their shape.
-fn each_later_refusal(pair: &mut Pair, data: &[u8]) {
+fn each_later_refusal(pair: &mut Pair, site: Site, data: &[u8]) {
     let sound = encoded(0, 0, data);
     for place in sound.len() - 2..sound.len() {
         let wrong = match sound[place] {
             b'0' => b'1',
             _ => b'0',
         };
-        alone(pair, &replaced(&sound, place, wrong));
+        alone(pair, site, &replaced(&sound, place, wrong));
     }
     for (address, kind) in [(0, 6), (1, 0xFF), (0, 1), (1, 1)] {
-        alone(pair, &encoded(address, kind, data));
+        alone(pair, site, &encoded(address, kind, data));
     }
 }
 
 /// One record over a file that names nothing, and that stays so.
-fn alone(pair: &mut Pair, text: &[u8]) {
-    let (number, _) = pair.record(ReaderRecord::default(), text, IMAGE, MAP);
+fn alone(pair: &mut Pair, site: Site, text: &[u8]) {
+    let fresh = ReaderRecord::started(site.board);
+    let (number, _) = pair.record(fresh, text, site.image, site.map);
     if number == 0 {
-        pair.hex(IMAGE, MAP);
+        pair.hex(site.pages(), site.image, site.map);
     }
 }
 

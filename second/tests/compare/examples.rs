@@ -1,4 +1,4 @@
-//! Hex files that other tools have written, read by both sides.
+//! Hex files that other tools have written, read by both sides on both boards.
 
 use std::fs;
 use std::path::PathBuf;
@@ -6,30 +6,32 @@ use std::path::PathBuf;
 use second::cases::Buffer;
 use second::listing;
 
-use crate::files::{IMAGE, MAP};
 use crate::pair::Pair;
 use crate::root;
 use crate::sessions;
+use crate::site::{Site, LONG, SHORT};
+use crate::tools;
 
 /// How reading a file ends.
 #[derive(Clone, Copy, Debug, PartialEq, Eq)]
-enum Read {
+pub enum Read {
     Named(u32),
     Refused { line: usize, number: u8 },
 }
 
-const EXAMPLES: [(&str, Read); 11] = [
-    ("aligned", Read::Named(96)),
-    ("unaligned", Read::Named(301)),
-    ("large", Read::Named(12_000)),
-    ("linear", Read::Named(301)),
-    ("segment", Read::Named(301)),
-    ("holes", Read::Named(192)),
-    ("past-end", refused(3, 29)),
-    ("past-segment", refused(2, 29)),
-    ("past-linear", refused(2, 29)),
-    ("start", Read::Named(96)),
-    ("start-linear", Read::Named(96)),
+/// Each file with how it ends on the short board and on the long one.
+const EXAMPLES: [(&str, Read, Read); 11] = [
+    ("aligned", Read::Named(96), Read::Named(96)),
+    ("unaligned", Read::Named(301), Read::Named(301)),
+    ("large", Read::Named(12_000), Read::Named(12_000)),
+    ("linear", Read::Named(301), Read::Named(301)),
+    ("segment", Read::Named(301), Read::Named(301)),
+    ("holes", Read::Named(192), Read::Named(192)),
+    ("past-end", refused(3, 29), Read::Named(96)),
+    ("past-segment", refused(2, 29), refused(2, 29)),
+    ("past-linear", refused(2, 29), Read::Named(96)),
+    ("start", Read::Named(96), Read::Named(96)),
+    ("start-linear", Read::Named(96), Read::Named(96)),
 ];
 
 /// The example `aligned` with this start record before its end.
@@ -44,7 +46,7 @@ const fn refused(line: usize, number: u8) -> Read {
 
 /// Every example's text.
 pub fn texts() -> impl Iterator<Item = Vec<u8>> {
-    EXAMPLES.iter().map(|(name, _)| text(name))
+    EXAMPLES.iter().map(|(name, ..)| text(name))
 }
 
 /// Files with a start record, each beside the same file without one.
@@ -63,9 +65,12 @@ pub fn compare(pair: &mut Pair) {
     for buffer in [Buffer::Image, Buffer::Map] {
         pair.fill_buffer(buffer, 0x5A);
     }
-    for (name, expected) in EXAMPLES {
-        assert_eq!(read(pair, &text(name)), expected, "{name}");
+    for (name, short, long) in EXAMPLES {
+        let text = text(name);
+        assert_eq!(read_and_walk(pair, SHORT, &text), short, "{name}");
+        assert_eq!(read_and_walk(pair, LONG, &text), long, "{name}");
     }
+    tools::compare(pair);
 }
 
 fn text(name: &str) -> Vec<u8> {
@@ -73,17 +78,26 @@ fn text(name: &str) -> Vec<u8> {
     fs::read(path).unwrap_or_else(|error| panic!("examples/{name}.hex: {error}"))
 }
 
-/// Reads a file to its end or first refusal, then walks its sessions.
-fn read(pair: &mut Pair, text: &[u8]) -> Read {
-    let mut state = pair.hex(IMAGE, MAP);
+/// Reads a file, then walks its sessions.
+fn read_and_walk(pair: &mut Pair, site: Site, text: &[u8]) -> Read {
+    match read(pair, site, text) {
+        Ok(()) => Read::Named(sessions::walk(pair, site)),
+        Err((line, number)) => refused(line, number),
+    }
+}
+
+/// Reads a file to its end, or gives the line and the number of its first
+/// refusal.
+pub fn read(pair: &mut Pair, site: Site, text: &[u8]) -> Result<(), (usize, u8)> {
+    let mut state = pair.hex(site.pages(), site.image, site.map);
     for (index, ended) in listing::lines(text).enumerate() {
         let record = listing::without_end(ended);
-        let (number, next) = pair.record(state, record, IMAGE, MAP);
+        let (number, next) = pair.record(state, record, site.image, site.map);
         if number != 0 {
-            return refused(index + 1, number);
+            return Err((index + 1, number));
         }
         state = next;
     }
     assert_eq!(pair.close_file(state), 0);
-    Read::Named(sessions::walk(pair))
+    Ok(())
 }

@@ -1,17 +1,14 @@
 //! Log records that are made on purpose, each with what the paper says of it.
 
 use second::boundary::SessionRecord;
+use second::units::Board;
 
 use crate::random::Random;
 
 /// From the lowest to the highest, both included.
-type Span = (u16, u16);
+type Span = (u32, u32);
 
-const TOTALS: Span = (3, 0xFFFF);
-const WITH_R: Span = (4, 0xFFFF);
-const BYTES: Span = (1, 63_488);
 const NONE: Span = (0, 0);
-const MANY: Span = (63_489, 0xFFFF);
 
 const UNKNOWN: &[u8] = &[2, 3, 39, 44, 45, 127, 128, 254, 255];
 /// The ends that are asked for, and those that come early; 42 stands alone.
@@ -31,6 +28,7 @@ use Acknowledged::{Above, All, Nothing, Several, Short};
 /// A record that is made on purpose: what its fields may be, and the number that
 /// the paper gives for reading it.
 pub struct Made {
+    board: Board,
     pub name: &'static str,
     outcomes: &'static [u8],
     acknowledged: Acknowledged,
@@ -39,63 +37,70 @@ pub struct Made {
     pub number: u8,
 }
 
-/// A record with 53 breaks the rule of its name and no other.
-pub const MADE: [Made; 28] = [
-    made("unknown outcome", UNKNOWN, Short, TOTALS, BYTES, 53),
-    made("total under 3, asked", ASKED, All, (0, 2), BYTES, 53),
-    made("total under 3, early", EARLY, Short, (1, 2), BYTES, 53),
-    made("total under 3, 42", &[42], Nothing, (1, 2), BYTES, 53),
-    made("valid of 3", &[0], All, (3, 3), BYTES, 53),
-    made("no bytes, asked", ASKED, All, WITH_R, NONE, 53),
-    made("no bytes, early", EARLY, Short, TOTALS, NONE, 53),
-    made("no bytes, 42", &[42], Nothing, TOTALS, NONE, 53),
-    made("too many bytes, asked", ASKED, All, WITH_R, MANY, 53),
-    made("too many bytes, early", EARLY, Short, TOTALS, MANY, 53),
-    made("too many bytes, 42", &[42], Nothing, TOTALS, MANY, 53),
-    made("above its total", EARLY, Above, (3, 0xFFFE), BYTES, 53),
-    made("valid short of total", &[0], Short, WITH_R, BYTES, 53),
-    made("held short of total", &[1], Short, TOTALS, BYTES, 53),
-    made("40 at total", &[40], All, TOTALS, BYTES, 53),
-    made("41 at total", &[41], All, TOTALS, BYTES, 53),
-    made("43 at total", &[43], All, TOTALS, BYTES, 53),
-    made("42 with some", &[42], Several, TOTALS, BYTES, 53),
-    made("valid", &[0], All, WITH_R, BYTES, 0),
-    made("valid of 4", &[0], All, (4, 4), BYTES, 0),
-    made("held", &[1], All, TOTALS, BYTES, 0),
-    made("held of 3", &[1], All, (3, 3), BYTES, 0),
-    made("ended early", EARLY, Short, TOTALS, BYTES, 0),
-    made("40 of 3", &[40], Short, (3, 3), BYTES, 0),
-    made("41 of 3", &[41], Short, (3, 3), BYTES, 0),
-    made("42 of 3", &[42], Nothing, (3, 3), BYTES, 0),
-    made("43 of 3", &[43], Short, (3, 3), BYTES, 0),
-    made("no greeting", &[42], Nothing, TOTALS, BYTES, 0),
-];
-
-const fn made(
-    name: &'static str,
-    outcomes: &'static [u8],
-    acknowledged: Acknowledged,
-    total: Span,
-    bytes: Span,
-    number: u8,
-) -> Made {
-    Made {
+/// The records of a board's version; one with 53 breaks the rule of its name
+/// and no other.
+pub fn made(board: Board) -> [Made; 28] {
+    let most = most(board);
+    let end = board.flash_end();
+    let (totals, with_r, but_one) = ((3, most), (4, most), (3, most - 1));
+    let (bytes, many) = ((1, end), (end + 1, most));
+    let made = |name, outcomes, acknowledged, total, bytes, number| Made {
+        board,
         name,
         outcomes,
         acknowledged,
         total,
         bytes,
         number,
+    };
+    [
+        made("unknown outcome", UNKNOWN, Short, totals, bytes, 53),
+        made("total under 3, asked", ASKED, All, (0, 2), bytes, 53),
+        made("total under 3, early", EARLY, Short, (1, 2), bytes, 53),
+        made("total under 3, 42", &[42], Nothing, (1, 2), bytes, 53),
+        made("valid of 3", &[0], All, (3, 3), bytes, 53),
+        made("no bytes, asked", ASKED, All, with_r, NONE, 53),
+        made("no bytes, early", EARLY, Short, totals, NONE, 53),
+        made("no bytes, 42", &[42], Nothing, totals, NONE, 53),
+        made("too many bytes, asked", ASKED, All, with_r, many, 53),
+        made("too many bytes, early", EARLY, Short, totals, many, 53),
+        made("too many bytes, 42", &[42], Nothing, totals, many, 53),
+        made("above its total", EARLY, Above, but_one, bytes, 53),
+        made("valid short of total", &[0], Short, with_r, bytes, 53),
+        made("held short of total", &[1], Short, totals, bytes, 53),
+        made("40 at total", &[40], All, totals, bytes, 53),
+        made("41 at total", &[41], All, totals, bytes, 53),
+        made("43 at total", &[43], All, totals, bytes, 53),
+        made("42 with some", &[42], Several, totals, bytes, 53),
+        made("valid", &[0], All, with_r, bytes, 0),
+        made("valid of 4", &[0], All, (4, 4), bytes, 0),
+        made("held", &[1], All, totals, bytes, 0),
+        made("held of 3", &[1], All, (3, 3), bytes, 0),
+        made("ended early", EARLY, Short, totals, bytes, 0),
+        made("40 of 3", &[40], Short, (3, 3), bytes, 0),
+        made("41 of 3", &[41], Short, (3, 3), bytes, 0),
+        made("42 of 3", &[42], Nothing, (3, 3), bytes, 0),
+        made("43 of 3", &[43], Short, (3, 3), bytes, 0),
+        made("no greeting", &[42], Nothing, totals, bytes, 0),
+    ]
+}
+
+/// The highest count that the board's version has room for.
+fn most(board: Board) -> u32 {
+    match board {
+        Board::Short => 0xFFFF,
+        Board::Long => u32::MAX,
     }
 }
 
 /// What a record says.
 #[derive(Clone, Copy, Debug)]
 pub struct Entry {
+    pub board: Board,
     pub outcome: u8,
-    acknowledged: u16,
-    total: u16,
-    bytes: u16,
+    acknowledged: u32,
+    total: u32,
+    bytes: u32,
 }
 
 impl Made {
@@ -107,9 +112,10 @@ impl Made {
             Several => within(random, (1, total - 1)),
             Short => within(random, (0, total - 1)),
             All => total,
-            Above => within(random, (total + 1, u16::MAX)),
+            Above => within(random, (total + 1, most(self.board))),
         };
         Entry {
+            board: self.board,
             outcome: random.pick(self.outcomes),
             acknowledged,
             total,
@@ -120,9 +126,17 @@ impl Made {
 
 impl Entry {
     pub fn record(&self) -> Vec<u8> {
-        let mut record = vec![0, 8, 1, self.outcome];
+        let (length, version) = match self.board {
+            Board::Short => (8, 1),
+            Board::Long => (14, 2),
+        };
+        let mut record = vec![0, length, version, self.outcome];
         for count in [self.acknowledged, self.total, self.bytes] {
-            record.extend(count.to_be_bytes());
+            let bytes = count.to_be_bytes();
+            record.extend(match self.board {
+                Board::Short => &bytes[2..],
+                Board::Long => &bytes[..],
+            });
         }
         record
     }
@@ -130,19 +144,23 @@ impl Entry {
     /// A session of this run kind that ended so.
     pub fn session(&self, run: u32) -> SessionRecord {
         SessionRecord {
+            board: self.board.pages(),
             run,
             phase: 5,
             outcome: self.outcome.into(),
-            acknowledged: self.acknowledged.into(),
-            total: self.total.into(),
-            named: self.bytes.into(),
+            acknowledged: self.acknowledged,
+            total: self.total,
+            named: self.bytes,
             ..SessionRecord::default()
         }
     }
 }
 
-/// A number of the span, often its first or its last.
-fn within(random: &mut Random, (first, last): Span) -> u16 {
-    let any = random.within(first.into(), last.into()) as u16;
-    random.pick(&[first, last, any])
+/// A number of the span, often its first or its last, or one whose low bytes
+/// alone would be few.
+fn within(random: &mut Random, (first, last): Span) -> u32 {
+    let any = random.within(first, last);
+    let (small, step) = (random.below(4), random.pick(&[1 << 8, 1 << 16, 1 << 24]));
+    let low = (any / step * step + small).clamp(first, last);
+    random.pick(&[first, last, any, low])
 }

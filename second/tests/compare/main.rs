@@ -2,6 +2,7 @@
 //! byte, on random case lines that are the same in every run. The product's
 //! programs must have been built. With `--nocapture` the counts are printed.
 
+mod boards;
 mod caselines;
 mod damage;
 mod examples;
@@ -18,36 +19,41 @@ mod random;
 mod rehearsals;
 mod root;
 mod sessions;
+mod site;
 mod tally;
+mod tools;
 mod wire;
 
 use std::thread;
 
+use second::units::Board;
+
 use pair::Pair;
-use tally::Tally;
+use tally::{On, Tallies};
 
 type Compare = fn(&mut Pair);
 
-/// How often each number of each function must be seen.
+/// How often each number of each function must be seen, on each board.
 const OFTEN: u64 = 100;
 /// The same of each program, which is started anew for each input.
 const OFTEN_IN_PROGRAMS: u64 = 5;
 /// How often each listed column must be seen that is not the same in every line.
 const OFTEN_IN_COLUMNS: u64 = 2;
 
-const PARTS: [(&str, Compare); 7] = [
+const PARTS: [(&str, Compare); 8] = [
     ("packet", packets::compare),
     ("loader", loaders::compare),
     ("hex", files::compare),
     ("session", sessions::compare),
     ("log", logs::compare),
     ("rehearsal", rehearsals::compare),
+    ("boards", boards::compare),
     ("examples", examples::compare),
 ];
 
 #[test]
 fn library() {
-    let tallies: Vec<Tally> = thread::scope(|scope| {
+    let parts: Vec<Tallies> = thread::scope(|scope| {
         let parts = PARTS.map(|(name, compare)| {
             let thread = thread::Builder::new().name(name.to_string());
             let part = thread.spawn_scoped(scope, move || compared(compare));
@@ -55,18 +61,36 @@ fn library() {
         });
         parts.map(|part| part.join().expect("alike")).into()
     });
-    let mut whole = Tally::default();
-    println!("part, calls compared, how often each number was seen");
-    for ((name, _), tally) in PARTS.iter().zip(&tallies) {
-        println!("{name:10} {:7} {}", tally.compared, tally.line());
-        whole.add(tally);
+    let mut whole = Tallies::default();
+    println!("part, board, calls compared, how often each number was seen");
+    for ((name, _), tallies) in PARTS.iter().zip(&parts) {
+        print(name, tallies);
+        whole.add(tallies);
     }
-    println!("{:10} {:7} {}", "all", whole.compared, whole.line());
-    println!("made log records:{}", whole.made_line());
-    whole.check(&tally::LIBRARY, OFTEN);
-    whole.check_made(&logs::numbers(), OFTEN);
-    whole.check_columns(&tally::FIXED_COLUMNS, OFTEN);
-    whole.check_columns(&tally::RECORD_COLUMNS, OFTEN_IN_COLUMNS);
+    print("all", &whole);
+    println!("all, on any board: {}", whole.compared());
+    check(&mut whole);
+}
+
+fn print(part: &str, tallies: &Tallies) {
+    for (on, tally) in tallies.each() {
+        let (name, compared) = (on.name(), tally.compared);
+        println!("{part:10} {name:9} {compared:7} {}", tally.line());
+    }
+}
+
+fn check(whole: &mut Tallies) {
+    whole.on(On::Nothing).check(&tally::ON_NOTHING, OFTEN);
+    whole.on(On::Unknown).check(&tally::ON_UNKNOWN, OFTEN);
+    for board in Board::ALL {
+        let tally = whole.on(On::board(board));
+        let name = On::board(board).name();
+        println!("made log records, {name}:{}", tally.made_line());
+        tally.check(&tally::ON_EACH, OFTEN);
+        tally.check_made(&logs::numbers(board), OFTEN);
+        tally.check_columns(&tally::FIXED_COLUMNS, OFTEN);
+        tally.check_columns(&tally::RECORD_COLUMNS, OFTEN_IN_COLUMNS);
+    }
 }
 
 #[test]
@@ -91,7 +115,7 @@ fn cases() {
     println!("random cases: {} lines", caselines::compare_random());
 }
 
-fn compared(compare: Compare) -> Tally {
+fn compared(compare: Compare) -> Tallies {
     let mut pair = Pair::open();
     compare(&mut pair);
     pair.close()

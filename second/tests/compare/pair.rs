@@ -4,8 +4,9 @@
 use second::boundary::{LoaderRecord, ReaderRecord, SessionRecord};
 use second::cases::{self, Answer, Buffer, Desk, Part, CAPACITY};
 use second::listing::hex_digits;
+use second::units::Board;
 
-use crate::tally::Tally;
+use crate::tally::{On, Tallies};
 use crate::wire::Wire;
 
 pub struct Pair {
@@ -14,7 +15,15 @@ pub struct Pair {
     wire: Option<Wire>,
     /// Where lines put in `input` what they bring.
     brought: u32,
-    tally: Tally,
+    tallies: Tallies,
+}
+
+/// What the writer wrote without its line end, and what to go on with.
+#[derive(Clone, Debug, PartialEq, Eq)]
+pub struct Written {
+    pub text: String,
+    pub next: u32,
+    pub upper: u16,
 }
 
 impl Pair {
@@ -23,14 +32,14 @@ impl Pair {
             desk: Desk::new(),
             wire: Some(Wire::open()),
             brought: 0,
-            tally: Tally::default(),
+            tallies: Tallies::default(),
         }
     }
 
     /// Waits for all lines; a difference ends the test.
-    pub fn close(mut self) -> Tally {
+    pub fn close(mut self) -> Tallies {
         self.settle();
-        self.tally
+        self.tallies
     }
 
     fn settle(&mut self) {
@@ -73,10 +82,10 @@ impl Pair {
     }
 
     /// Makes a call on both sides and looks at what it changed.
-    fn call(&mut self, function: &'static str, line: impl Into<Vec<u8>>) -> Answer {
+    fn call(&mut self, on: On, function: &'static str, line: impl Into<Vec<u8>>) -> Answer {
         let answer = self.ask(line);
         self.ask("changed");
-        self.tally.count(function, answer.number);
+        self.tallies.on(on).count(function, answer.number);
         answer
     }
 
@@ -119,6 +128,12 @@ impl Pair {
         self.lend(Buffer::Map, map);
     }
 
+    fn set_board(&mut self, pages: u32) {
+        if self.desk.board() != pages {
+            self.ask(format!("board {pages}"));
+        }
+    }
+
     fn set_loader(&mut self, record: LoaderRecord) {
         if self.desk.loader() != record {
             self.ask(setting("loader", &record.fields()));
@@ -143,35 +158,33 @@ impl Pair {
     }
 
     pub fn turned(&mut self, byte: u8) {
-        self.call("turned", format!("turned {byte:02X}"));
+        self.call(On::Nothing, "turned", format!("turned {byte:02X}"));
     }
 
     pub fn restored(&mut self, byte: u8) {
-        self.call("restored", format!("restored {byte:02X}"));
+        self.call(On::Nothing, "restored", format!("restored {byte:02X}"));
     }
 
     pub fn build(&mut self, buffer: Part, command: u8, address: u32, plain: &[u8]) {
         self.lend(Buffer::Packet, buffer);
         let plain = hex_digits(plain);
-        self.call(
-            "build",
-            format!("build {command:02X} {address:08X} {plain}"),
-        );
+        let line = format!("build {command:02X} {address:08X} {plain}");
+        self.call(On::Nothing, "build", line);
     }
 
     pub fn read(&mut self, input: &[u8]) {
-        self.call("read", format!("read {}", hex_digits(input)));
+        self.call(On::Nothing, "read", format!("read {}", hex_digits(input)));
     }
 
     pub fn factory(&mut self, filling: u8) -> LoaderRecord {
-        let answer = self.call("factory", format!("factory {filling:02X}"));
+        let answer = self.call(On::Nothing, "factory", format!("factory {filling:02X}"));
         self.given(&answer, "loader");
         self.desk.loader()
     }
 
     pub fn reset(&mut self, record: LoaderRecord) -> LoaderRecord {
         self.set_loader(record);
-        let answer = self.call("reset", "reset");
+        let answer = self.call(On::Nothing, "reset", "reset");
         self.given(&answer, "loader");
         self.desk.loader()
     }
@@ -179,34 +192,38 @@ impl Pair {
     /// How many bytes were answered, and the next loader.
     pub fn take(
         &mut self,
+        board: u32,
         record: LoaderRecord,
         input: &[u8],
         flash: Part,
         answer: Part,
     ) -> (u32, LoaderRecord) {
+        self.set_board(board);
         self.set_loader(record);
         self.lend(Buffer::Flash, flash);
         self.lend(Buffer::Answer, answer);
-        let taken = self.call("take", format!("take {}", hex_digits(input)));
+        let line = format!("take {}", hex_digits(input));
+        let taken = self.call(On::of(board), "take", line);
         self.given(&taken, "loader");
         (bytes_of(&taken), self.desk.loader())
     }
 
     /// Calls the hex reader and gives the number; the only value of a refusal
     /// is its column.
-    fn read_hex(&mut self, function: &'static str, line: impl Into<Vec<u8>>) -> u8 {
-        let answer = self.call(function, line);
+    fn read_hex(&mut self, on: On, function: &'static str, line: impl Into<Vec<u8>>) -> u8 {
+        let answer = self.call(on, function, line);
         self.given(&answer, "reader");
         if let [column] = &answer.values[..] {
             let column = column.parse().expect("a column");
-            self.tally.column(answer.number, column);
+            self.tallies.on(on).column(answer.number, column);
         }
         answer.number
     }
 
-    pub fn hex(&mut self, image: Part, map: Part) -> ReaderRecord {
+    pub fn hex(&mut self, board: u32, image: Part, map: Part) -> ReaderRecord {
+        self.set_board(board);
         self.lend_file(image, map);
-        self.read_hex("hex", "hex");
+        self.read_hex(On::of(board), "hex", "hex");
         self.desk.reader()
     }
 
@@ -223,45 +240,53 @@ impl Pair {
             true => format!("line {}", hex_digits(text)).into_bytes(),
             false => [b"record ", text].concat(),
         };
-        let number = self.read_hex("record", line);
+        let number = self.read_hex(On::of(record.board), "record", line);
         (number, self.desk.reader())
     }
 
     pub fn close_file(&mut self, record: ReaderRecord) -> u8 {
         self.set_reader(record);
-        self.read_hex("close", "close")
+        self.read_hex(On::of(record.board), "close", "close")
     }
 
-    /// The characters written without their line end, and where to go on;
-    /// nothing after a refusal.
+    /// Nothing after a refusal.
     pub fn write(
         &mut self,
-        image: Part,
-        map: Part,
+        board: u32,
+        (image, map): (Part, Part),
         from: u32,
+        upper: u16,
         buffer: Part,
-    ) -> Option<(String, u32)> {
+    ) -> Option<Written> {
+        self.set_board(board);
         self.lend_file(image, map);
         self.lend(Buffer::Record, buffer);
-        let answer = self.call("write", format!("write {from:08X}"));
-        let [text, next] = &answer.values[..] else {
+        let line = format!("write {from:08X} {upper:04X}");
+        let answer = self.call(On::of(board), "write", line);
+        let [text, next, upper] = &answer.values[..] else {
             return None;
         };
-        let next = u32::from_str_radix(next, 16).expect("an address");
-        Some((text.clone(), next))
+        Some(Written {
+            text: text.clone(),
+            next: u32::from_str_radix(next, 16).expect("an address"),
+            upper: u16::from_str_radix(upper, 16).expect("an upper half"),
+        })
     }
 
     /// The number and the session that is kept.
     pub fn start(
         &mut self,
+        board: u32,
         told: u32,
         image: Part,
         map: Part,
         buffer: Part,
     ) -> (u8, SessionRecord) {
+        self.set_board(board);
         self.lend_file(image, map);
         self.lend(Buffer::Packet, buffer);
-        let answer = self.call("start", format!("start {}", run(told)));
+        let line = format!("start {}", run(told));
+        let answer = self.call(On::of(board), "start", line);
         self.given(&answer, "session");
         if answer.number == 0 {
             self.note_kind("started");
@@ -283,6 +308,7 @@ impl Pair {
         self.lend(Buffer::Packet, buffer);
         let digits = hex_digits(heard);
         let answer = self.call(
+            On::of(record.board),
             "step",
             match (silent, heard) {
                 (0, _) => format!("answer {digits}"),
@@ -293,7 +319,7 @@ impl Pair {
         self.given(&answer, "session");
         match ending(&answer) {
             Some(number) => {
-                self.tally.note("ending", number);
+                self.note(record.board, "ending", number);
                 if is_as_asked(number) {
                     self.note_kind("ended as asked");
                 }
@@ -303,28 +329,35 @@ impl Pair {
         }
     }
 
+    /// Counts a value that came out on a board.
+    fn note(&mut self, board: u32, what: &'static str, value: u8) {
+        self.tallies.on(On::of(board)).note(what, value);
+    }
+
     /// Counts the run kind of the session that is kept.
     fn note_kind(&mut self, what: &'static str) {
-        let kind = self.session().run.try_into();
-        self.tally.note(what, kind.expect("a run kind's number"));
+        let SessionRecord { board, run, .. } = self.session();
+        let kind = run.try_into().expect("a run kind's number");
+        self.note(board, what, kind);
     }
 
     pub fn proved(&mut self, record: SessionRecord, map: Part, address: u32) {
         self.set_session(record);
         self.lend(Buffer::Map, map);
-        let answer = self.call("proved", format!("proved {address:08X}"));
+        let line = format!("proved {address:08X}");
+        let answer = self.call(On::of(record.board), "proved", line);
         if let [mark] = &answer.values[..] {
-            self.tally.note("mark", mark.parse().expect("a mark"));
+            self.note(record.board, "mark", mark.parse().expect("a mark"));
         }
     }
 
     /// How it ended; none where that is refused.
     pub fn outcome(&mut self, record: SessionRecord) -> Option<u8> {
         self.set_session(record);
-        let answer = self.call("outcome", "outcome");
+        let answer = self.call(On::of(record.board), "outcome", "outcome");
         let ended = ending(&answer);
         if let Some(number) = ended {
-            self.tally.note("ended", number);
+            self.note(record.board, "ended", number);
         }
         ended
     }
@@ -333,35 +366,39 @@ impl Pair {
     pub fn log(&mut self, record: SessionRecord, buffer: Part) -> (u8, Vec<u8>) {
         self.set_session(record);
         self.lend(Buffer::Log, buffer);
-        let answer = self.call("log", "log");
+        let answer = self.call(On::of(record.board), "log", "log");
         let written = self.look(buffer.with_length(bytes_of(&answer)));
         (answer.number, written.to_vec())
     }
 
     pub fn read_log(&mut self, input: &[u8]) -> u8 {
-        let answer = self.call("logread", format!("logread {}", hex_digits(input)));
+        let line = format!("logread {}", hex_digits(input));
+        let answer = self.call(On::of_log(input), "logread", line);
         answer.number
     }
 
-    /// Counts a record that was made on purpose, under its name.
-    pub fn made(&mut self, name: &'static str, number: u8) {
-        self.tally.made(name, number);
+    /// Counts a record that was made on purpose for a board, under its name.
+    pub fn made(&mut self, board: Board, name: &'static str, number: u8) {
+        self.tallies.on(On::board(board)).made(name, number);
     }
 
     /// The number and what the load left.
     pub fn rehearse(
         &mut self,
+        board: u32,
         told: u32,
         record: LoaderRecord,
         losses: &[u8],
         (image, map): (Part, Part),
         flash: Part,
     ) -> (u8, LoaderRecord, SessionRecord) {
+        self.set_board(board);
         self.set_loader(record);
         self.lend_file(image, map);
         self.lend(Buffer::Flash, flash);
         let losses = hex_digits(losses);
-        let answer = self.call("rehearse", format!("rehearse {} {losses}", run(told)));
+        let line = format!("rehearse {} {losses}", run(told));
+        let answer = self.call(On::of(board), "rehearse", line);
         self.given(&answer, "loader");
         self.given(&answer, "session");
         if ending(&answer).is_some_and(is_as_asked) {

@@ -23,6 +23,7 @@ const MILLIONS: usize = 10_000_000;
 
 pub fn texts() -> Vec<Vec<u8>> {
     let mut texts = Vec::new();
+    texts.extend(past_end());
     for line in damaged().into_iter().chain(wrong_records()) {
         texts.push(text(BEFORE[0], &line, b"\n"));
         texts.push(text(BEFORE[1], &line, b"\r\n"));
@@ -42,6 +43,25 @@ pub fn texts() -> Vec<Vec<u8>> {
         texts.push(text(BEFORE[2], &line, b"\n"));
     }
     texts
+}
+
+/// Files with a byte that only the long board has, by linear and by segment
+/// base; programs stay with the short one.
+fn past_end() -> Vec<Vec<u8>> {
+    let far = [
+        vec![encoded(0xF800, 0, &[0x5A])],
+        vec![encoded(0, 4, &[0, 1]), encoded(0, 0, &[0x5A])],
+        vec![encoded(0, 2, &[0x10, 0]), encoded(0, 0, &[0x5A])],
+        vec![encoded(0, 4, &[0, 1]), encoded(0xEFFF, 0, &[0x5A])],
+        vec![
+            encoded(0, 4, &[0, 1]),
+            encoded(0, 4, &[0, 0]),
+            RECORD.to_vec(),
+        ],
+        vec![encoded(0xFFFF, 0, &[0x5A, 0x5A])],
+    ];
+    let text = |records: &Vec<Vec<u8>>| [&records.join(&b'\n')[..], b"\n", END, b"\n"].concat();
+    far.iter().map(text).collect()
 }
 
 /// A text with this line; more lines follow where it has an end.

@@ -5,21 +5,23 @@ use std::process::Stdio;
 use std::thread;
 
 use second::listing;
+use second::units::Board;
 
 use crate::damage;
 use crate::examples;
 use crate::files;
-use crate::made::MADE;
+use crate::made::made;
 use crate::plans;
 use crate::random::Random;
 use crate::root;
+use crate::site::{LONG, SHORT};
 use crate::tally::Tally;
 use crate::wire;
 
 const PLANS: u32 = 700;
 const LOGS: u32 = 400;
-/// How often each log record of the table is made.
-const MADE_LOGS: u64 = 6;
+/// How often each log record of the table is made, in each version.
+const MADE_LOGS: u64 = 5;
 /// How much of an input a message shows; a text may have millions of bytes.
 const SHOWN: usize = 20_000;
 
@@ -74,7 +76,7 @@ pub fn compare_readlog() -> Tally {
     let mut random = Random::new(8);
     let inputs: Vec<Vec<u8>> = (0..LOGS).map(|_| log_input(&mut random)).collect();
     let mut tally = compare("readlog", listing::readlog, &inputs);
-    for made in &MADE {
+    for made in Board::ALL.into_iter().flat_map(made) {
         let record = |_| made.entry(&mut random).record();
         let records: Vec<Vec<u8>> = (0..MADE_LOGS).map(record).collect();
         let given = compare("readlog", listing::readlog, &records);
@@ -177,34 +179,49 @@ fn data_records(random: &mut Random) -> Vec<Vec<u8>> {
     records
 }
 
-/// Any record, or a line longer than every record.
+/// Any record, at times for the other board, or a line longer than every record.
 fn odd_record(random: &mut Random) -> Vec<u8> {
     if random.once_in(6) {
         let length = random.pick(&[521, 522, 523, 1000, 5000]);
         return damage::filled(length, b':', b'0');
     }
-    files::text(random)
+    let site = random.pick(&[SHORT, SHORT, LONG]);
+    files::text(random, site)
 }
 
-/// A log record with counts around each limit, often damaged.
+/// A log record of either version with counts around each limit, often damaged.
 fn log_input(random: &mut Random) -> Vec<u8> {
-    let total: u16 = random.pick(&[4, 5, 6, 510, 0xFFFF, 3, 3, 2]);
-    let acknowledged = random.pick(&[0, total - 1, total, total, total.wrapping_add(1)]);
-    let named: u16 = random.pick(&[1, 2, 300, 63_488, 63_489, 0]);
+    let board = random.pick(&Board::ALL);
+    let total: u32 = random.pick(&[4, 5, 6, 510, 0xFFFF, 3, 3, 2]);
+    let acknowledged = random.pick(&[0, total - 1, total, total, total + 1]);
+    let end = board.flash_end();
+    let named = random.pick(&[1, 2, 300, end, end + 1, 0]);
     let outcome = match acknowledged == total {
         true => random.pick(&[0, 0, 1, 1, 40]),
         false => random.pick(&[40, 41, 42, 43, 0, 1, 2, 44]),
     };
-    let mut input = vec![0, 8, 1, outcome];
+    let mut input = match board {
+        Board::Short => vec![0, 0x08, 1, outcome],
+        Board::Long => vec![0, 0x0E, 2, outcome],
+    };
     for count in [acknowledged, total, named] {
-        input.extend(count.to_be_bytes());
+        let bytes = count.to_be_bytes();
+        input.extend(match board {
+            Board::Short => &bytes[2..],
+            Board::Long => &bytes[..],
+        });
     }
     match random.below(6) {
         0 | 1 => random.damage(&mut input),
         2 => {
-            let length = random.pick(&[0, 1, 9, 10, 11, 5000]);
-            input = random.bytes(length);
+            let length = random.pick(&[0, 1, 9, 10, 11, 15, 16, 17, 18, 5000]);
+            let any = random.bytes(length);
+            input = match random.once_in(2) {
+                true => any,
+                false => [&input[..3], &any].concat(),
+            };
         }
+        3 if random.once_in(2) => input[2] = random.pick(&[0, 1, 2, 3]),
         _ => {}
     }
     input

@@ -3,94 +3,102 @@
 use second::boundary::{LoaderRecord, SessionRecord};
 use second::cases::{Buffer, Part};
 use second::line::Exchange;
-use second::map::Map;
-use second::units::{FLASH_END, MAP_BYTES};
 
-use crate::files::{lent, IMAGE, MAP};
 use crate::maps;
 use crate::pair::Pair;
 use crate::random::Random;
-use crate::sessions::{asked_end, hold, run, PACKET};
+use crate::sessions::{self, asked_end, hold, lend_file, run, PACKET};
+use crate::site::{Site, SITES};
 
 const ANSWER: Part = Part::new(Buffer::Answer, 41, 24);
-const LOG: Part = Part::new(Buffer::Log, 9, 10);
-const FLASH: Part = Part::new(Buffer::Flash, 2223, FLASH_END);
+const LOG: Part = Part::new(Buffer::Log, 9, 16);
 
 const LOSSES: [Exchange; 2] = [Exchange::PacketLost, Exchange::AnswerLost];
 
-/// The files on which a loss goes through all places.
-const FILES: u32 = 12;
+/// The files on which a loss goes through all places, on each board.
+const FILES: u32 = 8;
 /// The files that are only loaded whole, by each run kind.
-const WHOLE_FILES: u32 = 80;
+const WHOLE_FILES: u32 = 64;
+/// The files of more packets, the one that names every byte among them.
+const LARGE_FILES: u32 = 4;
+/// So many packets have sessions that are looked at in every step.
+const FEW: u32 = 50;
 
 pub fn compare(pair: &mut Pair) {
     let mut random = Random::new(6);
     for buffer in [Buffer::Flash, Buffer::Image, Buffer::Map] {
         pair.fill_buffer(buffer, 0xC3);
     }
+    for site in SITES {
+        compare_on(pair, &mut random, site);
+    }
+}
+
+fn compare_on(pair: &mut Pair, random: &mut Random, site: Site) {
     for _ in 0..FILES {
-        let map = small(&mut random);
-        let loading = lend_file(pair, &mut random, &map);
-        whole(pair, &mut random);
-        for told in [0, 1, hold(&mut random)] {
-            each_loss(pair, &mut random, told, loading);
+        let map = small(random, site);
+        let loading = lend_file(pair, random, site, &map);
+        whole(pair, random, site);
+        for told in [0, 1, hold(random)] {
+            each_loss(pair, random, site, told, loading);
         }
-        refused(pair, &mut random);
+        refused(pair, random, site);
     }
     for _ in 0..WHOLE_FILES {
-        let map = small(&mut random);
-        lend_file(pair, &mut random, &map);
-        whole(pair, &mut random);
+        let map = small(random, site);
+        lend_file(pair, random, site, &map);
+        whole(pair, random, site);
     }
-    for kind in 0..8 {
+    for kind in 0..LARGE_FILES {
         let map = match kind {
-            0 => vec![0xFF; MAP_BYTES],
-            _ => maps::scattered(&mut random),
+            0 => vec![0xFF; site.map_bytes()],
+            _ => maps::scattered(random, site.board),
         };
-        let loading = lend_file(pair, &mut random, &map);
-        whole(pair, &mut random);
+        let loading = lend_file(pair, random, site, &map);
+        whole(pair, random, site);
         for _ in 0..3 {
-            let told = run(&mut random);
+            let told = run(random);
             let place = random.below(last_exchange(told, loading) + 1);
             let lost = random.pick(&LOSSES);
-            loss(pair, &mut random, told, place, lost);
+            loss(pair, random, site, told, place, lost);
         }
     }
 }
 
 /// A file of few packets.
-fn small(random: &mut Random) -> Vec<u8> {
+fn small(random: &mut Random, site: Site) -> Vec<u8> {
     match random.below(2) {
-        0 => maps::few(random),
-        _ => maps::pieces(random),
+        0 => maps::few(random, site.board),
+        _ => maps::pieces(random, site.board),
     }
 }
 
 /// A load by each run kind with nothing lost and nothing protected.
-fn whole(pair: &mut Pair, random: &mut Random) {
+fn whole(pair: &mut Pair, random: &mut Random, site: Site) {
     for told in [0, 1, hold(random)] {
         let open = LoaderRecord {
             groups: 0,
             read: 0,
-            ..loader(random)
+            ..loader(random, site)
         };
-        let outcome = rehearse(pair, random, told, open, &[]);
+        let outcome = rehearse(pair, random, site, told, open, &[]);
         assert_eq!(outcome, asked_end(told).into());
     }
 }
 
 /// Loads with a loss in each exchange, and with one behind the last, where there
 /// is nothing to lose.
-fn each_loss(pair: &mut Pair, random: &mut Random, told: u32, loading: u32) {
+fn each_loss(pair: &mut Pair, random: &mut Random, site: Site, told: u32, loading: u32) {
     for place in 0..=last_exchange(told, loading) {
         for lost in LOSSES {
-            let outcome = loss(pair, random, told, place, lost);
+            let outcome = loss(pair, random, site, told, place, lost);
             // silence ends neither valid nor held
             assert!(outcome >= 40, "{lost:?} at {place}");
         }
     }
     for lost in LOSSES {
-        loss(pair, random, told, last_exchange(told, loading) + 1, lost);
+        let behind = last_exchange(told, loading) + 1;
+        loss(pair, random, site, told, behind, lost);
     }
 }
 
@@ -100,10 +108,17 @@ fn last_exchange(told: u32, loading: u32) -> u32 {
 }
 
 /// A load by any loader with this loss; gives its outcome.
-fn loss(pair: &mut Pair, random: &mut Random, told: u32, place: u32, lost: Exchange) -> u32 {
+fn loss(
+    pair: &mut Pair,
+    random: &mut Random,
+    site: Site,
+    told: u32,
+    place: u32,
+    lost: Exchange,
+) -> u32 {
     let losses = lost_at(random, place as usize, lost);
-    let any = loader(random);
-    rehearse(pair, random, told, any, &losses)
+    let any = loader(random, site);
+    rehearse(pair, random, site, told, any, &losses)
 }
 
 /// Everything arrives but the exchange at this place.
@@ -118,31 +133,27 @@ fn lost_at(random: &mut Random, place: usize, lost: Exchange) -> Vec<u8> {
     losses
 }
 
-/// Lends a file of random bytes and gives how many packets load it, without R.
-fn lend_file(pair: &mut Pair, random: &mut Random, map: &[u8]) -> u32 {
-    let bytes = random.bytes(FLASH_END);
-    pair.set(IMAGE, &bytes);
-    pair.set(MAP, map);
-    Map::new(map).expect("a map").survey(None).loading()
-}
-
-/// Loads with buffers of wrong sizes, and of a file that names nothing.
-fn refused(pair: &mut Pair, random: &mut Random) {
+/// Loads with buffers of wrong sizes, the other board's among them, on boards
+/// that are another or none, and of a file that names nothing.
+fn refused(pair: &mut Pair, random: &mut Random, site: Site) {
     let wrong = [
-        FLASH.with_length(FLASH_END - 1),
-        FLASH.with_length(FLASH_END + 1),
+        site.flash.with_length(site.end() - 1),
+        site.flash.with_length(site.end() + 1),
+        site.other().flash,
         Part::NULL,
     ];
-    for flash in wrong.into_iter().chain([FLASH; 3]) {
-        let loader = loader(random);
-        pair.rehearse(run(random), loader, &[], (IMAGE, MAP), flash);
-        let file = lent(random);
-        pair.rehearse(run(random), loader, &[], file, flash);
+    for flash in wrong.into_iter().chain([site.flash; 4]) {
+        let loader = loader(random, site);
+        pair.rehearse(site.pages(), run(random), loader, &[], site.file(), flash);
+        let (told, file) = (site.told(random), site.lent(random));
+        pair.rehearse(told, run(random), loader, &[], file, flash);
+        let file = (site.wrong_image(random), site.map);
+        pair.rehearse(site.pages(), run(random), loader, &[], file, flash);
     }
-    pair.fill(MAP, 0);
-    for flash in wrong.into_iter().chain([FLASH; 12]) {
-        let loader = loader(random);
-        pair.rehearse(run(random), loader, &[], (IMAGE, MAP), flash);
+    pair.fill(site.map, 0);
+    for flash in wrong.into_iter().chain([site.flash; 13]) {
+        let loader = loader(random, site);
+        pair.rehearse(site.pages(), run(random), loader, &[], site.file(), flash);
     }
 }
 
@@ -150,18 +161,20 @@ fn refused(pair: &mut Pair, random: &mut Random) {
 fn rehearse(
     pair: &mut Pair,
     random: &mut Random,
+    site: Site,
     told: u32,
     loader: LoaderRecord,
     losses: &[u8],
 ) -> u32 {
     let filling = random.byte();
-    pair.fill(FLASH, filling);
-    let whole = pair.rehearse(told, loader, losses, (IMAGE, MAP), FLASH);
-    let flash = pair.look(FLASH).to_vec();
-    pair.fill(FLASH, filling);
-    let (state, session) = exchange_by_exchange(pair, random, told, loader, losses);
+    pair.fill(site.flash, filling);
+    let (board, file) = (site.pages(), site.file());
+    let whole = pair.rehearse(board, told, loader, losses, file, site.flash);
+    let flash = pair.look(site.flash).to_vec();
+    pair.fill(site.flash, filling);
+    let (state, session) = exchange_by_exchange(pair, random, site, told, loader, losses);
     assert_eq!((0, state, session), whole);
-    assert!(pair.look(FLASH) == flash, "the flash after a load");
+    assert!(pair.look(site.flash) == flash, "the flash after a load");
     session.outcome
 }
 
@@ -169,11 +182,12 @@ fn rehearse(
 fn exchange_by_exchange(
     pair: &mut Pair,
     random: &mut Random,
+    site: Site,
     told: u32,
     loader: LoaderRecord,
     losses: &[u8],
 ) -> (LoaderRecord, SessionRecord) {
-    let (_, mut session) = pair.start(told, IMAGE, MAP, PACKET);
+    let (_, mut session) = pair.start(site.pages(), told, site.image, site.map, PACKET);
     let mut state = pair.reset(loader);
     let mut length = 1;
     let mut losses = losses.iter();
@@ -182,27 +196,35 @@ fn exchange_by_exchange(
         let mut heard = Vec::new();
         if loss != 1 {
             let packet = pair.look(PACKET.with_length(length)).to_vec();
-            let (answered, next) = pair.take(state, &packet, FLASH, ANSWER);
+            let (answered, next) = pair.take(site.pages(), state, &packet, site.flash, ANSWER);
             state = next;
             if loss == 0 {
                 heard = pair.look(ANSWER.with_length(answered)).to_vec();
             }
         }
         let silent = u8::from(heard.is_empty());
-        (length, session) = pair.step(session, silent, &heard, (IMAGE, MAP), PACKET);
-        pair.log(session, LOG);
-        for _ in 0..2 {
-            let named = maps::named_from(pair.look(MAP), random.below(FLASH_END));
-            pair.proved(session, MAP, named);
+        (length, session) = pair.step(session, silent, &heard, site.file(), PACKET);
+        // of a long session some steps tell as much as all
+        if session.total < FEW || random.once_in(8) {
+            look_at(pair, random, site, session);
         }
     }
     pair.outcome(session);
     (state, session)
 }
 
+/// The log record and some marks of a session.
+fn look_at(pair: &mut Pair, random: &mut Random, site: Site, session: SessionRecord) {
+    pair.log(session, LOG);
+    for _ in 0..2 {
+        let named = sessions::named(pair, random, site, site.map);
+        pair.proved(session, site.map, named);
+    }
+}
+
 /// Any loader, at times with protection that refuses some packets.
-fn loader(random: &mut Random) -> LoaderRecord {
-    let some = 1 << random.below(31);
+fn loader(random: &mut Random, site: Site) -> LoaderRecord {
+    let some = 1 << random.below(site.board.groups());
     LoaderRecord {
         groups: random.pick(&[0, 0, 0, some]),
         added: 0,

@@ -2,23 +2,23 @@
 
 use second::boundary::SessionRecord;
 use second::cases::{Buffer, Part};
-use second::loader::{ACK, BEL, GREETING};
+use second::loader::{ACK, BEL};
+use second::map::Map;
 use second::session::{Event, Phase};
-use second::units::{FLASH_END, MAP_BYTES, PAGE_BYTES};
+use second::units::PAGE_BYTES;
 
-use crate::files::{lent, IMAGE, MAP, NEXT_TO_IMAGE};
+use crate::boards;
 use crate::maps;
 use crate::pair::Pair;
 use crate::random::Random;
+use crate::site::{self, Site, SITES};
 
 pub const PACKET: Part = Part::new(Buffer::Packet, 501, 259);
-/// The map of another file over the same image, much like the session's.
-const OTHER_MAP: Part = Part::new(Buffer::Other, 77, MAP_BYTES as u32);
-/// A map of any kind.
-const ANY_MAP: Part = Part::new(Buffer::Other, 20_000, MAP_BYTES as u32);
 
+/// So many files there are on each board.
+const FILES: u32 = 40;
 /// So many states of a file are looked at.
-const STATES: u32 = 60;
+const STATES: u32 = 40;
 
 /// Phases with page, address and outcome: each end, those that use none of
 /// them, and records next to them that mean no session.
@@ -51,47 +51,69 @@ pub fn compare(pair: &mut Pair) {
     for buffer in [Buffer::Image, Buffer::Map] {
         pair.fill_buffer(buffer, 0x5A);
     }
-    for kind in 0..64 {
-        let bytes = random.bytes(FLASH_END);
-        pair.set(IMAGE, &bytes);
-        let map = map(&mut random, kind);
-        pair.set(MAP, &map);
-        let other = other_map(&mut random, &map);
-        pair.set(OTHER_MAP, &other);
-        pair.set(ANY_MAP, &maps::any(&mut random));
-        // not in step with the maps, so that each run kind meets each
-        let told = match kind % 3 {
-            0 => hold(&mut random),
-            run => run - 1,
-        };
-        file(pair, &mut random, told);
-    }
-    pair.fill(MAP, 0);
-    for _ in 0..100 {
-        let told = run(&mut random);
-        pair.start(told, IMAGE, MAP, PACKET);
-        refused_over_an_empty_map(pair, &mut random);
+    for site in SITES {
+        for kind in 0..FILES {
+            let map = map(&mut random, site, kind);
+            lend_file(pair, &mut random, site, &map);
+            let other = other_map(&mut random, site, &map);
+            pair.set(like_map(site), &other);
+            pair.set(any_map(site), &maps::any(&mut random, site.board));
+            // not in step with the maps, so that each run kind meets each
+            let told = match kind % 3 {
+                0 => hold(&mut random),
+                run => run - 1,
+            };
+            file(pair, &mut random, site, told);
+        }
+        pair.fill(site.map, 0);
+        for _ in 0..100 {
+            let told = run(&mut random);
+            pair.start(site.pages(), told, site.image, site.map, PACKET);
+            refused_over_an_empty_map(pair, &mut random, site);
+        }
     }
 }
 
-fn map(random: &mut Random, kind: u32) -> Vec<u8> {
+/// Where the map of another file over the same image stands, much like the
+/// session's.
+fn like_map(site: Site) -> Part {
+    Part::new(Buffer::Other, 77, site.map.length())
+}
+
+/// Where a map of any kind stands.
+fn any_map(site: Site) -> Part {
+    Part::new(Buffer::Other, 20_000, site.map.length())
+}
+
+/// Lends a file of random bytes and gives how many packets load it, without R.
+pub fn lend_file(pair: &mut Pair, random: &mut Random, site: Site, map: &[u8]) -> u32 {
+    let bytes = random.bytes(site.end());
+    pair.set(site.image, &bytes);
+    pair.set(site.map, map);
+    let map = Map::new(site.board, map).expect("a map");
+    map.survey(None).loading()
+}
+
+fn map(random: &mut Random, site: Site, kind: u32) -> Vec<u8> {
+    let (board, end) = (site.board, site.end());
     match kind {
-        0 => vec![0xFF; MAP_BYTES],
-        1 => vec![0x55; MAP_BYTES],
-        2 => random.bytes(MAP_BYTES as u32),
-        3 => maps::of_runs(&[(FLASH_END - 1, 1)]),
-        4..=8 => maps::of_runs(&[(FLASH_END - kind * kind / 2, FLASH_END)]),
+        0 => vec![0xFF; site.map_bytes()],
+        1 => vec![0x55; site.map_bytes()],
+        2 => random.bytes(site.map_bytes() as u32),
+        3 => maps::of_runs(board, &[(end - 1, 1)]),
+        4..=8 => maps::of_runs(board, &[(end - kind * kind / 2, end)]),
+        9 => maps::of_runs(board, &[(0xF7FF, 2), (0xFFFF, 2), (end - 1, 1)]),
         _ => match kind % 4 {
-            0 => maps::few(random),
-            1 => maps::pieces(random),
-            2 => maps::scattered(random),
-            _ => maps::any(random),
+            0 => maps::few(random, board),
+            1 => maps::pieces(random, board),
+            2 => maps::scattered(random, board),
+            _ => maps::any(random, board),
         },
     }
 }
 
 /// A map much like this one, often with the same counts.
-fn other_map(random: &mut Random, map: &[u8]) -> Vec<u8> {
+fn other_map(random: &mut Random, site: Site, map: &[u8]) -> Vec<u8> {
     let mut other = map.to_vec();
     match random.below(4) {
         0 => other.rotate_right(64),
@@ -100,45 +122,59 @@ fn other_map(random: &mut Random, map: &[u8]) -> Vec<u8> {
             let place = random.place(map);
             other[place] ^= 1 << random.below(8);
         }
-        _ => other = maps::any(random),
+        _ => other = maps::any(random, site.board),
     }
     other
 }
 
 /// A file under this run kind, and what is near its sessions of all kinds.
-fn file(pair: &mut Pair, random: &mut Random, told: u32) {
+fn file(pair: &mut Pair, random: &mut Random, site: Site, told: u32) {
     for _ in 0..15 {
-        let (image, map) = lent(random);
-        let any = run(random);
-        let buffer = buffer(random);
-        pair.start(any, image, map, buffer);
+        let (image, map) = site.lent(random);
+        let (board, any) = (site.told(random), run(random));
+        let buffer = buffer(random, site, image);
+        pair.start(board, any, image, map, buffer);
     }
-    let (number, start) = pair.start(told, IMAGE, MAP, PACKET);
+    refused_starts(pair, random, site);
+    let (number, start) = pair.start(site.pages(), told, site.image, site.map, PACKET);
     if number != 0 {
-        refused_over_an_empty_map(pair, random);
+        refused_over_an_empty_map(pair, random, site);
         return;
     }
-    greetings(pair, random, start);
-    bounds(pair, random, start);
-    last_records(pair, random, start);
-    let states = states(pair, start);
+    greetings(pair, random, site, start);
+    bounds(pair, random, site, start);
+    last_records(pair, random, site, start);
+    let states = states(pair, site, start);
     if states.len() <= STATES as usize {
         for state in &states {
-            look_at(pair, random, *state);
+            look_at(pair, random, site, *state);
         }
     } else {
         for _ in 0..STATES {
             let place = random.below(states.len() as u32) as usize;
-            look_at(pair, random, states[place]);
+            look_at(pair, random, site, states[place]);
         }
         for state in states.iter().rev().take(3) {
-            look_at(pair, random, *state);
+            look_at(pair, random, site, *state);
         }
     }
 }
 
+/// Starts with each part of a wrong size.
+fn refused_starts(pair: &mut Pair, random: &mut Random, site: Site) {
+    let (image, map) = (site.wrong_image(random), site.wrong_map(random));
+    for (image, map, length) in [
+        (image, site.map, 259),
+        (site.image, map, 259),
+        (site.image, site.map, random.below(259)),
+    ] {
+        let buffer = PACKET.with_length(length);
+        pair.start(site.pages(), run(random), image, map, buffer);
+    }
+}
+
 /// No start leads to a session over an empty map.
-fn refused_over_an_empty_map(pair: &mut Pair, random: &mut Random) {
+fn refused_over_an_empty_map(pair: &mut Pair, random: &mut Random, site: Site) {
     for phase in 0..7 {
         for total in [0, 1, 3, 4] {
             let place = random.pick(&[0, 0, 0, 1, 40, 42]);
@@ -146,17 +182,18 @@ fn refused_over_an_empty_map(pair: &mut Pair, random: &mut Random) {
                 run: run(random),
                 acknowledged: random.pick(&[0, 1, total]),
                 total,
-                ..placed(phase, place)
+                ..placed(site, phase, place)
             };
-            step_right(pair, state);
-            pair.proved(state, MAP, random.below(FLASH_END));
+            step_right(pair, site, state);
+            pair.proved(state, site.map, random.below(site.end()));
         }
     }
 }
 
 /// A phase with a value in the field that goes with it.
-fn placed(phase: u32, value: u32) -> SessionRecord {
+fn placed(site: Site, phase: u32, value: u32) -> SessionRecord {
     let mut record = SessionRecord {
+        board: site.pages(),
         phase,
         ..SessionRecord::default()
     };
@@ -168,18 +205,22 @@ fn placed(phase: u32, value: u32) -> SessionRecord {
     record
 }
 
-/// Greetings with one byte other than it is, free or not.
-fn greetings(pair: &mut Pair, random: &mut Random, start: SessionRecord) {
+/// The other board's greeting, and ones with one byte other than it is, free or
+/// not.
+fn greetings(pair: &mut Pair, random: &mut Random, site: Site, start: SessionRecord) {
+    let other = site.other().board.greeting();
+    let (_, next) = pair.step(start, 0, other, site.file(), PACKET);
+    assert_eq!(pair.outcome(next), Some(42), "the other board's greeting");
     for _ in 0..4 {
-        let mut greeting = *GREETING;
+        let mut greeting = *site.board.greeting();
         let place = random.place(&greeting);
         greeting[place] ^= 1 << random.below(8);
-        pair.step(start, 0, &greeting, (IMAGE, MAP), PACKET);
+        pair.step(start, 0, &greeting, site.file(), PACKET);
     }
 }
 
 /// Marks of records on both sides of each bound, over the file's own map.
-fn bounds(pair: &mut Pair, random: &mut Random, start: SessionRecord) {
+fn bounds(pair: &mut Pair, random: &mut Random, site: Site, start: SessionRecord) {
     let SessionRecord { total, named, .. } = start;
     let counts = [
         (total, named),
@@ -193,6 +234,7 @@ fn bounds(pair: &mut Pair, random: &mut Random, start: SessionRecord) {
             for (total, named) in counts {
                 let other = run(random);
                 let state = SessionRecord {
+                    board: start.board,
                     run: random.pick(&[start.run, start.run, other]),
                     phase,
                     page,
@@ -202,7 +244,7 @@ fn bounds(pair: &mut Pair, random: &mut Random, start: SessionRecord) {
                     total,
                     named,
                 };
-                mark(pair, random, state);
+                mark(pair, random, site, state);
             }
         }
     }
@@ -210,7 +252,7 @@ fn bounds(pair: &mut Pair, random: &mut Random, start: SessionRecord) {
 
 /// R's phase and each kind of end under each run kind, with the total of either
 /// and all counts next to it, over the file's own map.
-fn last_records(pair: &mut Pair, random: &mut Random, start: SessionRecord) {
+fn last_records(pair: &mut Pair, random: &mut Random, site: Site, start: SessionRecord) {
     let loading = loading(start);
     for told in [0, 1, hold(random)] {
         for (phase, outcome) in [(4, 0), (5, 0), (5, 1), (5, 40)] {
@@ -221,11 +263,11 @@ fn last_records(pair: &mut Pair, random: &mut Random, start: SessionRecord) {
                         acknowledged,
                         total,
                         named: start.named,
-                        ..placed(phase, outcome)
+                        ..placed(site, phase, outcome)
                     };
-                    let next = step_right(pair, state);
+                    let next = step_right(pair, site, state);
                     pair.outcome(next);
-                    mark(pair, random, state);
+                    mark(pair, random, site, state);
                 }
             }
         }
@@ -238,20 +280,25 @@ fn loading(state: SessionRecord) -> u32 {
 }
 
 /// The mark of a named byte over the file's own map.
-fn mark(pair: &mut Pair, random: &mut Random, state: SessionRecord) {
-    let address = maps::named_from(pair.look(MAP), random.below(FLASH_END));
-    pair.proved(state, MAP, address);
+fn mark(pair: &mut Pair, random: &mut Random, site: Site, state: SessionRecord) {
+    let address = named(pair, random, site, site.map);
+    pair.proved(state, site.map, address);
+}
+
+/// A named address of a map of the board.
+pub fn named(pair: &Pair, random: &mut Random, site: Site, map: Part) -> u32 {
+    maps::named_from(site.board, pair.look(map), random.below(site.end()))
 }
 
 /// Each state that a start and acknowledgements lead to, the end that was asked
 /// for last.
-fn states(pair: &Pair, start: SessionRecord) -> Vec<SessionRecord> {
-    let (image, map) = (pair.look(IMAGE), pair.look(MAP));
+pub fn states(pair: &Pair, site: Site, start: SessionRecord) -> Vec<SessionRecord> {
+    let (image, map) = (pair.look(site.image), pair.look(site.map));
     let mut buffer = [0; 259];
-    let mut session = start.meaning();
+    let mut session = start.meaning().expect("a known board");
     let mut states = vec![start];
     while !matches!(session.phase, Phase::Ended(_)) {
-        let event = Event::Answer(expected(session.phase));
+        let event = Event::Answer(expected(site, session.phase));
         let stepped = session.step(event, image, map, &mut buffer);
         (session, _) = stepped.expect("a step");
         states.push(session.into());
@@ -259,21 +306,21 @@ fn states(pair: &Pair, start: SessionRecord) -> Vec<SessionRecord> {
     states
 }
 
-fn expected(phase: Phase) -> &'static [u8] {
+fn expected(site: Site, phase: Phase) -> &'static [u8] {
     match phase {
-        Phase::Greeting => GREETING,
+        Phase::Greeting => site.board.greeting(),
         _ => &[ACK],
     }
 }
 
 /// Goes through the file's whole session of each run kind and gives its named
 /// bytes.
-pub fn walk(pair: &mut Pair) -> u32 {
+pub fn walk(pair: &mut Pair, site: Site) -> u32 {
     let mut named = 0;
     for told in 0..3 {
-        let (_, mut state) = pair.start(told, IMAGE, MAP, PACKET);
+        let (_, mut state) = pair.start(site.pages(), told, site.image, site.map, PACKET);
         while state.phase != 5 {
-            state = step_right(pair, state);
+            state = step_right(pair, site, state);
         }
         assert_eq!(pair.outcome(state), Some(asked_end(told)));
         named = state.named;
@@ -287,37 +334,39 @@ pub fn asked_end(told: u32) -> u8 {
 }
 
 /// One state of the file: what it answers to, and what is near it.
-fn look_at(pair: &mut Pair, random: &mut Random, state: SessionRecord) {
+fn look_at(pair: &mut Pair, random: &mut Random, site: Site, state: SessionRecord) {
     pair.outcome(state);
-    let next = step_right(pair, state);
+    let next = step_right(pair, site, state);
     pair.outcome(next);
-    under_each_kind(pair, random, state);
+    under_each_kind(pair, random, site, state);
+    on_other_board(pair, random, site, state);
     for _ in 0..3 {
-        let next = step_any(pair, random, state);
+        let next = step_any(pair, random, site, state);
         pair.outcome(next);
         if next != state && random.once_in(4) {
-            step_any(pair, random, next);
+            step_any(pair, random, site, next);
         }
-        marks(pair, random, next);
+        marks(pair, random, site, next);
     }
     for _ in 0..4 {
         let made_up = made_up(random, state);
-        step_right(pair, made_up);
+        step_right(pair, site, made_up);
         pair.outcome(made_up);
     }
     let made_up = made_up(random, state);
-    step_any(pair, random, made_up);
-    marks(pair, random, made_up);
+    step_any(pair, random, site, made_up);
+    marks(pair, random, site, made_up);
     let ended = said_to_have_ended(random, state);
-    step_any(pair, random, ended);
+    step_any(pair, random, site, ended);
     pair.outcome(ended);
-    marks(pair, random, ended);
-    pair.step(state, 0, answer(state), (IMAGE, OTHER_MAP), PACKET);
-    marks(pair, random, state);
+    marks(pair, random, site, ended);
+    let other_file = (site.image, like_map(site));
+    pair.step(state, 0, answer(site, state), other_file, PACKET);
+    marks(pair, random, site, state);
 }
 
 /// The state under each run kind, with the total of either.
-fn under_each_kind(pair: &mut Pair, random: &mut Random, state: SessionRecord) {
+fn under_each_kind(pair: &mut Pair, random: &mut Random, site: Site, state: SessionRecord) {
     let loading = loading(state);
     for told in [0, 1, hold(random)] {
         for total in [loading, loading + 1] {
@@ -326,26 +375,52 @@ fn under_each_kind(pair: &mut Pair, random: &mut Random, state: SessionRecord) {
                 total,
                 ..state
             };
-            step_right(pair, changed);
-            mark(pair, random, changed);
+            step_right(pair, site, changed);
+            mark(pair, random, site, changed);
         }
     }
 }
 
-fn answer(state: SessionRecord) -> &'static [u8] {
-    expected(state.meaning().phase)
+/// The state changed to the other board, with the old file and with one of that
+/// board's size.
+fn on_other_board(pair: &mut Pair, random: &mut Random, site: Site, state: SessionRecord) {
+    let other = site.other();
+    let changed = SessionRecord {
+        board: other.pages(),
+        ..state
+    };
+    for file in [site.file(), other.file()] {
+        let heard = random.pick(&[answer(site, state), answer(other, state)]);
+        let (_, next) = pair.step(changed, 0, heard, file, PACKET);
+        pair.proved(changed, file.1, random.below(site.end()));
+        let goes_on = next != changed;
+        assert!(!goes_on || file == other.file(), "{changed:?}");
+    }
+    pair.outcome(changed);
 }
 
-fn step_right(pair: &mut Pair, state: SessionRecord) -> SessionRecord {
-    pair.step(state, 0, answer(state), (IMAGE, MAP), PACKET).1
+/// What the state waits for; of one that means nothing, any answer.
+fn answer(site: Site, state: SessionRecord) -> &'static [u8] {
+    let phase = state.meaning().map(|session| session.phase);
+    expected(site, phase.unwrap_or(Phase::Greeting))
+}
+
+fn step_right(pair: &mut Pair, site: Site, state: SessionRecord) -> SessionRecord {
+    let answer = answer(site, state);
+    pair.step(state, 0, answer, site.file(), PACKET).1
 }
 
 /// A step with any answer, silence and buffers of wrong sizes among them.
-fn step_any(pair: &mut Pair, random: &mut Random, state: SessionRecord) -> SessionRecord {
+fn step_any(
+    pair: &mut Pair,
+    random: &mut Random,
+    site: Site,
+    state: SessionRecord,
+) -> SessionRecord {
     let mut bytes = match random.below(4) {
         0 => vec![BEL],
         1 => vec![ACK],
-        _ => answer(state).to_vec(),
+        _ => answer(site, state).to_vec(),
     };
     match random.below(6) {
         0 => random.damage(&mut bytes),
@@ -355,13 +430,13 @@ fn step_any(pair: &mut Pair, random: &mut Random, state: SessionRecord) -> Sessi
         _ => {}
     }
     let silent = random.pick(&[0, 0, 0, 0, 1, 0x80]);
-    let file = lent(random);
+    let file = site.lent(random);
     let buffer = match random.once_in(8) {
         true => {
             pair.move_input(random.below(64));
             pair.behind_input(&bytes, 259)
         }
-        false => buffer(random),
+        false => buffer(random, site, file.0),
     };
     pair.step(state, silent, &bytes, file, buffer).1
 }
@@ -378,13 +453,14 @@ pub fn hold(random: &mut Random) -> u32 {
     random.pick(&[2, 2, 3, u32::MAX, any])
 }
 
-fn buffer(random: &mut Random) -> Part {
+/// A packet buffer, at times of a wrong size or next to the file.
+fn buffer(random: &mut Random, site: Site, image: Part) -> Part {
     match random.below(30) {
         0 => PACKET.with_length(258),
         1 => PACKET.with_length(random.below(259)),
         2 => Part::NULL,
-        3..=6 => NEXT_TO_IMAGE.behind(259),
-        7 => MAP.before(259),
+        3..=6 => site::behind(image, PACKET),
+        7 => site.map.before(259),
         _ => PACKET.with_length(random.within(259, 300)),
     }
 }
@@ -394,6 +470,9 @@ fn made_up(random: &mut Random, state: SessionRecord) -> SessionRecord {
     let mut made_up = state;
     let changes = random.pick(&[1, 1, 1, 2, 3, 8]);
     for _ in 0..changes {
+        if random.once_in(24) {
+            made_up.board = boards::unknown(random);
+        }
         let field = match random.below(8) {
             0 => &mut made_up.run,
             1 => &mut made_up.phase,
@@ -406,7 +485,7 @@ fn made_up(random: &mut Random, state: SessionRecord) -> SessionRecord {
         };
         let any = random.word();
         let small = random.below(8);
-        let step = random.pick(&[1, 2, 250, 512, any]);
+        let step = random.pick(&[1, 2, 250, 512, 0x1_0000, any]);
         *field = match random.below(5) {
             0 => field.wrapping_add(step),
             1 => field.wrapping_sub(step),
@@ -424,6 +503,7 @@ fn said_to_have_ended(random: &mut Random, state: SessionRecord) -> SessionRecor
     let reached = state.acknowledged;
     let other = run(random);
     SessionRecord {
+        board: state.board,
         run: random.pick(&[state.run, state.run, other]),
         phase: 5,
         page: 0,
@@ -437,25 +517,27 @@ fn said_to_have_ended(random: &mut Random, state: SessionRecord) -> SessionRecor
 
 /// Marks of bytes of every kind, over the session's own map and over others,
 /// which are refused unless they lead to the session too.
-fn marks(pair: &mut Pair, random: &mut Random, state: SessionRecord) {
+fn marks(pair: &mut Pair, random: &mut Random, site: Site, state: SessionRecord) {
     // where the packet that is waited on begins
     let sent = match state.phase {
         1 => state.page.wrapping_mul(PAGE_BYTES),
         _ => state.address,
     };
     for _ in 0..5 {
-        let map = random.pick(&[MAP, MAP, OTHER_MAP, ANY_MAP]);
+        let map = random.pick(&[site.map, site.map, like_map(site), any_map(site)]);
         let any = random.word();
-        let inside = random.below(FLASH_END);
-        let near = random.within(FLASH_END - 2, FLASH_END + 2);
+        let inside = random.below(site.end());
+        let near = random.within(site.end() - 2, site.end() + 2);
         let from = sent.wrapping_add(random.below(256));
         let before = sent.wrapping_sub(random.below(256));
-        let named = maps::named_from(pair.look(map), inside);
-        let address = random.pick(&[any, inside, near, from, before, named, named]);
-        let lent = match random.below(24) {
+        let wrapped = sent ^ 0x1_0000;
+        let named = named(pair, random, site, map);
+        let address = random.pick(&[any, inside, near, from, before, wrapped, named, named]);
+        let lent = match random.below(32) {
             0 => map.with_length(map.length() - 1),
             1 => map.with_length(map.length() + 1),
-            2 => Part::NULL,
+            2 => map.with_length(site.other().map.length()),
+            3 => Part::NULL,
             _ => map,
         };
         pair.proved(state, lent, address);

@@ -1,21 +1,68 @@
-//! What was compared: how many calls, how often each function gave each
-//! number, how often each hex refusal had each column, and how often each
-//! record that was made on purpose gave what the paper says.
+//! What was compared, on each board: how many calls, how often each function
+//! gave each number, how often each hex refusal had each column, and how often
+//! each record that was made on purpose gave what the paper says.
 
 use std::collections::BTreeMap;
 use std::fmt::Display;
 
-/// Each function and the numbers that it can give, 0 where it was done; the
-/// endings that steps give and those that are read off; the marks; the run
-/// kinds of sessions that were started, and that ended as asked by steps and in
-/// rehearsals.
-pub const LIBRARY: [(&str, &[u8]); 24] = [
+use second::boundary;
+use second::units::Board;
+
+/// Where a call was made: on the board that it was told or whose record it was
+/// given, or without any.
+#[derive(Clone, Copy, Debug, PartialEq, Eq, PartialOrd, Ord)]
+pub enum On {
+    Nothing,
+    Known(u32),
+    Unknown,
+}
+
+impl On {
+    pub fn of(pages: u32) -> On {
+        match boundary::board(pages) {
+            Ok(_) => On::Known(pages),
+            Err(_) => On::Unknown,
+        }
+    }
+
+    pub const fn board(board: Board) -> On {
+        On::Known(board.pages())
+    }
+
+    /// The board whose version a log record has by its lengths.
+    pub fn of_log(input: &[u8]) -> On {
+        match (input.len(), input) {
+            (10, [0, 0x08, ..]) => On::board(Board::Short),
+            (16, [0, 0x0E, ..]) => On::board(Board::Long),
+            _ => On::Nothing,
+        }
+    }
+
+    pub fn name(self) -> String {
+        match self {
+            On::Nothing => String::from("no board"),
+            On::Known(pages) => format!("{pages} pages"),
+            On::Unknown => String::from("unknown"),
+        }
+    }
+}
+
+/// Each function that knows of no board and the numbers that it can give, 0
+/// where it was done; a log that is 50 or 51 is no board's.
+pub const ON_NOTHING: [(&str, &[u8]); 7] = [
     ("turned", &[0]),
     ("restored", &[0]),
     ("build", &[0, 5, 6, 20]),
     ("read", &[0, 1, 2, 3, 4, 5, 6]),
     ("factory", &[0]),
     ("reset", &[0]),
+    ("logread", &[50, 51]),
+];
+
+/// The same of the others, on either board; the endings that steps give and
+/// those that are read off; the marks; the run kinds of sessions that were
+/// started, and that ended as asked by steps and in rehearsals.
+pub const ON_EACH: [(&str, &[u8]); 18] = [
     ("take", &[0, 1, 2, 3, 4, 5, 6, 7, 8, 9, 10, 11, 20]),
     ("hex", &[0, 20]),
     ("record", &[0, 20, 21, 22, 23, 24, 25, 26, 27, 28, 29, 30]),
@@ -31,9 +78,24 @@ pub const LIBRARY: [(&str, &[u8]); 24] = [
     ("outcome", &[0, 45]),
     ("ended", &[0, 1, 40, 41, 42, 43]),
     ("log", &[0, 20, 45]),
-    ("logread", &[0, 50, 51, 52, 53]),
+    ("logread", &[0, 52, 53]),
     ("rehearse", &[0, 20, 32]),
     ("rehearsed as asked", &[0, 1, 2]),
+];
+
+/// What each of them gives on a board that is none.
+pub const ON_UNKNOWN: [(&str, &[u8]); 11] = [
+    ("take", &[65]),
+    ("hex", &[65]),
+    ("record", &[65]),
+    ("close", &[65]),
+    ("write", &[65]),
+    ("start", &[65]),
+    ("step", &[65]),
+    ("proved", &[65]),
+    ("outcome", &[45]),
+    ("log", &[65]),
+    ("rehearse", &[65]),
 ];
 
 /// The numbers that the programs print.
@@ -71,6 +133,30 @@ pub struct Tally {
 }
 
 type Counts<Key> = BTreeMap<Key, u64>;
+
+/// A tally for each place where calls were made.
+#[derive(Clone, Debug, Default)]
+pub struct Tallies(BTreeMap<On, Tally>);
+
+impl Tallies {
+    pub fn on(&mut self, on: On) -> &mut Tally {
+        self.0.entry(on).or_default()
+    }
+
+    pub fn each(&self) -> impl Iterator<Item = (On, &Tally)> {
+        self.0.iter().map(|(on, tally)| (*on, tally))
+    }
+
+    pub fn compared(&self) -> u64 {
+        self.0.values().map(|tally| tally.compared).sum()
+    }
+
+    pub fn add(&mut self, other: &Tallies) {
+        for (on, tally) in other.each() {
+            self.on(on).add(tally);
+        }
+    }
+}
 
 impl Tally {
     /// Counts one comparison of a function that gave this number.
@@ -125,11 +211,16 @@ impl Tally {
         listed(&self.made).collect::<Vec<String>>().join(";")
     }
 
-    /// Each of these must have been seen so often.
+    /// Each of these must have been seen so often, and nothing else.
     pub fn check(&self, expected: &[(&'static str, &[u8])], often: u64) {
         check("gave", expected, often, |key| {
             self.calls.get(key).or(self.notes.get(key))
         });
+        for (what, value) in self.calls.keys().chain(self.notes.keys()) {
+            let mut listed = expected.iter();
+            let listed = listed.any(|(name, values)| name == what && values.contains(value));
+            assert!(listed, "{what} gave {value}");
+        }
     }
 
     /// Each made record must have given each of its numbers so often.
