@@ -29,7 +29,7 @@ extern "C" {
 #endif
 
 /* Rises when a struct changes, or what a number in one means. */
-#define GREMOLUNDE_VERSION 4
+#define GREMOLUNDE_VERSION 5
 
 /* A board is told by its number of pages; a number that is not listed is refused with 65, before all else. A session
  * and a hex reader carry the board that they were started for. */
@@ -60,13 +60,22 @@ typedef struct gremolunde_loader {
     uint8_t added_read; /* flag: read protection is added to the sequence */
 } gremolunde_loader;
 
-/* A hex reader, without its image and map. */
+/* The rule set for the addresses of a hex file, chosen when it is opened; a number that is not listed is refused with
+ * 34, after 20. Byte i of a data record has its place at
+ * - GREMOLUNDE_RULES_1: linear base + segment base + AAAA + i, and nothing wraps;
+ * - GREMOLUNDE_RULES_2: where the latest of 02 and 04 was 02, segment base + (AAAA + i) modulo 65,536; where it was 04,
+ *   or neither came, linear base + AAAA + i, and nothing wraps. */
+enum { GREMOLUNDE_RULES_1 = 1, GREMOLUNDE_RULES_2 = 2 };
+
+/* A hex reader, without its image and map. Either base is kept as it was last set. */
 typedef struct gremolunde_hex {
-    uint32_t board;   /* GREMOLUNDE_SHORT or GREMOLUNDE_LONG; any other value is 65 */
-    uint32_t linear;  /* the linear base */
-    uint32_t segment; /* the segment base */
-    uint8_t ended;    /* flag: the end record was read */
-    uint8_t taken;    /* flag: a data byte was taken */
+    uint32_t board;    /* GREMOLUNDE_SHORT or GREMOLUNDE_LONG; any other value is 65 */
+    uint32_t rules;    /* GREMOLUNDE_RULES_1 or GREMOLUNDE_RULES_2; any other value is 34 */
+    uint32_t linear;   /* the linear base */
+    uint32_t segment;  /* the segment base */
+    uint8_t segmented; /* flag: the latest of 02 and 04 was 02, in either rule set */
+    uint8_t ended;     /* flag: the end record was read */
+    uint8_t taken;     /* flag: a data byte was taken */
 } gremolunde_hex;
 
 /* Where a session stands: what it waits for. */
@@ -193,20 +202,21 @@ gremolunde_taken gremolunde_loader_take(uint32_t board, gremolunde_loader loader
                                         size_t input_length, uint8_t *flash, size_t flash_length, uint8_t *answer,
                                         size_t answer_length);
 
-/* Starts a file for a board: fills image with 0xFF and map with 0. 65 unknown board, 20 wrong sizes; the reader is
- * then all 0. */
-gremolunde_hex_read gremolunde_hex_start(uint32_t board, uint8_t *image, size_t image_length, uint8_t *map,
-                                         size_t map_length);
+/* Opens a file for a board, under a rule set: fills image with 0xFF and map with 0. 65 unknown board, 20 wrong sizes,
+ * 34 unknown rule set; the reader is then all 0. */
+gremolunde_hex_read gremolunde_hex_start(uint32_t board, uint32_t rules, uint8_t *image, size_t image_length,
+                                         uint8_t *map, size_t map_length);
 
-/* Takes one record, its line end removed. 65, 20 to 30. Of the types 01 to 05, BB is 0 for 01, 2 for 02 and 04, 4 for
- * 03 and 05, whose start address is checked and ignored; AAAA is 0 for all five, else 28. The column of 22 is 0, that
- * of 23 and 25 `line_length`, of 24 the first character behind the colon that is no digit, of 26 the checksum's first
- * digit, of 27 the type's (7), of 28 the count's (1) if the count is wrong, else the address's (3); other refusals
- * have column 0. */
+/* Takes one record, its line end removed. 65, 20, 34, 21 to 30. 29 is given where the place of a byte lies past the
+ * board, 30 where the place of one was named before; a data record of no bytes is neither. Of the types 01 to 05, BB
+ * is 0 for 01, 2 for 02 and 04, 4 for 03 and 05, whose start address is checked and ignored; AAAA is 0 for all five,
+ * else 28. The column of 22 is 0, that of 23 and 25 `line_length`, of 24 the first character behind the colon that is
+ * no digit, of 26 the checksum's first digit, of 27 the type's (7), of 28 the count's (1) if the count is wrong, else
+ * the address's (3); other refusals have column 0. */
 gremolunde_hex_read gremolunde_hex_record(gremolunde_hex reader, const uint8_t *line, size_t line_length,
                                           uint8_t *image, size_t image_length, uint8_t *map, size_t map_length);
 
-/* Closes a file. 65 unknown board, 31 no end record, 32 no data byte taken. */
+/* Closes a file. 65 unknown board, 34 unknown rule set, 31 no end record, 32 no data byte taken. */
 gremolunde_hex_read gremolunde_hex_close(gremolunde_hex reader);
 
 /* Writes the next record from an address. `upper` is the upper half that the last 04 record set, 0 at first. Where the

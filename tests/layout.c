@@ -17,7 +17,7 @@ static void hold(int holds, const char *what) {
 
 static void structs(void) {
     /* whoever changes fields.h, or the meaning of a number in a struct, raises it */
-    HOLD(GREMOLUNDE_VERSION == 4);
+    HOLD(GREMOLUNDE_VERSION == 5);
     HOLD(sizeof(size_t) == 8);
 #define STRUCT(type, size) HOLD(sizeof(type) == (size));
 #define FIELD(type, name, place, size)     \
