@@ -1,5 +1,6 @@
 pub mod Flash
 pub mod Writer
+pub mod Places
 pub mod Hex
 pub mod Pointed
 pub mod Records

@@ -12,7 +12,7 @@ use Rattle.image.specs.declared.hex.Read.the-variants as read
 use Rattle.image.specs.declared.record.Check as Check
 use Rattle.image.specs.declared.record.Check.the-variants as check
 use Rattle.image.specs.declared.record.Refusal.{Refusal}
-use Rattle.image.specs.declared.record.Refusal.the-variants.{Size, Ended, Colon, Length, Digit, Count, Checksum, Kind, Shape, Place, Twice, NoEnd, NoData, Short}
+use Rattle.image.specs.declared.record.Refusal.the-variants.{Size, Ended, Colon, Length, Digit, Count, Checksum, Kind, Shape, Place, Twice, NoEnd, NoData, Short, Rules}
 use Rattle.image.specs.declared.writer.Written as Written
 use Rattle.image.specs.declared.writer.Written.the-variants as written
 
@@ -32,6 +32,7 @@ paperRefusal Twice = 30
 paperRefusal NoEnd = 31
 paperRefusal NoData = 32
 paperRefusal Short = 33
+paperRefusal Rules = 34
 
 -- a check's word on a record
 abbrev pub paperCheck : Check.Check → Pointed Unit

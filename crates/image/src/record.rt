@@ -42,6 +42,7 @@ pub enum Refusal {
     NoEnd,
     NoData,
     Short,
+    Rules,
 }
 
 impl Refusal {
@@ -63,6 +64,7 @@ impl Refusal {
             Refusal::NoEnd => 31,
             Refusal::NoData => 32,
             Refusal::Short => 33,
+            Refusal::Rules => 34,
         }
     }
 }

@@ -11,17 +11,16 @@ use Rattle.basis.specs.Units.{startOf}
 use Rattle.basis.specs.Refusals.{Answer, refused, given, first}
 use Rattle.basis.specs.Sums.{plainSum, sumOf}
 use Rattle.image.specs.Digits.{digitOf, digitsBefore, decoded}
-use Rattle.basis.specs.Lists.{stored}
-use Rattle.image.specs.Hex.{File, fresh, recordIn}
+use Rattle.image.specs.Hex.{File, fresh, putEach, nameEach, recordIn}
 use Rattle.image.specs.Record.{columnOf, Pointed, wrong, right, pointed}
 use Rattle.image.specs.RoundTrip.{lines, recordsMost}
 use Rattle.image.specs.Writer.{letterOf, spelt, Step, step, text, stepFrom}
 use Rattle.runs.specs.Runs.{len, next}
-use Rattle.runs.specs.Map.{named, nameOf, nameAllOf}
+use Rattle.runs.specs.Map.{named, nameOf}
 
 -- a line, read, and a record of these bytes
 abbrev onLine : List ℕ → Answer File
-onLine l = recordIn 272 fresh l (replicate 272 0xFF) (replicate 34 0)
+onLine l = recordIn 272 (fresh 1) l (replicate 272 0xFF) (replicate 34 0)
 
 abbrev on : List ℕ → Answer File
 on b = onLine (0x3A ∷ spelt b)
@@ -100,7 +99,7 @@ cases =
     ∷ []
 
 pub record-cases : all cases ≡ true
-unfolding first recordIn columnOf digitOf digitsBefore decoded stored any nameAllOf named nameOf plainSum sumOf letterOf spelt
+unfolding first recordIn columnOf digitOf digitsBefore decoded any putEach nameEach named nameOf plainSum sumOf letterOf spelt
 record-cases = refl
 
 -- ---- what is written

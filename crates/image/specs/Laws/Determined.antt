@@ -21,7 +21,7 @@ use Rattle.image.specs.declared.hex.Read.the-variants.{Taken, Refused}
 use Rattle.image.specs.declared.record.Check.{Check}
 use Rattle.image.specs.declared.record.Check.the-variants as check
 use Rattle.image.specs.declared.record.Refusal.{Refusal}
-use Rattle.image.specs.declared.record.Refusal.the-variants.{Size, Ended, Colon, Length, Digit, Count, Checksum, Kind, Shape, Place, Twice, NoEnd, NoData, Short}
+use Rattle.image.specs.declared.record.Refusal.the-variants.{Size, Ended, Colon, Length, Digit, Count, Checksum, Kind, Shape, Place, Twice, NoEnd, NoData, Short, Rules}
 use Rattle.image.specs.declared.writer.Written.{Written}
 use Rattle.image.specs.declared.writer.Written.the-variants as written
 
@@ -40,7 +40,8 @@ refusalBy n =
     (pick (eqb n 29) Place
     (pick (eqb n 30) Twice
     (pick (eqb n 31) NoEnd
-    (pick (eqb n 32) NoData Short))))))))))))
+    (pick (eqb n 32) NoData
+    (pick (eqb n 33) Short Rules)))))))))))))
 
 refusal-back : (x : Refusal) → refusalBy (paperRefusal x) ≡ x
 unfolding refusalBy
@@ -58,6 +59,7 @@ refusal-back Twice = refl
 refusal-back NoEnd = refl
 refusal-back NoData = refl
 refusal-back Short = refl
+refusal-back Rules = refl
 
 pub refusal-one : (x y : Refusal) → paperRefusal x ≡ paperRefusal y → x ≡ y
 refusal-one = back-one paperRefusal refusalBy refusal-back

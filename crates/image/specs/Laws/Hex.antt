@@ -19,8 +19,10 @@ use Rattle.image.specs.Digits.{digitOf, digitsBefore, firstBad, decoded}
 use Rattle.image.specs.Writer.{letterOf, spelt, line}
 use Rattle.image.specs.Laws.Writer.{length-spelt, spelt-digits, spelt-bytes}
 use Rattle.basis.specs.Laws.Choice.{decide, pick-second, both-no, either-none}
-use Rattle.image.specs.Record.{count, kind, address, recordLeast, recordMost, noColon, lengthWrong, notDigits, countWrong, isData, kindWrong, isStart, countFor, shapeWrong, characterRows, byteRows, shapeRows, charactersOf, decodedBytes, framingOf, shapeOf}
-use Rattle.image.specs.Hex.{File, hex, file, effect, place, placeRows, namedBefore, placed, otherOf, recordIn, applyIn, dataIn}
+use Rattle.image.specs.Record.{count, kind, address, payload, recordLeast, recordMost, noColon, lengthWrong, notDigits, countWrong, isData, kindWrong, isStart, countFor, shapeWrong, characterRows, byteRows, shapeRows, charactersOf, decodedBytes, framingOf, shapeOf}
+use Rattle.image.specs.Hex.{File, hex, file, isRuleSet, effect, place, fed, placeRows, pastBoard, namedBefore, placed, otherOf, recordIn, applyIn, dataIn}
+use Rattle.image.specs.Laws.Places.{past-run, named-run, placed-run}
+use Rattle.runs.specs.Map.{anyNamed, nameAllOf}
 use Rattle.image.specs.declared.hex.Hex.{Hex}
 
 -- BB as the type has it
@@ -115,15 +117,17 @@ characters-bytes line old e room =
     rw (p .0, q .0, copy-overlay [] old b 0 refl (omega arith)) (take-at b (drop (length b) old) _ n)
 
 module _ (size : ℕ) (h : Hex) (image map : List ℕ) where
-  -- the table after 20 and 21: the characters, then the bytes
+  -- the table after 20, 34 and 21: the characters, then the bytes
   pub record-cut : (line : List ℕ)
       → rightSizesIn size (length image) (length map) ≡ true
+      → isRuleSet (h .rules) ≡ true
       → h .ended ≡ false
       → recordIn size h line image map
       ≡ andThen (charactersOf line) (applyIn size h (length line) (decoded (drop 1 line)) image map)
   unfolding first recordIn charactersOf applyIn
-  record-cut line s e =
+  record-cut line s k e =
       pick-second (not (rightSizesIn size (length image) (length map))) _ _ (ap not s)
+      ∙ pick-second (not (isRuleSet (h .rules))) _ _ (ap not k)
       ∙ pick-second (h .ended) _ _ e
       ∙ first-then (characterRows line) (applyIn size h (length line) (decoded (drop 1 line)) image map)
 
@@ -189,32 +193,35 @@ unfolding first shapeOf
 shape-data b e = simp e
 
 data-placed : (size : ℕ) (h : Hex) (b image map : List ℕ)
-    → place h b + count b ≤ size
+    → pastBoard size h b ≡ false
     → namedBefore h b map ≡ false
     → dataIn size h b image map ≡ given (placed h b image map)
 unfolding first dataIn
-data-placed size h b image map l e = rw (le-ltb _ _ l, both-no (ltb 0 (count b)), e)
+data-placed size h b image map l e = rw (l, e)
 
 end-read : (size : ℕ) (h : Hex) (image map : List ℕ)
     → andThen (charactersOf (line 0 1 []))
     (applyIn size h (length (line 0 1 [])) (decoded (drop 1 (line 0 1 []))) image map)
-    ≡ given (file (hex (h .linear) (h .segment) true (h .taken)) image map)
+    ≡ given (file (hex (h .rules) (h .linear) (h .segment) (h .segmented) true (h .taken)) image map)
 unfolding first charactersOf applyIn digitOf digitsBefore decoded sumOf plainSum letterOf spelt
 end-read size h image map = refl
 
 module _ (size : ℕ) (h : Hex) (image map : List ℕ)
-    (right : rightSizesIn size (length image) (length map) ≡ true) (going : h .ended ≡ false) where
-  -- a data record that finds its places free and on the board
-  pub data-taken : (b : List ℕ)
+    (right : rightSizesIn size (length image) (length map) ≡ true) (known : isRuleSet (h .rules) ≡ true)
+    (going : h .ended ≡ false) where
+  -- a data record that finds its places in a row from a on, free and on the board
+  pub data-taken : (b : List ℕ) (a : ℕ)
       → Bytes b
       → length b ≡ 5 + count b
       → sumOf b ≡ 0
       → kind b ≡ 0
-      → place h b + count b ≤ size
-      → namedBefore h b map ≡ false
-      → recordIn size h (0x3A ∷ spelt b) image map ≡ given (placed h b image map)
-  data-taken b bytes long sum zero fits free =
-      record-cut size h image map (0x3A ∷ spelt b) right going
+      → ((i : ℕ) → place h b i ≡ a + i)
+      → a + count b ≤ size
+      → anyNamed map a (count b) ≡ false
+      → recordIn size h (0x3A ∷ spelt b) image map
+      ≡ given (file (fed h (count b)) (copyOf image a (payload b)) (nameAllOf map a (count b)))
+  data-taken b a bytes long sum zero run fits free =
+      record-cut size h image map (0x3A ∷ spelt b) right known going
       ∙ rw (
         spelling-characters b bytes long,
         spelt-bytes b bytes,
@@ -223,7 +230,10 @@ module _ (size : ℕ) (h : Hex) (image map : List ℕ)
         shape-data b zero,
         eq-eqb _ _ zero,
       )
-      (data-placed size h b image map fits free)
+      (data-placed size h b image map
+      (past-run h b a run size ∙ rw (le-ltb size (a + count b) fits) (both-no (ltb 0 (count b))))
+      (named-run h b a run map ∙ free)
+      ∙ ap given (placed-run h b a run image map))
 
   -- a record of another type that has its shape
   pub other-taken : (b : List ℕ)
@@ -234,7 +244,7 @@ module _ (size : ℕ) (h : Hex) (image map : List ℕ)
       → isData b ≡ false
       → recordIn size h (0x3A ∷ spelt b) image map ≡ given (file (otherOf h b) image map)
   other-taken b bytes long sum shape other =
-      record-cut size h image map (0x3A ∷ spelt b) right going
+      record-cut size h image map (0x3A ∷ spelt b) right known going
       ∙ rw (
         spelling-characters b bytes long,
         spelt-bytes b bytes,
@@ -246,5 +256,5 @@ module _ (size : ℕ) (h : Hex) (image map : List ℕ)
 
   -- the end record
   pub end-taken : recordIn size h (line 0 1 []) image map
-      ≡ given (file (hex (h .linear) (h .segment) true (h .taken)) image map)
-  end-taken = record-cut size h image map (line 0 1 []) right going ∙ end-read size h image map
+      ≡ given (file (hex (h .rules) (h .linear) (h .segment) (h .segmented) true (h .taken)) image map)
+  end-taken = record-cut size h image map (line 0 1 []) right known going ∙ end-read size h image map

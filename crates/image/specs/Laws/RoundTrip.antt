@@ -4,7 +4,7 @@ use mathlib.Core.Path.{_≡_, refl, sym, ap, _∙_}
 use mathlib.Core.Bool.{true, false}
 use mathlib.Core.List.{List, [], _∷_, _++_}
 use native.Mathlib.Omega.{arith}
-use lib.Dec.{ltb, lit<}
+use lib.Dec.{eqb, ltb, lit<}
 use lib.ListN.{length, getD, take, drop, length-append, length-drop, length-replicate}
 use lib.Seq.{take-at, length-take-le, getD-take, getD-drop}
 use borrow.Author.Tests.{lt-ltb, le-ltb, ltb-true, ltb-false}
@@ -22,7 +22,7 @@ use Rattle.basis.specs.Laws.Sums.{sum-closed}
 use Rattle.runs.specs.Map.{named, nameAllOf}
 use Rattle.runs.specs.Laws.Map.{named-past, named-none, named-only, name-all-length, name-all-bytes, name-all-below, name-all-above, name-all-in}
 use Rattle.runs.specs.Laws.Runs.{next-ge, next-skip}
-use Rattle.image.specs.Hex.{File, hex, file, started, fed, place, placed, recordIn, closeOf}
+use Rattle.image.specs.Hex.{File, hex, file, isRuleSet, started, fed, place, recordIn, closeOf}
 use Rattle.image.specs.declared.hex.Hex.{Hex}
 use Rattle.image.specs.Record.{shapeOf}
 use Rattle.image.specs.Writer.{content, line, text, step, upperHalf, lowerHalf, upperBytes, recordPart, lowest, stepFrom}
@@ -57,22 +57,20 @@ closed-bytes a kind s la lk ls h (suc (suc (suc (suc k)))) =
     last (y ∷ s) x h l zero = h 0
     last (y ∷ s) x h l (suc k) = last s x (λ i. h (suc i)) l k
 
--- a reader whose linear base is that of the upper half finds the place again
-module _ (h : Hex) (a : ℕ) (s : List ℕ) (l : h .linear ≡ 65536 * upperHalf a) (g : h .segment ≡ 0) where
-  place-at : place h (closed (lowerHalf a) 0 s) ≡ a
-  place-at = omega arith
-
-  -- what a data record at a does to it
-  placed-at : (image map : List ℕ)
-      → placed h (closed (lowerHalf a) 0 s) image map
-      ≡ file (fed h (length s)) (copyOf image a s) (nameAllOf map a (length s))
-  placed-at image map =
-      rw (place-at, take-at s (checksumOf (content (lowerHalf a) 0 s) ∷ []) (length s) refl)
+-- a reader whose linear base is that of the upper half, and that no 02 governs, finds the places again
+place-at : (h : Hex) (a : ℕ) (s : List ℕ)
+    → h .linear ≡ 65536 * upperHalf a
+    → h .segment ≡ 0
+    → h .segmented ≡ false
+    → (i : ℕ)
+    → place h (closed (lowerHalf a) 0 s) i ≡ a + i
+place-at h a s l g u i =
+    decide (eqb (h .rules) 1) (λ e. rw e (omega arith)) (λ e. rw (e, u) (omega arith))
 
 -- a 04 record sets the linear base
 module _ (size : ℕ) (h : Hex) (image map : List ℕ)
-    (right : rightSizesIn size (length image) (length map) ≡ true) (going : h .ended ≡ false)
-    (u : ℕ) (l : u < 65536) where
+    (right : rightSizesIn size (length image) (length map) ≡ true) (known : isRuleSet (h .rules) ≡ true)
+    (going : h .ended ≡ false) (u : ℕ) (l : u < 65536) where
   upper-bytes : Bytes (upperBytes u)
   upper-bytes zero = omega arith
   upper-bytes (suc zero) = omega arith
@@ -83,13 +81,14 @@ module _ (size : ℕ) (h : Hex) (image map : List ℕ)
   upper-shape = refl
 
   upper-taken : recordIn size h (line 0 4 (upperBytes u)) image map
-      ≡ given (file (hex (65536 * u) (h .segment) (h .ended) (h .taken)) image map)
+      ≡ given (file (hex (h .rules) (65536 * u) (h .segment) false (h .ended) (h .taken)) image map)
   upper-taken =
       let whole : u / 256 * 256 + u % 256 ≡ u = omega arith in
-      other-taken size h image map right going (closed 0 4 (upperBytes u))
+      other-taken size h image map right known going (closed 0 4 (upperBytes u))
       (closed-bytes 0 4 (upperBytes u) (lit< tt) (lit< tt) (lit< tt) upper-bytes) refl
       (sum-closed (content 0 4 (upperBytes u))) upper-shape refl
-      ∙ ap (λ (x : ℕ). given (file (hex (65536 * x) (h .segment) (h .ended) (h .taken)) image map)) whole
+      ∙ ap (λ (x : ℕ).
+      given (file (hex (h .rules) (65536 * x) (h .segment) false (h .ended) (h .taken)) image map)) whole
 
 module _ (size : ℕ) (image map : List ℕ) where
   lines-step : (a u k b c d v : ℕ) (s : List ℕ) → a ≤ size
@@ -112,8 +111,10 @@ module _ (size : ℕ) (image map : List ℕ) where
 
   -- all named bytes below a have been read, and nothing else; the linear base is that of the upper half v
   record Upto (a v : ℕ) (f : File) : Type 0 where
+    pub known : isRuleSet (f .reader .rules) ≡ true
     pub linear : f .reader .linear ≡ 65536 * v
     pub segment : f .reader .segment ≡ 0
+    pub unsegmented : f .reader .segmented ≡ false
     pub going : f .reader .ended ≡ false
     pub none : f .reader .taken ≡ false → (j : ℕ) → j < a → named map j ≡ false
     pub imageLength : length (f .image) ≡ size
@@ -129,8 +130,10 @@ module _ (size : ℕ) (image map : List ℕ) where
       → Upto b v f
   upto-skip a b v f u l h =
       record {
+        known = u .known;
         linear = u .linear;
         segment = u .segment;
+        unsegmented = u .unsegmented;
         going = u .going;
         none = λ e j m. by j (u .none e j) (h j) m;
         imageLength = u .imageLength;
@@ -152,13 +155,16 @@ module _ (size : ℕ) (image map : List ℕ) where
   -- the file after a 04 record
   abbrev raised : ℕ → File → File
   raised v f =
-      let h = f .reader in file (hex (65536 * v) (h .segment) (h .ended) (h .taken)) (f .image) (f .map)
+      let h = f .reader in
+      file (hex (h .rules) (65536 * v) (h .segment) false (h .ended) (h .taken)) (f .image) (f .map)
 
   upto-raised : (a u v : ℕ) (f : File) → Upto a u f → Upto a v (raised v f)
   upto-raised a u v f p =
       record {
+        known = p .known;
         linear = refl;
         segment = p .segment;
+        unsegmented = refl;
         going = p .going;
         none = p .none;
         imageLength = p .imageLength;
@@ -195,23 +201,25 @@ module _ (size : ℕ) (image map : List ℕ) where
 
       run-read : recordIn size (f .reader) (line (lowerHalf a) 0 part) (f .image) (f .map) ≡ given more
       run-read =
-          let at = place-at (f .reader) a part (u .linear) (u .segment) in
           data-taken size (f .reader) (f .image) (f .map)
-          (right-sizes size _ _ (u .imageLength) (u .mapLength)) (u .going) (closed (lowerHalf a) 0 part)
+          (right-sizes size _ _ (u .imageLength) (u .mapLength)) (u .known) (u .going)
+          (closed (lowerHalf a) 0 part) a
           (closed-bytes (lowerHalf a) 0 part (omega arith) (lit< tt) (omega (arith, part-length)) part-bytes)
           (omega (arith, length-append part (checksumOf (content (lowerHalf a) 0 part) ∷ [])))
           (sum-closed (content (lowerHalf a) 0 part))
           refl
-          (omega (arith, part-length, at))
-          (rw (at, part-length) (any-none (named (f .map)) a n (λ j l. u .above (a + j) (omega arith))))
-          ∙ ap given
-          (placed-at (f .reader) a part (u .linear) (u .segment) (f .image) (f .map) ∙ rw part-length)
+          (place-at (f .reader) a part (u .linear) (u .segment) (u .unsegmented))
+          (omega (arith, part-length))
+          (rw part-length (any-none (named (f .map)) a n (λ j l. u .above (a + j) (omega arith))))
+          ∙ rw (take-at part (checksumOf (content (lowerHalf a) 0 part) ∷ []) (length part) refl, part-length)
 
       upto-more : Upto (a + n) (upperHalf a) more
       upto-more =
           record {
+            known = u .known;
             linear = u .linear;
             segment = u .segment;
+            unsegmented = u .unsegmented;
             going = u .going;
             none = λ e j m. absurd (true-false (rw (lt-ltb 0 n some) at e));
             imageLength = length-stored new (f .image) a part ∙ u .imageLength;
@@ -261,11 +269,13 @@ module _ (size : ℕ) (image map : List ℕ) where
             (λ t. none-named x (ltb-false x a t)))))
 
         abbrev last : File
-        last = file (hex (f .reader .linear) (f .reader .segment) true (f .reader .taken)) (f .image) (f .map)
+        last =
+            let h = f .reader in
+            file (hex (h .rules) (h .linear) (h .segment) (h .segmented) true (h .taken)) (f .image) (f .map)
 
         closed-well : closeOf (last .reader) ≡ given (last .reader)
         unfolding first closeOf
-        closed-well = rw was-taken
+        closed-well = rw (u .known, was-taken)
 
         at-end : Returned size image map a v (suc k) f
         at-end =
@@ -276,7 +286,7 @@ module _ (size : ℕ) (image map : List ℕ) where
                   (lines-step a v k 0 1 (size + 1) v [] l (step-end size image map a v l h))
                   ∙ read-step (line 0 1 []) (lines size image map (size + 1) v k) f last
                   (end-taken size (f .reader) (f .image) (f .map)
-                  (right-sizes size _ _ (u .imageLength) (u .mapLength)) (u .going))
+                  (right-sizes size _ _ (u .imageLength) (u .mapLength)) (u .known) (u .going))
                   ∙ ap (λ (s : List (List ℕ)). readLines size s last) (lines-past size image map whole k v)
                   ∙ read-none last;
               back =
@@ -357,7 +367,8 @@ module _ (size : ℕ) (image map : List ℕ) where
                     ∙ read-step (line 0 4 (upperBytes half)) (lines size image map a half k) f
                     (raised half f)
                     (upper-taken size (f .reader) (f .image) (f .map)
-                    (right-sizes size _ _ (u .imageLength) (u .mapLength)) (u .going) half (omega arith))
+                    (right-sizes size _ _ (u .imageLength) (u .mapLength)) (u .known) (u .going) half
+                    (omega arith))
                     ∙ r .read;
                 back = r .back;
               }
@@ -374,15 +385,18 @@ module _ (size : ℕ) (image map : List ℕ) where
           (λ h n s b. at-upper a v k f u (r .within) h n
           (from-here k a _ _ (upto-raised a v (upperHalf (lowest size map a)) f u) s (omega arith)))
 
-      file-returns : Returned size image map 0 0 (recordsMost size) (started size)
-      file-returns =
+      file-returns : (rules : ℕ) → isRuleSet rules ≡ true
+          → Returned size image map 0 0 (recordsMost size) (started size rules)
+      file-returns rules k =
           from-here (recordsMost size) 0 0 _ upto-none (reached-start size image map) (omega arith)
         where
-          upto-none : Upto 0 0 (started size)
+          upto-none : Upto 0 0 (started size rules)
           upto-none =
               record {
+                known = k;
                 linear = refl;
                 segment = refl;
+                unsegmented = refl;
                 going = refl;
                 none = λ e j m. absurd (omega arith);
                 imageLength = length-replicate size 0xFF;
@@ -394,8 +408,10 @@ module _ (size : ℕ) (image map : List ℕ) where
               }
 
 -- Writing a file with a named byte record by record, from address 0 and upper half 0, and reading the records
--- back from a fresh reader is accepted throughout, closes, and gives the same map and the same named bytes.
-pub round-trip : (size : ℕ) (image map : List ℕ)
+-- back from a fresh reader under either rule set is accepted throughout, closes, and gives the same map and the
+-- same named bytes.
+pub round-trip : (size rules : ℕ) (image map : List ℕ)
+    → isRuleSet rules ≡ true
     → size ≤ 2 ^ 32
     → size % 16 ≡ 0
     → length image ≡ size
@@ -404,20 +420,21 @@ pub round-trip : (size : ℕ) (image map : List ℕ)
     → Bytes map
     → (x : ℕ)
     → named map x ≡ true
-    → Returned size image map 0 0 (recordsMost size) (started size)
-round-trip size image map fits whole il ml ib mb x nx =
-    file-returns size image map ib fits whole il ml mb x nx
+    → Returned size image map 0 0 (recordsMost size) (started size rules)
+round-trip size rules image map known fits whole il ml ib mb x nx =
+    file-returns size image map ib fits whole il ml mb x nx rules known
 
 -- So it is for both boards.
-pub boards-round-trip : (b : Board) (image map : List ℕ)
+pub boards-round-trip : (b : Board) (rules : ℕ) (image map : List ℕ)
     → let size = startOf (pagesOf b) in
-    rightSizesIn size (length image) (length map) ≡ true
+    isRuleSet rules ≡ true
+    → rightSizesIn size (length image) (length map) ≡ true
     → Bytes image
     → Bytes map
     → (x : ℕ)
     → named map x ≡ true
-    → Returned size image map 0 0 (recordsMost size) (started size)
-boards-round-trip b image map e ib mb x nx =
+    → Returned size image map 0 0 (recordsMost size) (started size rules)
+boards-round-trip b rules image map known e ib mb x nx =
     let s = sizes-right (startOf (pagesOf b)) (length image) (length map) e in
-    round-trip (startOf (pagesOf b)) image map (omega (arith, pages-few b)) (omega arith) (s .0) (s .1) ib mb
-    x nx
+    round-trip (startOf (pagesOf b)) rules image map known (omega (arith, pages-few b)) (omega arith) (s .0)
+    (s .1) ib mb x nx

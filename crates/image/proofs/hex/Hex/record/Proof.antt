@@ -1,4 +1,4 @@
--- `record` meets its contract: sizes and the end are tested, the rest is handed on.
+-- `record` meets its contract: sizes, rule set and the end are tested, the rest is handed on.
 use Prim.Native.Nat.{ℕ}
 use mathlib.Core.Bool.{true, false}
 use mathlib.Core.List.{List}
@@ -11,7 +11,7 @@ use Rattle.basis.specs.Units.{startOf, rightSizesIn}
 use Rattle.basis.specs.Board.{pagesOf}
 use Rattle.basis.specs.Laws.Boards.{sizes-fit}
 use Rattle.basis.specs.Refusals.{first}
-use Rattle.image.specs.Hex.{settledAs, settled, recordIn}
+use Rattle.image.specs.Hex.{settledAs, settled, isRuleSet, recordIn}
 use Rattle.image.specs.Record.{columnOf, wrong, pointed}
 use Rattle.image.specs.declared.hex.Hex.{Hex}
 use Rattle.image.proofs.hex.Hex.record.Statement.{statement}
@@ -24,10 +24,16 @@ module _ (size : ℕ) (h : Hex) (line image map : List ℕ) where
   unfolding first recordIn columnOf
   record-size e = simp e
 
-  record-ended : rightSizesIn size (length image) (length map) ≡ true → h .ended ≡ true
-      → settledAs (wrong 21 0) image map ≡ settled (pointed line (recordIn size h line image map)) image map
-  unfolding first recordIn columnOf
-  record-ended e t = simp (e, t)
+  module _ (e : rightSizesIn size (length image) (length map) ≡ true) where
+    record-unknown : isRuleSet (h .rules) ≡ false
+        → settledAs (wrong 34 0) image map ≡ settled (pointed line (recordIn size h line image map)) image map
+    unfolding first recordIn columnOf
+    record-unknown k = simp (e, k)
+
+    record-ended : isRuleSet (h .rules) ≡ true → h .ended ≡ true
+        → settledAs (wrong 21 0) image map ≡ settled (pointed line (recordIn size h line image map)) image map
+    unfolding first recordIn columnOf
+    record-ended k t = simp (e, k, t)
 
 -- what the first test says of the entry
 abbrev entry : tie.Else1 → tie.Start
@@ -37,22 +43,37 @@ sized : (c : tie.Else1) → let a = entry c .args in
     rightSizesIn (startOf (pagesOf (a .board))) (length (a .image .now)) (length (a .map .now)) ≡ true
 sized c = sym (c .before .right-sizes .ensures) ∙ not-false _ (c .if1 .left)
 
+-- and the second
+abbrev sized-at : tie.Else2 → tie.Else1
+sized-at c = c .before .before
+
+known : (c : tie.Else2) → isRuleSet (entry (sized-at c) .args .self .rules) ≡ true
+known c = sym (c .before .is-rule-set .ensures) ∙ not-false _ (c .if2 .left)
+
 returns : tie.Need-returns
 returns c = record-size _ _ _ _ _ (sym (c .before .right-sizes .ensures) ∙ not-true _ (c .if1 .taken))
 
 returns-2 : tie.Need-returns-2
-returns-2 c = record-ended _ _ _ _ _ (sized (c .before)) (c .if2 .taken)
-
-take-requires : tie.Need-take-requires
-take-requires c κs =
-    let tested = c .before .before .before .before in
-    let fit = sizes-fit (entry tested .args .board) _ _ (sized tested) in
-    (refl, fit .0, fit .2, c .before .before .before .if2 .left)
+returns-2 c =
+    record-unknown _ _ _ _ _ (sized (c .before .before))
+    (sym (c .before .is-rule-set .ensures) ∙ not-true _ (c .if2 .taken))
 
 returns-3 : tie.Need-returns-3
 returns-3 c =
+    let told = c .before in record-ended _ _ _ _ _ (sized (sized-at told)) (known told) (c .if3 .taken)
+
+take-requires : tie.Need-take-requires
+take-requires c κs =
+    let going = c .before .before .before in
+    let told = going .before in
+    let tested = sized-at told in
+    let fit = sizes-fit (entry tested .args .board) _ _ (sized tested) in
+    (refl, fit .0, fit .2, known told, going .if3 .left)
+
+returns-4 : tie.Need-returns-4
+returns-4 c =
     let t = c .before .before .before .before .before .take in
-    let tested = c .before .before .before .before .before .before .before .before .before .before in
+    let tested = sized-at (c .before .before .before .before .before .before .before .before .before .before) in
     let a = entry tested .args in
     let i = a .image .now in
     let m = a .map .now in
@@ -67,9 +88,11 @@ record-spec =
     (tie.spec
     (λ c κs. search needs)
     returns
+    (λ c κs. search needs)
     returns-2
+    returns-3
     (λ c. search needs)
     take-requires
     (λ c. search needs)
     (λ c. search needs)
-    returns-3)
+    returns-4)

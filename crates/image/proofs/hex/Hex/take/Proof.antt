@@ -1,14 +1,14 @@
 -- `take` meets its contract: what the characters spell is handed on.
 use Prim.Native.Nat.{ℕ, _/_, _≤_}
 use mathlib.Core.Path.{_≡_, refl, sym, ap, _∙_}
-use mathlib.Core.Bool.{false}
+use mathlib.Core.Bool.{true, false}
 use mathlib.Core.List.{List}
 use lib.ListN.{length, take, drop}
 use Rattle.basis.specs.Laws.Units.{right-sizes}
 use Rattle.basis.specs.Refusals.{given}
 use Rattle.image.specs.Digits.{decoded}
 use Rattle.image.specs.Record.{charactersOf, wrong, pointed}
-use Rattle.image.specs.Hex.{settledAs, settled, recordIn, applyIn}
+use Rattle.image.specs.Hex.{settledAs, settled, isRuleSet, recordIn, applyIn}
 use Rattle.image.specs.declared.hex.Hex.{Hex}
 use Rattle.image.specs.Laws.Hex.{record-cut, characters-length, characters-bytes}
 use Rattle.image.specs.Laws.Pointed.{pointed-given, pointed-stays}
@@ -22,16 +22,16 @@ use Rattle.image.proofs.hex.Hex.take.Tie as tie
 
 -- the ways out, each by the table
 module _ (size : ℕ) (h : Hex) (line image map : List ℕ) (p : length image ≡ size) (q : length map ≡ size / 8)
-    (going : h .ended ≡ false) where
+    (known : isRuleSet (h .rules) ≡ true) (going : h .ended ≡ false) where
   take-refused : (k c : ℕ) → wrong k c ≡ pointed line (charactersOf line)
       → settledAs (wrong k c) image map ≡ settled (pointed line (recordIn size h line image map)) image map
   take-refused k c e =
-      rw (record-cut size h image map line (right-sizes size _ _ p q) going)
+      rw (record-cut size h image map line (right-sizes size _ _ p q) known going)
       (pointed-stays line (charactersOf line) _ k c image map e)
 
   take-applied : (b : List ℕ) → charactersOf line ≡ given tt → b ≡ decoded (drop 1 line)
       → applyIn size h (length line) b image map ≡ recordIn size h line image map
-  take-applied b e s = rw (record-cut size h image map line (right-sizes size _ _ p q) going, e, s)
+  take-applied b e s = rw (record-cut size h image map line (right-sizes size _ _ p q) known going, e, s)
 
 -- the entry, and what is known where the characters passed
 abbrev lent-at : tie.After-characters-arg → tie.Start
@@ -76,7 +76,7 @@ returns c =
     let start = entry checked in
     let pre = start .pre in
     take-refused _ _ (start .args .line .now) (start .args .image .now) (start .args .map .now) refl
-    (omega (arith, pre .1)) (pre .3) _ _
+    (omega (arith, pre .1)) (pre .3) (pre .4) _ _
     (sym (ap paperCheck (c .before .checked .given .1)) ∙ checked .characters .ensures .0)
 
 apply-requires : tie.Need-apply-requires
@@ -100,7 +100,7 @@ returns-2 c =
     applied .apply .ensures
     ∙ ap (λ x. settled (pointed (line-at told) x) (now (start .args .image)) (now (start .args .map)))
     (take-applied _ _ _ (start .args .image .now) (start .args .map .now) refl (omega (arith, pre .1))
-    (pre .3) _ (passed told) (spelt told))
+    (pre .3) (pre .4) _ (passed told) (spelt told))
 
 pub take-spec : {M : Type 1} → statement M
 take-spec =
