@@ -43,7 +43,7 @@ takenAnswer s (given u) next k = record { number = 0; answered = k; loader = loa
 
 -- the hex reader; before a start there is none
 abbrev pub noReader : HexState
-noReader = record { board = 0; linear = 0; segment = 0; ended = 0; taken = 0 }
+noReader = record { board = 0; rules = 0; linear = 0; segment = 0; segmented = 0; ended = 0; taken = 0 }
 
 -- the next one is for the same board; a refusal has a column, 0 where there is none
 abbrev pub hexAnswer : HexState → ℕ → Pointed Hex → HexRead

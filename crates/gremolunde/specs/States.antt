@@ -63,14 +63,23 @@ loaderShown l =
 -- the board that a hex reader carries stands beside what it has read
 abbrev pub hexMeant : HexState → Hex
 hexMeant s =
-    record { linear = s .linear; segment = s .segment; ended = isSet (s .ended); taken = isSet (s .taken) }
+    record {
+      rules = s .rules;
+      linear = s .linear;
+      segment = s .segment;
+      segmented = isSet (s .segmented);
+      ended = isSet (s .ended);
+      taken = isSet (s .taken);
+    }
 
 abbrev pub hexShown : ℕ → Hex → HexState
 hexShown board h =
     record {
       board = board;
+      rules = h .rules;
       linear = h .linear;
       segment = h .segment;
+      segmented = flagOf (h .segmented);
       ended = flagOf (h .ended);
       taken = flagOf (h .taken);
     }

@@ -43,17 +43,24 @@ pub struct HexWritten {
 }
 
 #[no_mangle]
-pub extern "C" fn gremolunde_hex_start(board: u32, image: &mut [u8], map: &mut [u8]) -> HexRead
+pub extern "C" fn gremolunde_hex_start(
+    board: u32,
+    rules: u32,
+    image: &mut [u8],
+    map: &mut [u8],
+) -> HexRead
     ensures { λ r. ⌜
         (let i = now (image .entry) in
         let m = now (map .entry) in
-        let a = onBoard (boardOf board) (λ (b : Board). startIn (startOf (pagesOf b)) i m) in
+        let a = onBoard (boardOf board) (λ (b : Board). startIn (startOf (pagesOf b)) rules i m) in
         let o = settled (pointed noLine a) i m in
         (r ≡ hexAnswer noReader board (o .answer)) × (now (image .exit) ≡ o .image) × (now (map .exit) ≡ o .map))
         ⌝ }
 {
     match Board::of(board) {
-        Known::Board(known) => hex_answer(no_reader(), board, Hex::start(known, image, map)),
+        Known::Board(known) => {
+            hex_answer(no_reader(), board, Hex::start(known, rules, image, map))
+        }
         Known::Unknown => hex_unknown(no_reader()),
     }
 }
@@ -64,8 +71,10 @@ fn no_reader() -> HexState
 {
     HexState {
         board: 0,
+        rules: 0,
         linear: 0,
         segment: 0,
+        segmented: 0,
         ended: 0,
         taken: 0,
     }

@@ -27,12 +27,14 @@ pub struct LoaderState {
     pub added_read: u8,
 }
 
-// `board` is its number of pages.
+// `board` is its number of pages, `rules` the number of its rule set.
 #[repr(C)]
 pub struct HexState {
     pub board: u32,
+    pub rules: u32,
     pub linear: u32,
     pub segment: u32,
+    pub segmented: u8,
     pub ended: u8,
     pub taken: u8,
 }
@@ -117,8 +119,10 @@ pub fn hex_meant(state: HexState) -> Hex
     ensures { λ r. ⌜ r ≡ hexMeant state ⌝ }
 {
     Hex {
+        rules: state.rules,
         linear: state.linear,
         segment: state.segment,
+        segmented: state.segmented != 0,
         ended: state.ended != 0,
         taken: state.taken != 0,
     }
@@ -129,8 +133,10 @@ pub fn hex_shown(board: u32, reader: Hex) -> HexState
 {
     HexState {
         board,
+        rules: reader.rules,
         linear: reader.linear,
         segment: reader.segment,
+        segmented: flag(reader.segmented),
         ended: flag(reader.ended),
         taken: flag(reader.taken),
     }

@@ -68,7 +68,7 @@ readFrom size n (l ∷ ls) f =
     unlessRefused (n + 1) (f .image) (f .map) (pointed l (recordIn size (f .reader) l (f .image) (f .map)))
     (readFrom size (n + 1) ls)
 
--- a whole text: 20 where image or map has another size, else line by line
+-- a whole text, under rule set 1: 20 where image or map has another size, else line by line
 unfoldable pub readIn : ℕ → List ℕ → List ℕ → List ℕ → Result
 readIn size t image map =
-    unlessRefused 0 image map (pointed noLine (startIn size image map)) (readFrom size 0 (textLines t))
+    unlessRefused 0 image map (pointed noLine (startIn size 1 image map)) (readFrom size 0 (textLines t))

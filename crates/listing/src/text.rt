@@ -12,6 +12,7 @@ ghost use Rattle.listing.specs.Paper.{paperReading};
 use basis::board::Board;
 use basis::buffers::first;
 use image::hex::Hex;
+use image::hex::RULES_1;
 use image::hex::Read;
 use image::record::LONGEST;
 use image::record::Refusal;
@@ -46,17 +47,17 @@ struct Stretch {
 }
 
 impl Reading {
-    // A text at its start, with image and map as the hex reader starts them.
+    // A text at its start, with image and map as the hex reader starts them under rule set 1.
     pub fn start(board: Board, image: &mut [u8], map: &mut [u8]) -> Reading
         ensures { λ r. ⌜
             (let i = now (image .entry) in
             let m = now (map .entry) in
-            let o = settled (pointed noLine (startIn (startOf (pagesOf board)) i m)) i m in
+            let o = settled (pointed noLine (startIn (startOf (pagesOf board)) 1 i m)) i m in
             (paperReading r ≡ afterLine 0 (o .answer)) × (now (image .exit) ≡ o .image)
             × (now (map .exit) ≡ o .map))
             ⌝ }
     {
-        match Hex::start(board, image, map) {
+        match Hex::start(board, RULES_1, image, map) {
             Read::Taken(hex) => Reading::Open(Text {
                 hex,
                 lines: 0,

@@ -38,8 +38,10 @@ loader-back l =
 pub hex-back : (board : ℕ) (h : Hex) → hexMeant (hexShown board h) ≡ h
 hex-back board h =
     λ i. record {
+      rules = h .rules;
       linear = h .linear;
       segment = h .segment;
+      segmented = flag-back (h .segmented) i;
       ended = flag-back (h .ended) i;
       taken = flag-back (h .taken) i;
     }

@@ -100,8 +100,11 @@ first-decides size near row base rest n e some low =
     (λ s. rw (s, lt-ltb 0 row (some (ltb-true 0 n s)))
     (decide (ltb size (near + row)) (λ t. rw t)
     (λ t. rw t (decide (ltb 0 rest)
-    (λ q. rw (q, le-ltb size (base + rest)
-    (omega (arith, ltb-false size (near + row) t))))
+    (λ q. rw (
+      q,
+      le-ltb size (base + rest)
+          (omega (arith, ltb-false size (near + row) t)),
+    ))
     (λ q. rw q)))))
     (λ s. let r : row ≡ 0 = omega (arith, ltb-false 0 n s) in
     let t : rest ≡ 0 = omega (arith, ltb-false 0 n s) in
@@ -215,8 +218,11 @@ module _ (h : Hex) (b : List ℕ) where
     pub rest-low : baseOf h + rest ≤ near + row
     rest-low =
         decide (ltb row (count b))
-        (λ e. omega (arith, row-end (h .linear) (h .segment) (address b) (count b) one (h .segmented) o
-        (ltb-true row (count b) e)))
+        (λ e. omega (
+          arith,
+          row-end (h .linear) (h .segment) (address b) (count b) one (h .segmented) o
+              (ltb-true row (count b) e),
+        ))
         (λ e. omega (arith, ltb-false row (count b) e))
 
     -- 29: the first row's end decides

@@ -13,7 +13,7 @@ use lib.Seq.{take-all, take-length, take-nil, take-take, take-append-le, take-su
 use Rattle.basis.specs.Units.{rightSizesIn}
 use Rattle.basis.specs.Laws.Choice.{decide}
 use Rattle.basis.specs.Refusals.{Answer, refused, _when_, first}
-use Rattle.image.specs.Hex.{Settled, File, file, settledAs, settled, startIn, recordIn, closeOf}
+use Rattle.image.specs.Hex.{Settled, File, file, settledAs, settled, startIn, isRuleSet, recordIn, closeOf}
 use Rattle.image.specs.Record.{recordMost, columnOf, Pointed, wrong, right, pointed, noLine}
 use Rattle.image.specs.declared.hex.Hex.{Hex}
 use Rattle.listing.specs.Text.{Blame, stopped, going, atLine, Result, result, lineRoom, trimmedOf, linesFrom, unlessRefused, readFrom, readIn}
@@ -23,9 +23,9 @@ use Rattle.listing.specs.declared.text.Text.{Text}
 
 -- ---- of a line that is too long, only its first character and its length count
 
--- 20, 21 or 22, else 23
-abbrev early : Bool → Bool → Bool → Answer File
-early s e n = first (20 when s ∷ 21 when e ∷ 22 when n ∷ []) (refused 23)
+-- 20, 34, 21 or 22, else 23
+abbrev early : Bool → Bool → Bool → Bool → Answer File
+early s u e n = first (20 when s ∷ 34 when u ∷ 21 when e ∷ 22 when n ∷ []) (refused 23)
 
 short-column : (n c : ℕ) → columnIn n n c ≡ c
 short-column n c = decide (eqb c n) (λ t. rw t (sym (eqb-true c n t))) (λ t. rw t)
@@ -33,7 +33,9 @@ short-column n c = decide (eqb c n) (λ t. rw t (sym (eqb-true c n t))) (λ t. r
 module _ (size : ℕ) (h : Hex) (image map : List ℕ) where
   -- by its first character c
   abbrev earlyBy : ℕ → Answer File
-  earlyBy c = early (not (rightSizesIn size (length image) (length map))) (h .ended) (not (eqb c 0x3A))
+  earlyBy c =
+      early (not (rightSizesIn size (length image) (length map))) (not (isRuleSet (h .rules))) (h .ended)
+      (not (eqb c 0x3A))
 
   long-record : (l : List ℕ) → recordMost < length l → recordIn size h l image map ≡ earlyBy (getD l 0 0)
   unfolding first recordIn
@@ -43,14 +45,15 @@ module _ (size : ℕ) (h : Hex) (image map : List ℕ) where
       rw (ne-eqb _ _ some, le-ltb _ _ least, lt-ltb _ _ g)
 
   -- whatever is kept of it
-  long-settled : (k l : List ℕ) (s e n : Bool) → (0 ≡ length k → ⊥)
-      → settledWholly (length l) (length k) (settled (pointed k (early s e n)) image map)
-      ≡ settled (pointed l (early s e n)) image map
+  long-settled : (k l : List ℕ) (s u e n : Bool) → (0 ≡ length k → ⊥)
+      → settledWholly (length l) (length k) (settled (pointed k (early s u e n)) image map)
+      ≡ settled (pointed l (early s u e n)) image map
   unfolding first columnOf
-  long-settled k l true e n some = rw (ne-eqb 0 (length k) some)
-  long-settled k l false true n some = rw (ne-eqb 0 (length k) some)
-  long-settled k l false false true some = rw (ne-eqb 0 (length k) some)
-  long-settled k l false false false some = rw (eq-eqb (length k) (length k) refl)
+  long-settled k l true u e n some = rw (ne-eqb 0 (length k) some)
+  long-settled k l false true e n some = rw (ne-eqb 0 (length k) some)
+  long-settled k l false false true n some = rw (ne-eqb 0 (length k) some)
+  long-settled k l false false false true some = rw (ne-eqb 0 (length k) some)
+  long-settled k l false false false false some = rw (eq-eqb (length k) (length k) refl)
 
   -- of one that is kept whole, the reader's column stands
   short-settled : (n : ℕ) (a : Pointed File) → settledWholly n n (settled a image map) ≡ settled a image map
@@ -71,7 +74,8 @@ module _ (size : ℕ) (h : Hex) (image map : List ℕ) where
         getD-take n l 0 0 (omega arith),
         long-record l (omega arith),
       )
-      (long-settled (take n l) l _ (h .ended) (not (eqb (getD l 0 0) 0x3A)) (λ e. omega arith)))
+      (long-settled (take n l) l _ (not (isRuleSet (h .rules))) (h .ended) (not (eqb (getD l 0 0) 0x3A))
+      (λ e. omega arith)))
       (λ t. rw (take-all n l (ltb-false n (length l) t))
       (short-settled (length l) (pointed l (recordIn size h l image map))))
 
@@ -277,11 +281,11 @@ module _ (size : ℕ) where
 
   -- from the start on, however the text was cut: what the paper says of its lines, with the column
   pub text-reads : (text line image map : List ℕ) → lineRoom ≤ length line → length text + 1 < 2 ^ 64
-      → cameTo size (fedAfter 0 (settled (pointed noLine (startIn size image map)) image map) line) text
+      → cameTo size (fedAfter 0 (settled (pointed noLine (startIn size 1 image map)) image map) line) text
       ≡ readIn size text image map
   unfolding readIn
   text-reads text line image map room few =
-      went 0 line image map text (pointed noLine (startIn size image map))
+      went 0 line image map text (pointed noLine (startIn size 1 image map))
       (readFrom size 0 (linesFrom [] text))
       (λ f. reads text [] line (f .image) (f .map) (textAt 0 (f .reader)) room
       (held-none 0 (f .reader) line) (omega arith) (omega arith))

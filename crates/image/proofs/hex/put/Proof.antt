@@ -45,8 +45,7 @@ returns-3 c =
     let free = free-at first in
     let left = first-at (free .before) in
     let e = sym (left .before .any-named .ensures) ∙ left .if1 .left in
-    let f = sym (free .before .any-named2 .ensures) ∙ free .if2 .left in
-    (
+    let f = sym (free .before .any-named2 .ensures) ∙ free .if2 .left in (
       rw (e, f),
       rw (e, f) (then-copied _ _ _ _ _ _ _ (first .lay .ensures .0) (second .lay2 .ensures .0)),
       rw (e, f) (then-named _ _ _ _ _ _ _ (first .lay .ensures .1) (second .lay2 .ensures .1)),

@@ -15,8 +15,7 @@ returns-2 c =
 
 returns-3 : tie.Need-returns-3
 returns-3 c =
-    let s = c .before .before .before .before .before .args .self in
-    (
+    let s = c .before .before .before .before .before .args .self in (
       simp (
         ne-eqb _ _ (c .before .before .before .if1 .left),
         not-false (s .segmented) (c .before .if2 .left),
@@ -27,8 +26,7 @@ returns-3 c =
 
 returns-4 : tie.Need-returns-4
 returns-4 c =
-    let s = c .before .before .before .before .before .args .self in
-    (
+    let s = c .before .before .before .before .before .args .self in (
       simp (
         ne-eqb _ _ (c .before .before .before .if1 .left),
         not-false (s .segmented) (c .before .if2 .left),
