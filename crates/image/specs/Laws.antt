@@ -5,5 +5,6 @@ pub mod Hex
 pub mod Pointed
 pub mod Records
 pub mod RoundTrip
+pub mod Series
 pub mod Cases
 pub mod Determined

@@ -6,4 +6,5 @@ pub mod Hex
 pub mod Writer
 pub mod Paper
 pub mod RoundTrip
+pub mod Series
 pub mod Laws

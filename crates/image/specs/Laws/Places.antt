@@ -296,8 +296,15 @@ module _ (h : Hex) (b : List ℕ) (a : ℕ) (run : (i : ℕ) → place h b i ≡
         name-row (place h b) map 0 a (count b) (in-row (count b)),
       )
 
--- In rule set 1 all are: 29, 30 and the effect are those of linear base + segment base + AAAA as the place.
-pub first-set : (h : Hex) (b : List ℕ) → h .rules ≡ 1
-    → (i : ℕ)
-    → place h b i ≡ h .linear + h .segment + address b + i
-first-set h b e i = rw (eq-eqb (h .rules) 1 e)
+-- In rule set 1 all records have them so, whatever governs: 29, 30 and the effect are the paper's, by the place
+-- linear base + segment base + AAAA.
+pub first-set : (size : ℕ) (h : Hex) (b image map : List ℕ) → h .rules ≡ 1
+    → let a = h .linear + h .segment + address b in
+    (pastBoard size h b ≡ both (ltb 0 (count b)) (ltb size (a + count b)))
+    × (namedBefore h b map ≡ anyNamed map a (count b))
+    × (placed h b image map
+    ≡ file (fed h (count b)) (copyOf image a (payload b)) (nameAllOf map a (count b)))
+first-set size h b image map e =
+    let a = h .linear + h .segment + address b in
+    let run : (i : ℕ) → place h b i ≡ a + i = λ i. rw (eq-eqb (h .rules) 1 e) refl in
+    (past-run h b a run size, named-run h b a run map, placed-run h b a run image map)
