@@ -11,7 +11,7 @@ use Rattle.basis.specs.Units.{startOf}
 use Rattle.basis.specs.Refusals.{Answer, refused, given, first}
 use Rattle.basis.specs.Sums.{plainSum, sumOf}
 use Rattle.image.specs.Digits.{digitOf, digitsBefore, decoded}
-use Rattle.image.specs.Hex.{File, hex, fresh, putEach, nameEach, recordIn}
+use Rattle.image.specs.Hex.{File, hex, fresh, place, putEach, nameEach, recordIn}
 use Rattle.image.specs.Record.{columnOf, Pointed, wrong, right, pointed}
 use Rattle.image.specs.RoundTrip.{lines, recordsMost}
 use Rattle.image.specs.Writer.{letterOf, spelt, Step, step, text, stepFrom}
@@ -109,35 +109,40 @@ abbrev running : List ℕ
 running = 0x04 ∷ 0xFF ∷ 0xFE ∷ 0x00 ∷ 0x11 ∷ 0x22 ∷ 0x33 ∷ 0x44 ∷ 0x55 ∷ []
 
 -- read under a rule set, with these bases, under 02 or not, with this place named before
-abbrev ran : ℕ → ℕ → ℕ → Bool → ℕ → Answer File
+abbrev ran : ℕ → ℕ → ℕ → Bool → ℕ → ℕ
 ran rules linear segment segmented before =
-    recordIn 0x10010 (hex rules linear segment segmented false false) (0x3A ∷ spelt running)
-    (replicate 0x10010 0xFF) (nameOf (replicate 0x2002 0) before)
+    number
+    (recordIn 0x10010 (hex rules linear segment segmented false false) (0x3A ∷ spelt running)
+    (replicate 0x10010 0xFF) (nameOf (replicate 0x2002 0) before))
 
--- its four bytes at these places
-abbrev landed : Answer File → ℕ → ℕ → ℕ → ℕ → Bool
-landed a p q r s =
-    all (eqb (byteAt a p) 0x11 ∷ eqb (byteAt a q) 0x22 ∷ eqb (byteAt a r) 0x33 ∷ eqb (byteAt a s) 0x44 ∷ [])
+-- taken, its four bytes at these places
+abbrev lands : ℕ → ℕ → ℕ → Bool → ℕ → ℕ → ℕ → ℕ → Bool
+lands rules linear segment segmented p q r s =
+    let at = place (hex rules linear segment segmented false false) running in
+    all
+    (eqb (ran rules linear segment segmented 5) 0
+    ∷ eqb (at 0) p ∷ eqb (at 1) q ∷ eqb (at 2) r ∷ eqb (at 3) s ∷ [])
 
 abbrev setCases : List Bool
 setCases =
     -- set 1 adds both bases and does not wrap
-    landed (ran 1 0 0 true 5) 0xFFFE 0xFFFF 0x10000 0x10001
+    lands 1 0 0 true 0xFFFE 0xFFFF 0x10000 0x10001
+    ∷ lands 1 1 2 true 0x10001 0x10002 0x10003 0x10004
     -- set 2 under 02: both ends of the segment; the linear base is not looked at
-    ∷ landed (ran 2 0x50000 0 true 5) 0xFFFE 0xFFFF 0x0 0x1
-    ∷ landed (ran 2 0 0x10 true 5) 0x1000E 0x1000F 0x10 0x11
+    ∷ lands 2 0x50000 0 true 0xFFFE 0xFFFF 0x0 0x1
+    ∷ lands 2 0 0x10 true 0x1000E 0x1000F 0x10 0x11
     -- set 2 otherwise: no wrap; the segment base is not looked at
-    ∷ landed (ran 2 0 0x50000 false 5) 0xFFFE 0xFFFF 0x10000 0x10001
-    -- one byte of the high part past the board, though both ends lie on it
-    ∷ eqb (number (ran 2 0 0x11 true 5)) 29
+    ∷ lands 2 0 0x50000 false 0xFFFE 0xFFFF 0x10000 0x10001
+    -- one byte of the high part past the board, though both ends of the record lie on it
+    ∷ eqb (ran 2 0 0x11 true 5) 29
     -- a place named before, in the high part and in the low one
-    ∷ eqb (number (ran 2 0 0 true 0xFFFF)) 30
-    ∷ eqb (number (ran 2 0 0 true 1)) 30
-    -- which are free in set 1
-    ∷ eqb (number (ran 1 0 0 true 1)) 0
+    ∷ eqb (ran 2 0 0 true 0xFFFF) 30
+    ∷ eqb (ran 2 0 0 true 1) 30
+    -- which set 1 leaves free
+    ∷ eqb (ran 1 0 0 true 1) 0
     -- unknown sets
-    ∷ eqb (number (ran 0 0 0 true 1)) 34
-    ∷ eqb (number (ran 3 0 0 true 1)) 34
+    ∷ eqb (ran 0 0 0 true 1) 34
+    ∷ eqb (ran 3 0 0 true 1) 34
     ∷ []
 
 pub set-cases : all setCases ≡ true
