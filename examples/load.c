@@ -1,7 +1,7 @@
-/* Loads a hex file as a host does: load FILE.hex [hold | reset | jump] [short | long]. Without a run kind it holds: the
- * file is written and verified, and nothing is started. Without a board it is the short one. The board is a loader in
- * this process; over a serial line `exchange` sends the packet and waits for the answer. Writes the service log's
- * record to standard output. */
+/* Loads a hex file as a host does: load FILE.hex [hold | reset | jump] [short | long] [1 | 2]. Without a run kind it
+ * holds: the file is written and verified, and nothing is started. Without a board it is the short one. The number is
+ * the rule set for the file's addresses, 1 without it. The board is a loader in this process; over a serial line
+ * `exchange` sends the packet and waits for the answer. Writes the service log's record to standard output. */
 #include "gremolunde.h"
 #include <stdio.h>
 #include <string.h>
@@ -22,6 +22,13 @@ static const board boards[] = {
     {"short", GREMOLUNDE_SHORT, GREMOLUNDE_SHORT_IMAGE, GREMOLUNDE_SHORT_MAP},
     {"long", GREMOLUNDE_LONG, GREMOLUNDE_LONG_IMAGE, GREMOLUNDE_LONG_MAP},
 };
+
+/* What the words ask for. */
+typedef struct asked {
+    uint32_t run;
+    const board *on;
+    uint32_t rules;
+} asked;
 
 /* More characters than any record has. */
 enum { KEPT = 600 };
@@ -48,10 +55,10 @@ static int next_line(FILE *file, uint8_t line[KEPT], size_t *length) {
 }
 
 /* The number that the file is refused with, 0 if it is taken; says which line is wrong, and where. */
-static uint32_t read_file(FILE *file, const board *on) {
+static uint32_t read_file(FILE *file, const board *on, uint32_t rules) {
     uint8_t line[KEPT];
     size_t length, lines = 0;
-    gremolunde_hex_read read = gremolunde_hex_start(on->pages, image, on->bytes, map, on->map_bytes);
+    gremolunde_hex_read read = gremolunde_hex_start(on->pages, rules, image, on->bytes, map, on->map_bytes);
     for (; read.number == 0 && next_line(file, line, &length); ++lines) {
         read = gremolunde_hex_record(read.reader, line, length < KEPT ? length : KEPT, image, on->bytes, map,
                                      on->map_bytes);
@@ -86,11 +93,20 @@ static const board *board_of(const char *word) {
     return NULL;
 }
 
-/* Takes the words behind the file's name: a run kind, then a board, each if it is there; 0 for any other word. */
-static int options(char **words, uint32_t *run, const board **on) {
-    words += *words != NULL && run_kind(*words, run);
+/* The rule set that a word names, or 0 for a word that names none. */
+static uint32_t rules_of(const char *word) {
+    return strcmp(word, "1") == 0 ? GREMOLUNDE_RULES_1 : strcmp(word, "2") == 0 ? GREMOLUNDE_RULES_2 : 0;
+}
+
+/* Takes the words behind the file's name: a run kind, then a board, then a rule set, each if it is there; 0 for any
+ * other word. */
+static int options(char **words, asked *ask) {
+    words += *words != NULL && run_kind(*words, &ask->run);
     if (*words != NULL && board_of(*words) != NULL) {
-        *on = board_of(*words++);
+        ask->on = board_of(*words++);
+    }
+    if (*words != NULL && rules_of(*words) != 0) {
+        ask->rules = rules_of(*words++);
     }
     return *words == NULL;
 }
@@ -104,21 +120,22 @@ static size_t exchange(size_t length, const board *on) {
 }
 
 int main(int count, char **words) {
-    uint32_t number, run = GREMOLUNDE_HOLD;
-    const board *on = &boards[0];
-    FILE *file = count >= 2 && options(words + 2, &run, &on) ? fopen(words[1], "rb") : NULL;
+    uint32_t number;
+    asked ask = {GREMOLUNDE_HOLD, &boards[0], GREMOLUNDE_RULES_1};
+    FILE *file = count >= 2 && options(words + 2, &ask) ? fopen(words[1], "rb") : NULL;
+    const board *on = ask.on;
     gremolunde_session_stepped now;
     gremolunde_length log;
     if (file == NULL) {
-        fprintf(stderr, "usage: load FILE.hex [hold | reset | jump] [short | long]\n");
+        fprintf(stderr, "usage: load FILE.hex [hold | reset | jump] [short | long] [1 | 2]\n");
         return 2;
     }
-    number = read_file(file, on);
+    number = read_file(file, on, ask.rules);
     if (number != 0) {
         return say("the file is refused", number);
     }
     loader = gremolunde_loader_new();
-    now = gremolunde_session_start(on->pages, run, image, on->bytes, map, on->map_bytes, packet, sizeof packet);
+    now = gremolunde_session_start(on->pages, ask.run, image, on->bytes, map, on->map_bytes, packet, sizeof packet);
     while (now.length > 0) {
         size_t length = exchange(now.length, on);
         now = gremolunde_session_step(now.session, length == 0, answer, length, image, on->bytes, map, on->map_bytes,

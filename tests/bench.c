@@ -1,11 +1,13 @@
 /* Does one job of the library so many times, for ./bench to count: bench JOB TIMES.
  *
- *   read, write              the full hex file, record by record
+ *   read, write              the full hex file, record by record, read under rule set 1
+ *   read-2                   the same file read under rule set 2
  *   w, v                     one packet of 250 bytes taken by the loader
  *   step-full, step-worst    one step of a session, turn after turn at another piece
  *   full, worst              a whole session of the host, every packet acknowledged
  *
- * These are for the short board; all but w and v are there for the long one too, with `-long` behind the name.
+ * These are for the short board; all but w and v are there for the long one too, with `-long` behind the name. On the
+ * long one alone a record can wrap inside its segment: read-wraps-long reads such records, a 02 record before each.
  *
  * Each writes one line: the bytes that its turns gave, a sum over all buffers, and the nanoseconds of all turns.
  * `second bench` has the same jobs over the same bytes, but for whole sessions of the long board, and must give the
@@ -22,6 +24,11 @@
 #define WORST_MAP 0x55 /* every second byte */
 #define FULL_MAP 0xFF
 #define ACK 0x06
+
+/* Each record that wraps has so many bytes on either side of its segment's end. */
+#define SEGMENT 65536
+#define PARAGRAPH 16
+#define HALF 8
 
 /* A board: its sizes, the records of its full hex file, and how it greets. */
 typedef struct sizes {
@@ -43,6 +50,7 @@ static uint8_t image[GREMOLUNDE_LONG_IMAGE], map[GREMOLUNDE_LONG_MAP], flash[GRE
 static uint8_t packet[GREMOLUNDE_PACKET], answer[GREMOLUNDE_ANSWER];
 static uint8_t lines[MOST_RECORDS][GREMOLUNDE_HEX_RECORD];
 static size_t lengths[MOST_RECORDS];
+static uint64_t data_bytes; /* of all lines */
 static gremolunde_loader loader;
 static gremolunde_session begun;
 
@@ -88,15 +96,24 @@ static uint64_t write_records(uint64_t k) {
     return characters;
 }
 
-static uint64_t read_records(uint64_t k) {
-    gremolunde_hex_read read = gremolunde_hex_start(board.pages, FILE_LENT);
+static uint64_t read_records(uint32_t rules) {
+    gremolunde_hex_read read = gremolunde_hex_start(board.pages, rules, FILE_LENT);
     size_t i, records = board.records;
-    (void)k;
     for (i = 0; i < records; i++) {
         read = gremolunde_hex_record(read.reader, lines[i], lengths[i] - 1, FILE_LENT);
     }
     must(read.number == 0 && gremolunde_hex_close(read.reader).number == 0, "reading");
-    return board.image;
+    return data_bytes;
+}
+
+static uint64_t read_1(uint64_t k) {
+    (void)k;
+    return read_records(GREMOLUNDE_RULES_1);
+}
+
+static uint64_t read_2(uint64_t k) {
+    (void)k;
+    return read_records(GREMOLUNDE_RULES_2);
 }
 
 static gremolunde_taken take_input(const uint8_t *input, size_t length) {
@@ -170,7 +187,49 @@ static uint64_t step_full(uint64_t k) { return step_spread(k, (board.image + PIE
 
 static uint64_t step_worst(uint64_t k) { return step_spread(k, board.image / 2, 2); }
 
-static void prepare_records(void) { write_records(0); }
+static void prepare_records(void) {
+    write_records(0);
+    data_bytes = board.image;
+}
+
+/* A line of a record: its count, address, type and data, and the checksum over them. */
+static void make_line(size_t line, uint16_t address, uint8_t type, const uint8_t *data, size_t count) {
+    static const char digits[] = "0123456789ABCDEF";
+    uint8_t bytes[5 + 2 * HALF] = {(uint8_t)count, (uint8_t)(address >> 8), (uint8_t)address, type}, sum = 0;
+    uint8_t *to = lines[line];
+    size_t i;
+    if (count > 0) {
+        memcpy(bytes + 4, data, count);
+    }
+    for (i = 0; i < 4 + count; i++) {
+        sum = (uint8_t)(sum + bytes[i]);
+    }
+    bytes[4 + count] = (uint8_t)-sum;
+    *to++ = ':';
+    for (i = 0; i < 5 + count; i++) {
+        *to++ = (uint8_t)digits[bytes[i] >> 4];
+        *to++ = (uint8_t)digits[bytes[i] & 15];
+    }
+    *to++ = '\n';
+    lengths[line] = (size_t)(to - lines[line]);
+}
+
+/* In each segment that ends on the board a record over its end. */
+static void prepare_wraps(void) {
+    uint32_t base;
+    size_t line = 0;
+    data_bytes = 0;
+    for (base = 0; base + SEGMENT <= board.image; base += PARAGRAPH) {
+        uint8_t value[] = {(uint8_t)(base / PARAGRAPH >> 8), (uint8_t)(base / PARAGRAPH)}, data[2 * HALF];
+        memcpy(data, image + base + SEGMENT - HALF, HALF);
+        memcpy(data + HALF, image + base, HALF);
+        make_line(line++, 0, 0x02, value, sizeof value);
+        make_line(line++, SEGMENT - HALF, 0x00, data, sizeof data);
+        data_bytes += sizeof data;
+    }
+    make_line(line++, 0, 0x01, NULL, 0);
+    board.records = line;
+}
 
 static void prepare_w(void) { make_loader(0x57); }
 
@@ -185,7 +244,8 @@ static const struct job {
     void (*prepare)(void);
     uint64_t (*turn)(uint64_t k);
 } jobs[] = {
-    {"read", &short_board, FULL_MAP, prepare_records, read_records},
+    {"read", &short_board, FULL_MAP, prepare_records, read_1},
+    {"read-2", &short_board, FULL_MAP, prepare_records, read_2},
     {"write", &short_board, FULL_MAP, prepare_records, write_records},
     {"w", &short_board, FULL_MAP, prepare_w, take},
     {"v", &short_board, FULL_MAP, prepare_v, take},
@@ -193,7 +253,9 @@ static const struct job {
     {"step-worst", &short_board, WORST_MAP, prepare_session, step_worst},
     {"full", &short_board, FULL_MAP, prepare_session, whole_session},
     {"worst", &short_board, WORST_MAP, prepare_session, whole_session},
-    {"read-long", &long_board, FULL_MAP, prepare_records, read_records},
+    {"read-long", &long_board, FULL_MAP, prepare_records, read_1},
+    {"read-2-long", &long_board, FULL_MAP, prepare_records, read_2},
+    {"read-wraps-long", &long_board, FULL_MAP, prepare_wraps, read_2},
     {"write-long", &long_board, FULL_MAP, prepare_records, write_records},
     {"step-full-long", &long_board, FULL_MAP, prepare_session, step_full},
     {"step-worst-long", &long_board, WORST_MAP, prepare_session, step_worst},

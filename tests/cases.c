@@ -724,9 +724,9 @@ static int give_reader(gremolunde_hex_read read, gremolunde_hex back) {
 }
 
 static int ask_hex(const word *words) {
-    (void)words;
-    return lend(0, BIT(IMAGE) | BIT(MAP)) &&
-           give_reader(gremolunde_hex_start(board, LENT(IMAGE), LENT(MAP)), (gremolunde_hex){0});
+    uint64_t rules = GREMOLUNDE_RULES_1;
+    return (words[0].at == NULL || number_of(words[0], UINT32_MAX, &rules)) && lend(0, BIT(IMAGE) | BIT(MAP)) &&
+           give_reader(gremolunde_hex_start(board, (uint32_t)rules, LENT(IMAGE), LENT(MAP)), (gremolunde_hex){0});
 }
 
 static int take_record(void) {
@@ -926,7 +926,7 @@ static const struct request {
     {"factory", 1, 1, ask_factory},
     {"reset", 0, 0, ask_reset},
     {"take", 1, 1, ask_take},
-    {"hex", 0, 0, ask_hex},
+    {"hex", 0, 1, ask_hex},
     {"record", 1, 1, ask_record},
     {"line", 1, 1, ask_line},
     {"close", 0, 0, ask_close},
@@ -1003,7 +1003,7 @@ static void begin(void) {
     }
     brought_to = part_at(INPUT, 0, 0);
     loader = gremolunde_loader_new();
-    reader = gremolunde_hex_start(board, LENT(IMAGE), LENT(MAP)).reader;
+    reader = gremolunde_hex_start(board, GREMOLUNDE_RULES_1, LENT(IMAGE), LENT(MAP)).reader;
 }
 
 int main(void) {

@@ -57,9 +57,9 @@ static void loaders(sizes s) {
     HOLD(gremolunde_loader_take(s.board, loader, hello, 1, flash, s.flash, answer, sizeof answer).number == 0);
 }
 
-static void files(sizes s) {
+static void files(sizes s, uint32_t rules) {
     static const uint8_t line[] = {':', '0', '0', '0', '0', '0', '0', '0', '1', 'F', 'F'};
-    gremolunde_hex reader = gremolunde_hex_start(s.board, image, s.image, map, s.map).reader;
+    gremolunde_hex reader = gremolunde_hex_start(s.board, rules, image, s.image, map, s.map).reader;
     HOLD(gremolunde_hex_record(reader, line, sizeof line, image, s.image, map, s.map).number == 0);
     HOLD(gremolunde_hex_write(s.board, both, s.image, both, s.map, 0, 0, text, sizeof text).number == 0);
 }
@@ -92,7 +92,8 @@ int main(void) {
     logs();
     for (i = 0; i < sizeof boards / sizeof *boards; i++) {
         loaders(boards[i]);
-        files(boards[i]);
+        files(boards[i], GREMOLUNDE_RULES_1);
+        files(boards[i], GREMOLUNDE_RULES_2);
         sessions(boards[i]);
     }
     return failed;

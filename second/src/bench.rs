@@ -4,7 +4,8 @@
 use std::hint::black_box;
 use std::time::Instant;
 
-use crate::hex::{self, Reader, RECORD_BUFFER};
+use crate::hex::{self, Reader, RuleSet, RECORD_BUFFER};
+use crate::listing::hex_digits;
 use crate::loader::{Loader, ACK, BACKSPACE};
 use crate::packet::{self, LONGEST, PIECE};
 use crate::session::{Event, Outcome, Phase, Run, Session};
@@ -16,6 +17,11 @@ const WORST_MAP: u8 = 0x55;
 /// Where W and V of one packet go.
 const PLACE: usize = 0x1234;
 const GOOD: &str = "the bytes are sound";
+/// From a segment's first byte to behind its last, and from one base to the next.
+const SEGMENT: usize = 0x1_0000;
+const PARAGRAPH: usize = 16;
+/// Each record that wraps has so many bytes on either side of its segment's end.
+const HALF: usize = 8;
 
 /// What the turns gave in bytes, a sum over all buffers, and the time.
 pub struct Done {
@@ -34,6 +40,8 @@ struct Bench {
     answer: [u8; GREETING_BYTES],
     lines: Vec<[u8; RECORD_BUFFER]>,
     lengths: Vec<usize>,
+    /// The data bytes of all lines.
+    data_bytes: usize,
     loader: Loader,
     begun: Option<Session>,
 }
@@ -47,8 +55,11 @@ type Job = (Board, u8, Prepare, Turn);
 fn job(name: &str) -> Option<Job> {
     use Board::{Long, Short};
     let job: Job = match name {
-        "read" => (Short, FULL_MAP, Bench::prepare_records, Bench::read),
-        "read-long" => (Long, FULL_MAP, Bench::prepare_records, Bench::read),
+        "read" => (Short, FULL_MAP, Bench::prepare_records, Bench::read_1),
+        "read-long" => (Long, FULL_MAP, Bench::prepare_records, Bench::read_1),
+        "read-2" => (Short, FULL_MAP, Bench::prepare_records, Bench::read_2),
+        "read-2-long" => (Long, FULL_MAP, Bench::prepare_records, Bench::read_2),
+        "read-wraps-long" => (Long, FULL_MAP, Bench::prepare_wraps, Bench::read_2),
         "write" => (Short, FULL_MAP, Bench::prepare_records, Bench::write),
         "write-long" => (Long, FULL_MAP, Bench::prepare_records, Bench::write),
         "w" => (
@@ -111,6 +122,7 @@ impl Bench {
             answer: [0; GREETING_BYTES],
             lines: vec![[0; RECORD_BUFFER]; records],
             lengths: vec![0; records],
+            data_bytes: 0,
             loader: Loader::factory(),
             begun: None,
         }
@@ -123,6 +135,34 @@ impl Bench {
 
     fn prepare_records(&mut self) {
         self.write(0);
+        self.data_bytes = self.image.len();
+    }
+
+    /// In each segment that ends on the board a record over its end.
+    fn prepare_wraps(&mut self) {
+        self.lines.clear();
+        self.lengths.clear();
+        for base in (0..=self.image.len() - SEGMENT).step_by(PARAGRAPH) {
+            let end = base + SEGMENT;
+            let value = (base / PARAGRAPH) as u16;
+            let data = [&self.image[end - HALF..end], &self.image[base..base + HALF]].concat();
+            self.push_line(0, 0x02, &value.to_be_bytes());
+            self.push_line((SEGMENT - HALF) as u16, 0x00, &data);
+            self.data_bytes += data.len();
+        }
+        self.push_line(0, 0x01, &[]);
+    }
+
+    /// One more line, of a record.
+    fn push_line(&mut self, address: u16, kind: u8, data: &[u8]) {
+        let [high, low] = address.to_be_bytes();
+        let mut bytes = [&[data.len() as u8, high, low, kind], data].concat();
+        bytes.push(packet::checksum(&bytes));
+        let text = format!(":{}\n", hex_digits(&bytes));
+        let mut line = [0; RECORD_BUFFER];
+        line[..text.len()].copy_from_slice(text.as_bytes());
+        self.lines.push(line);
+        self.lengths.push(text.len());
     }
 
     /// A board that serves, and holds the bytes that V asks for.
@@ -139,14 +179,22 @@ impl Bench {
         self.begun = Some(self.start().0);
     }
 
-    fn read(&mut self, _: u64) -> u64 {
+    fn read_1(&mut self, _: u64) -> u64 {
+        self.read(RuleSet::One)
+    }
+
+    fn read_2(&mut self, _: u64) -> u64 {
+        self.read(RuleSet::Two)
+    }
+
+    fn read(&mut self, rules: RuleSet) -> u64 {
         let (image, map) = (&mut self.image, &mut self.map);
-        let mut reader = Reader::start(self.board, image, map).expect(GOOD);
+        let mut reader = Reader::start(self.board, rules, image, map).expect(GOOD);
         for (line, length) in self.lines.iter().zip(&self.lengths) {
             reader.record(&line[..length - 1], image, map).expect(GOOD);
         }
         reader.close().expect(GOOD);
-        self.image.len() as u64
+        self.data_bytes as u64
     }
 
     fn write(&mut self, _: u64) -> u64 {

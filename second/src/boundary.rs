@@ -1,7 +1,7 @@
 //! Records as a C caller keeps them, with any value in any field, and what
 //! they mean.
 
-use crate::hex::Reader;
+use crate::hex::{check_sizes, HexRefusal, Reader, RuleSet};
 use crate::loader::{Condition, Loader, Protection};
 use crate::refusal::Refusal;
 use crate::session::{Outcome, Phase, Run, Session};
@@ -10,6 +10,10 @@ use crate::units::{Board, ByteAddress, Page};
 /// What a record that came from no start counts as: the wait for the erase of
 /// a page that no board has.
 const NOWHERE: Phase = Phase::Erase(Page(u32::MAX));
+
+/// The numbers of the rule sets.
+pub const RULES_1: u32 = 1;
+pub const RULES_2: u32 = 2;
 
 #[derive(Clone, Copy, Debug, PartialEq, Eq)]
 pub struct LoaderRecord {
@@ -108,53 +112,68 @@ impl From<Loader> for LoaderRecord {
 #[derive(Clone, Copy, Debug, Default, PartialEq, Eq)]
 pub struct ReaderRecord {
     pub board: u32,
+    pub rules: u32,
     pub linear: u32,
     pub segment: u32,
+    pub segmented: u8,
     pub ended: u8,
     pub taken: u8,
 }
 
 impl ReaderRecord {
-    /// The record as after a start for a board.
+    /// The record as after a start for a board under rule set 1.
     pub fn started(board: Board) -> ReaderRecord {
         ReaderRecord {
             board: board.pages(),
+            rules: RULES_1,
             ..ReaderRecord::default()
         }
     }
 
-    pub fn fields(&self) -> [u64; 5] {
+    pub fn fields(&self) -> [u64; 7] {
         [
             self.board.into(),
+            self.rules.into(),
             self.linear.into(),
             self.segment.into(),
+            self.segmented.into(),
             self.ended.into(),
             self.taken.into(),
         ]
     }
 
     pub fn of_fields(fields: &[u64]) -> Option<ReaderRecord> {
-        let [board, linear, segment, ended, taken] = *fields else {
+        let [board, rules, linear, segment, segmented, ended, taken] = *fields else {
             return None;
         };
         Some(ReaderRecord {
             board: board.try_into().ok()?,
+            rules: rules.try_into().ok()?,
             linear: linear.try_into().ok()?,
             segment: segment.try_into().ok()?,
+            segmented: segmented.try_into().ok()?,
             ended: ended.try_into().ok()?,
             taken: taken.try_into().ok()?,
         })
     }
 
-    /// What it means, if its board is known.
+    /// What it means, if its board is known, then its rule set.
     pub fn meaning(&self) -> Result<Reader, Refusal> {
         Ok(Reader {
             board: board(self.board)?,
+            rules: rule_set(self.rules)?,
             linear: self.linear,
             segment: self.segment,
+            segmented: self.segmented != 0,
             ended: self.ended != 0,
             taken: self.taken != 0,
         })
+    }
+
+    /// The same over a file, whose sizes go between the board and the rule set.
+    pub fn meaning_over(&self, image: &[u8], map: &[u8]) -> Result<Reader, Refusal> {
+        check_sizes(board(self.board)?, image, map)?;
+        self.meaning()
     }
 }
 
@@ -162,8 +181,13 @@ impl From<Reader> for ReaderRecord {
     fn from(reader: Reader) -> ReaderRecord {
         ReaderRecord {
             board: reader.board.pages(),
+            rules: match reader.rules {
+                RuleSet::One => RULES_1,
+                RuleSet::Two => RULES_2,
+            },
             linear: reader.linear,
             segment: reader.segment,
+            segmented: reader.segmented.into(),
             ended: reader.ended.into(),
             taken: reader.taken.into(),
         }
@@ -279,6 +303,28 @@ pub fn board(pages: u32) -> Result<Board, Refusal> {
     let mut all = Board::ALL.into_iter();
     let board = all.find(|board| board.pages() == pages);
     board.ok_or(Refusal::UnknownBoard)
+}
+
+/// The rule set under its number.
+pub fn rule_set(number: u32) -> Result<RuleSet, Refusal> {
+    match number {
+        RULES_1 => Ok(RuleSet::One),
+        RULES_2 => Ok(RuleSet::Two),
+        _ => Err(Refusal::UnknownRuleSet),
+    }
+}
+
+/// Opens a file for a number of pages under the number of a rule set.
+pub fn start_hex(
+    pages: u32,
+    rules: u32,
+    image: &mut [u8],
+    map: &mut [u8],
+) -> Result<Reader, HexRefusal> {
+    let board = board(pages)?;
+    // sizes go before the rule set
+    check_sizes(board, image, map)?;
+    Reader::start(board, rule_set(rules)?, image, map)
 }
 
 /// The run kind under its number; any other is the default.
@@ -404,14 +450,32 @@ mod tests {
     #[test]
     fn a_reader_is_what_its_record_means() {
         for board in Board::ALL {
-            let record = ReaderRecord {
-                linear: 0x1_0000,
-                segment: 0x10,
-                ended: 1,
-                taken: 1,
-                ..ReaderRecord::started(board)
+            for (rules, segmented) in [(1, 0), (1, 1), (2, 0), (2, 1)] {
+                let record = ReaderRecord {
+                    rules,
+                    linear: 0x1_0000,
+                    segment: 0x10,
+                    segmented,
+                    ended: 1,
+                    taken: 1,
+                    ..ReaderRecord::started(board)
+                };
+                assert_eq!(record.meaning().map(ReaderRecord::from), Ok(record));
+            }
+        }
+    }
+
+    /// No number counts as the set that its low bits name.
+    #[test]
+    fn a_number_that_no_rule_set_has_is_refused() {
+        assert_eq!([1, 2].map(rule_set), [Ok(RuleSet::One), Ok(RuleSet::Two)]);
+        for rules in [0, 3, 4, 257, 258, 0x1_0001, 0x1_0002, u32::MAX] {
+            assert_eq!(rule_set(rules), Err(Refusal::UnknownRuleSet));
+            let reader = ReaderRecord {
+                rules,
+                ..ReaderRecord::started(Board::Short)
             };
-            assert_eq!(record.meaning().map(ReaderRecord::from), Ok(record));
+            assert_eq!(reader.meaning(), Err(Refusal::UnknownRuleSet));
         }
     }
 
@@ -422,11 +486,14 @@ mod tests {
         assert_eq!(board(248), Ok(Board::Long));
         for pages in [0, 1, 31, 62, 123, 125, 247, 249, 380, 504, u32::MAX] {
             assert_eq!(board(pages), Err(Refusal::UnknownBoard));
-            let reader = ReaderRecord {
-                board: pages,
-                ..ReaderRecord::default()
-            };
-            assert_eq!(reader.meaning(), Err(Refusal::UnknownBoard));
+            for rules in [0, 1, 2] {
+                let reader = ReaderRecord {
+                    board: pages,
+                    rules,
+                    ..ReaderRecord::default()
+                };
+                assert_eq!(reader.meaning(), Err(Refusal::UnknownBoard));
+            }
             let session = SessionRecord {
                 board: pages,
                 ..waiting_for(6, 0, 0, 0)

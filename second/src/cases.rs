@@ -246,7 +246,8 @@ impl Desk {
             (b"factory", [byte]) => self.factory(words::byte(byte)?),
             (b"reset", []) => self.reset(),
             (b"take", [input]) => self.take(&words::bytes(input)?),
-            (b"hex", []) => self.start_hex(),
+            (b"hex", []) => self.start_hex(boundary::RULES_1),
+            (b"hex", [rules]) => self.start_hex(words::number(rules)?),
             (b"line", [bytes]) => self.take_record(&words::bytes(bytes)?),
             (b"close", []) => self.close(),
             (b"write", [from, upper]) => self.write(words::address(from)?, words::half(upper)?),
@@ -328,15 +329,17 @@ impl Desk {
         })
     }
 
-    fn start_hex(&mut self) -> Option<Answer> {
-        let board = boundary::board(self.board);
-        self.over_file(&[], |image, map| Reader::start(board?, image, map))
+    fn start_hex(&mut self, rules: u32) -> Option<Answer> {
+        let pages = self.board;
+        self.over_file(&[], |image, map| {
+            boundary::start_hex(pages, rules, image, map)
+        })
     }
 
     fn take_record(&mut self, text: &[u8]) -> Option<Answer> {
-        let reader = self.reader.meaning();
+        let record = self.reader;
         self.over_file(text, |image, map| {
-            let mut reader = reader?;
+            let mut reader = record.meaning_over(image, map)?;
             reader.record(text, image, map).map(|()| reader)
         })
     }

@@ -1,5 +1,7 @@
 //! Hex files: the reader and the writer.
 
+use std::ops::Range;
+
 use crate::map::{self, Map};
 use crate::packet::{checksum, sum};
 use crate::refusal::Refusal;
@@ -27,6 +29,8 @@ const CUT: u32 = 16;
 const END_RECORD: &[u8] = b":00000001FF\n";
 /// Addresses from one linear base to the next.
 const LINEAR_STEP: u32 = 65_536;
+/// The offsets of one segment.
+const SEGMENT_BYTES: u64 = 65_536;
 const UNNAMED: u8 = 0xFF;
 
 /// A refusal of the reader and its column, counted from 0; 0 where it has none.
@@ -52,25 +56,44 @@ impl Refusal {
     }
 }
 
+/// What the bases make of an offset, chosen when a file is opened.
+#[derive(Clone, Copy, Debug, PartialEq, Eq)]
+pub enum RuleSet {
+    /// Both bases add up.
+    One,
+    /// The latest of 02 and 04 governs alone, and 02 keeps to its segment.
+    Two,
+}
+
 #[derive(Clone, Copy, Debug, PartialEq, Eq)]
 pub struct Reader {
     pub board: Board,
+    pub rules: RuleSet,
     pub linear: u32,
     pub segment: u32,
+    /// Whether the latest of 02 and 04 was 02, in either rule set.
+    pub segmented: bool,
     pub ended: bool,
     /// Whether a data byte was taken since the start.
     pub taken: bool,
 }
 
 impl Reader {
-    pub fn start(board: Board, image: &mut [u8], map: &mut [u8]) -> Result<Reader, HexRefusal> {
+    pub fn start(
+        board: Board,
+        rules: RuleSet,
+        image: &mut [u8],
+        map: &mut [u8],
+    ) -> Result<Reader, HexRefusal> {
         check_sizes(board, image, map)?;
         image.fill(UNNAMED);
         map.fill(0);
         Ok(Reader {
             board,
+            rules,
             linear: 0,
             segment: 0,
+            segmented: false,
             ended: false,
             taken: false,
         })
@@ -91,8 +114,8 @@ impl Reader {
         match record.kind() {
             DATA => self.data(&record, image, map)?,
             END => self.ended = true,
-            SEGMENT => self.segment = u32::from(record.value()) * 16,
-            LINEAR => self.linear = u32::from(record.value()) * LINEAR_STEP,
+            SEGMENT => self.set_segment(record.value()),
+            LINEAR => self.set_linear(record.value()),
             _ => {}
         }
         Ok(())
@@ -108,33 +131,49 @@ impl Reader {
         Ok(())
     }
 
+    /// The linear base is kept, whether it governs or not.
+    fn set_segment(&mut self, value: u16) {
+        self.segment = u32::from(value) * 16;
+        self.segmented = true;
+    }
+
+    /// The segment base is kept, whether it governs or not.
+    fn set_linear(&mut self, value: u16) {
+        self.linear = u32::from(value) * LINEAR_STEP;
+        self.segmented = false;
+    }
+
+    /// 29 of any byte goes before 30 of any, and both before one is taken.
     fn data(&mut self, record: &Record, image: &mut [u8], map: &mut [u8]) -> Result<(), Refusal> {
-        let data = record.data();
-        if data.is_empty() {
-            return Ok(());
+        let end = u64::from(self.board.flash_end());
+        let places = record.offsets().map(|offset| self.place(offset));
+        if places.clone().any(|place| place >= end) {
+            return Err(Refusal::Place);
         }
-        let start = self.place(record.address(), data.len())?;
+        // each lies on the board now and so is an address
+        let places = places.map(|place| place as u32);
         let named = Map::new(self.board, map)?;
-        let places = start..start + data.len() as u32;
         if places.clone().any(|place| named.names(place)) {
             return Err(Refusal::NamedBefore);
         }
-        let at = start as usize;
-        image[at..at + data.len()].copy_from_slice(data);
-        for place in places {
+        for (place, byte) in places.zip(record.data()) {
+            image[place as usize] = *byte;
             map::name(map, place);
         }
-        self.taken = true;
+        // a record of count 0 is accepted but brings no byte
+        self.taken |= record.count() > 0;
         Ok(())
     }
 
-    /// Where data goes, summed as whole numbers so that nothing wraps.
-    fn place(&self, address: u16, length: usize) -> Result<u32, Refusal> {
-        let place = u64::from(self.linear) + u64::from(self.segment) + u64::from(address);
-        if place + length as u64 > u64::from(self.board.flash_end()) {
-            return Err(Refusal::Place);
+    /// The place of one byte, summed as whole numbers so that no sum wraps.
+    fn place(&self, offset: u64) -> u64 {
+        let (linear, segment) = (u64::from(self.linear), u64::from(self.segment));
+        match (self.rules, self.segmented) {
+            (RuleSet::One, _) => linear + segment + offset,
+            (RuleSet::Two, true) => segment + offset % SEGMENT_BYTES,
+            // under 04; before any 02 or 04 the linear base is 0
+            (RuleSet::Two, false) => linear + offset,
         }
-        Ok(place as u32)
     }
 }
 
@@ -208,6 +247,12 @@ impl Record {
 
     fn address(&self) -> u16 {
         u16::from_be_bytes([self.bytes[ADDRESS], self.bytes[ADDRESS + 1]])
+    }
+
+    /// AAAA + index of each data byte, past 0xFFFF too.
+    fn offsets(&self) -> Range<u64> {
+        let first = u64::from(self.address());
+        first..first + self.count() as u64
     }
 
     fn kind(&self) -> u8 {

@@ -2,7 +2,7 @@
 
 use std::fmt::Write;
 
-use crate::hex::{upper_case, HexRefusal, Reader};
+use crate::hex::{upper_case, HexRefusal, Reader, RuleSet};
 use crate::loader::ACK;
 use crate::log::{self, Entry};
 use crate::packet::LONGEST;
@@ -12,6 +12,8 @@ use crate::units::Board;
 
 /// Programs stay with it.
 const BOARD: Board = Board::Short;
+/// The plan keeps to it.
+const RULES: RuleSet = RuleSet::One;
 
 /// A refusal with the line that brought it, 0 at closing.
 struct Refused {
@@ -68,7 +70,7 @@ pub fn lines(text: &[u8]) -> impl Iterator<Item = &[u8]> {
 }
 
 fn load(text: &[u8], image: &mut [u8], map: &mut [u8]) -> Result<(), Refused> {
-    let mut reader = Reader::start(BOARD, image, map).map_err(at_closing)?;
+    let mut reader = Reader::start(BOARD, RULES, image, map).map_err(at_closing)?;
     for (index, line) in lines(text).enumerate() {
         reader
             .record(without_end(line), image, map)

@@ -40,6 +40,7 @@ pub enum Refusal {
     NoData = 32,
     /// A record buffer under 44 bytes.
     RecordBuffer = 33,
+    UnknownRuleSet = 34,
     /// An event after the end.
     SessionEnded = 44,
     /// A session that has no log record.

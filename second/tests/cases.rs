@@ -46,10 +46,16 @@ fn refusals_of_the_hex_reader_show_their_column() {
     let printed = "lend map 7935 -> 0\n\
                    board 125 -> 0\n\
                    hex -> 65 0\n\
+                   hex 3 -> 65 0\n\
                    board 124 -> 0\n\
                    hex -> 20 0\n\
+                   hex 3 -> 20 0\n\
                    record :0000 -> 20 0\n\
                    lend map 7936 -> 0\n\
+                   hex 3 -> 34 0\n\
+                   reader 124 3 0 0 0 1 0 -> 0\n\
+                   record :0000 -> 34 0\n\
+                   close -> 34 0\n\
                    hex -> 0\n\
                    close -> 31 0\n\
                    record  -> 22 0\n\
@@ -74,6 +80,24 @@ fn refusals_of_the_hex_reader_show_their_column() {
                    record :010001000AF4 -> 30 0\n\
                    record :00000001FF -> 0\n\
                    close -> 0\n";
+    check(printed);
+}
+
+#[test]
+fn a_file_is_opened_under_set_1_unless_told() {
+    let printed = "reader -> 0 124 1 0 0 0 0 0\n\
+                   hex 2 -> 0\n\
+                   reader -> 0 124 2 0 0 0 0 0\n\
+                   hex 257 -> 34 0\n\
+                   hex 4294967296 -> ?\n\
+                   hex  -> ?\n\
+                   hex 2 1 -> ?\n\
+                   reader -> 0 124 2 0 0 0 0 0\n\
+                   hex 1 -> 0\n\
+                   reader -> 0 124 1 0 0 0 0 0\n\
+                   hex 2 -> 0\n\
+                   hex -> 0\n\
+                   reader -> 0 124 1 0 0 0 0 0\n";
     check(printed);
 }
 

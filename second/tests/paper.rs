@@ -1,7 +1,7 @@
 //! The paper's printed cases and limits.
 
 use second::cases;
-use second::hex::{self, HexRefusal, Reader};
+use second::hex::{self, HexRefusal, Reader, RuleSet};
 use second::line::{rehearse, Exchange};
 use second::listing;
 use second::loader::{Condition, Loader, Protection, NO_KEY};
@@ -440,6 +440,8 @@ fn told<T>(given: Result<T, HexRefusal>) -> (u8, usize) {
     }
 }
 
+const RULE_SETS: [RuleSet; 2] = [RuleSet::One, RuleSet::Two];
+
 /// A reader with its image and map.
 #[derive(Clone, PartialEq, Debug)]
 struct Reading {
@@ -449,20 +451,37 @@ struct Reading {
 }
 
 impl Reading {
+    /// Under rule set 1, as what follows a file does not depend on its set.
     fn new(board: Board) -> Reading {
-        let mut image = vec![0; board.flash_bytes()];
-        let mut map = vec![1; board.map_bytes()];
-        let reader = Reader::start(board, &mut image, &mut map).unwrap();
-        assert!(image.iter().all(|byte| *byte == 0xFF) && map.iter().all(|byte| *byte == 0));
-        Reading { reader, image, map }
+        Reading::under(RuleSet::One, board, &[])
     }
 
     fn of(board: Board, records: &[&str]) -> Reading {
-        let mut reading = Reading::new(board);
+        Reading::under(RuleSet::One, board, records)
+    }
+
+    fn under(rules: RuleSet, board: Board, records: &[&str]) -> Reading {
+        let mut image = vec![0; board.flash_bytes()];
+        let mut map = vec![1; board.map_bytes()];
+        let reader = Reader::start(board, rules, &mut image, &mut map).unwrap();
+        assert!(image.iter().all(|byte| *byte == 0xFF) && map.iter().all(|byte| *byte == 0));
+        let mut reading = Reading { reader, image, map };
         for record in records {
             assert_eq!(reading.record(record), 0, "{record}");
         }
         reading
+    }
+
+    fn names(&self, at: usize) -> bool {
+        self.map[at / 8] >> (at % 8) & 1 != 0
+    }
+
+    /// The named bytes with their places, ascending; all others are 0xFF.
+    fn named(&self) -> Vec<(usize, u8)> {
+        let (named, others): (Vec<usize>, Vec<usize>) =
+            (0..self.image.len()).partition(|at| self.names(*at));
+        assert!(others.iter().all(|at| self.image[*at] == 0xFF));
+        named.into_iter().map(|at| (at, self.image[at])).collect()
     }
 
     fn board(&self) -> Board {
@@ -556,12 +575,16 @@ fn reader_starts_20_at_any_other_size() {
             (far.flash_bytes(), far.map_bytes()),
         ] {
             let (mut image, mut map) = (vec![0x5A; image], vec![0x5A; map]);
-            assert_eq!(told(Reader::start(board, &mut image, &mut map)), (20, 0));
-            let mut reader = Reading::new(board).reader;
-            let taken = reader.record(b":00000001FF", &mut image, &mut map);
-            assert_eq!(told(taken), (20, 0));
-            assert_eq!(reader, Reading::new(board).reader);
-            assert!(image.iter().chain(&map).all(|byte| *byte == 0x5A));
+            for rules in RULE_SETS {
+                let started = Reader::start(board, rules, &mut image, &mut map);
+                assert_eq!(told(started), (20, 0));
+                let new = Reading::under(rules, board, &[]).reader;
+                let mut reader = new;
+                let taken = reader.record(b":00000001FF", &mut image, &mut map);
+                assert_eq!(told(taken), (20, 0));
+                assert_eq!(reader, new);
+                assert!(image.iter().chain(&map).all(|byte| *byte == 0x5A));
+            }
         }
     }
 }
@@ -629,6 +652,11 @@ fn segment(value: u16) -> String {
 /// Sets the linear base to 65,536 times this.
 fn linear(value: u16) -> String {
     hex_record(4, 0, &value.to_be_bytes())
+}
+
+/// Records to be taken as they stand.
+fn texts(records: &[String]) -> Vec<&str> {
+    records.iter().map(String::as_str).collect()
 }
 
 #[test]
@@ -733,13 +761,517 @@ fn bases_add_without_wrap() {
     }
 }
 
-/// What a new reader says to each record, with the column.
+/// The data of records whose bytes are followed one by one.
+const BYTES: [u8; 4] = [0x11, 0x22, 0x33, 0x44];
+
+/// Where each byte of a data record goes behind some bases, under rule set 1
+/// and under rule set 2; no places where the record is 29.
+fn check_places(board: Board, bases: &[String], offset: u16, count: usize, places: [&[usize]; 2]) {
+    for (rules, places) in RULE_SETS.into_iter().zip(places) {
+        let mut reading = Reading::under(rules, board, &texts(bases));
+        let number = reading.record(&hex_record(0, offset, &BYTES[..count]));
+        let expected = if places.is_empty() { 29 } else { 0 };
+        assert_eq!(number, expected, "{rules:?} {bases:?}");
+        let mut named: Vec<(usize, u8)> = places.iter().copied().zip(BYTES).collect();
+        named.sort_unstable();
+        assert_eq!(reading.named(), named, "{rules:?} {bases:?}");
+        assert_eq!(reading.reader.taken, !places.is_empty());
+    }
+}
+
+/// Two bytes at offset 0x0234: where the first goes under set 1 and set 2.
+#[test]
+fn places_by_02_by_04_by_both_and_by_neither() {
+    for (bases, set_1, set_2) in [
+        (vec![], 0x0234, 0x0234),
+        (vec![segment(0x0100)], 0x1234, 0x1234),
+        (vec![segment(0x0100), segment(0x0200)], 0x2234, 0x2234),
+        (vec![linear(1)], 0x1_0234, 0x1_0234),
+        (vec![linear(1), linear(0)], 0x0234, 0x0234),
+        (vec![segment(0x0100), linear(1)], 0x1_1234, 0x1_0234),
+        (vec![linear(1), segment(0x0100)], 0x1_1234, 0x1234),
+        (
+            vec![segment(0x0100), linear(1), segment(0x0200)],
+            0x1_2234,
+            0x2234,
+        ),
+        (vec![linear(1), segment(0x0100), linear(0)], 0x1234, 0x0234),
+    ] {
+        let places = [&[set_1, set_1 + 1][..], &[set_2, set_2 + 1]];
+        check_places(Board::Long, &bases, 0x0234, 2, places);
+    }
+}
+
+/// A base of 0 puts the other one aside as any base does.
+#[test]
+fn a_base_of_0_governs_too() {
+    let (low, high) = (&[0x0234, 0x0235][..], &[0x1_0234, 0x1_0235][..]);
+    for bases in [[linear(1), segment(0)], [segment(0x1000), linear(0)]] {
+        check_places(Board::Long, &bases, 0x0234, 2, [high, low]);
+        check_places(Board::Short, &bases, 0x0234, 2, [&[], low]);
+    }
+}
+
+/// A base that is put aside takes no part in 29 either.
+#[test]
+fn a_far_base_counts_under_set_2_only_while_it_governs() {
+    for board in Board::ALL {
+        let taken = &[0x1234, 0x1235][..];
+        let bases = [linear(0xFFFF), segment(0x0100)];
+        check_places(board, &bases, 0x0234, 2, [&[], taken]);
+        let bases = [segment(0xFFFF), linear(0)];
+        check_places(board, &bases, 0x1234, 2, [&[], taken]);
+        for bases in [
+            [segment(0x0100), linear(2)],
+            [linear(0), segment(0x1F00)],
+            [segment(0xFFFF), linear(0xFFFF)],
+            [linear(0xFFFF), segment(0xFFFF)],
+        ] {
+            check_places(board, &bases, 0x0234, 2, [&[], &[]]);
+        }
+    }
+}
+
+/// The board's last byte is taken and the next is 29, by either base.
+#[test]
+fn the_end_of_the_board_under_both_sets() {
+    for (board, bases, offset, last) in [
+        (Board::Short, vec![], 0xF7FF, 0xF7FF),
+        (Board::Short, vec![linear(0)], 0xF7FF, 0xF7FF),
+        (Board::Short, vec![segment(0x0F00)], 0x07FF, 0xF7FF),
+        (Board::Long, vec![linear(1)], 0xEFFF, 0x1_EFFF),
+        (Board::Long, vec![segment(0x1000)], 0xEFFF, 0x1_EFFF),
+        (Board::Long, vec![segment(0x1EFF)], 0x000F, 0x1_EFFF),
+    ] {
+        check_places(board, &bases, offset, 1, [&[last], &[last]]);
+        check_places(board, &bases, offset, 2, [&[], &[]]);
+        check_places(board, &bases, offset + 1, 1, [&[], &[]]);
+    }
+}
+
+/// The high part lies at the top of the segment, the low part at its start.
+#[test]
+fn record_under_02_wraps_inside_its_segment() {
+    let long = Board::Long;
+    let bases = [segment(0x0080)];
+    check_places(
+        long,
+        &bases,
+        0xFFFE,
+        4,
+        [
+            &[0x1_07FE, 0x1_07FF, 0x1_0800, 0x1_0801],
+            &[0x1_07FE, 0x1_07FF, 0x0800, 0x0801],
+        ],
+    );
+    let split = [&[0x1_07FF, 0x1_0800][..], &[0x1_07FF, 0x0800]];
+    check_places(long, &bases, 0xFFFF, 2, split);
+    // offset 0xFFFF is the last that does not wrap
+    let whole = &[0x1_07FE, 0x1_07FF][..];
+    check_places(long, &bases, 0xFFFE, 2, [whole, whole]);
+    let start = &[0x0800, 0x0801][..];
+    check_places(long, &bases, 0, 2, [start, start]);
+}
+
+/// 255 bytes from offset 0xFF80: 128 at the top, 127 at the start.
+#[test]
+fn longest_record_that_wraps() {
+    let bytes: Vec<u8> = (1..=255).collect();
+    let data = hex_record(0, 0xFF80, &bytes);
+    let reading = Reading::under(RuleSet::Two, Board::Long, &[&segment(0x0080), &data]);
+    assert_eq!(reading.image[0x1_0780..0x1_0800], bytes[..128]);
+    assert_eq!(reading.image[0x0800..0x087F], bytes[128..]);
+    assert_eq!(reading.named().len(), 255);
+    let reading = Reading::under(RuleSet::One, Board::Long, &[&segment(0x0080), &data]);
+    assert_eq!(reading.image[0x1_0780..0x1_087F], bytes);
+    assert_eq!(reading.named().len(), 255);
+}
+
+#[test]
+fn record_under_02_of_value_0_wraps() {
+    let (over, wrapped) = (&[0xFFFF, 0x1_0000][..], &[0xFFFF, 0x0000][..]);
+    check_places(Board::Long, &[segment(0)], 0xFFFF, 2, [over, wrapped]);
+    let bases = [linear(0), segment(0)];
+    check_places(Board::Long, &bases, 0xFFFF, 2, [over, wrapped]);
+    let bases = [linear(1), segment(0)];
+    check_places(Board::Long, &bases, 0xFFFF, 2, [&[], wrapped]);
+}
+
+#[test]
+fn nothing_wraps_under_04_or_before_any_02_or_04() {
+    let over = &[0xFFFF, 0x1_0000][..];
+    for bases in [vec![], vec![linear(0)], vec![segment(0), linear(0)]] {
+        check_places(Board::Long, &bases, 0xFFFF, 2, [over, over]);
+        check_places(Board::Short, &bases, 0xFFFF, 2, [&[], &[]]);
+    }
+    let bases = [segment(0x0080), linear(0)];
+    let places = [&[0x1_07FF, 0x1_0800][..], over];
+    check_places(Board::Long, &bases, 0xFFFF, 2, places);
+    for bases in [vec![linear(1)], vec![linear(0xFFFF)]] {
+        // 65,536 times 0xFFFF and the offset 0x10000 make 2 to the 32nd
+        for board in Board::ALL {
+            check_places(board, &bases, 0xFFFF, 2, [&[], &[]]);
+        }
+    }
+}
+
+/// The segment's last byte lies on the board up to segment base 0xF000.
+#[test]
+fn high_part_past_the_board_is_29() {
+    let long = Board::Long;
+    let places = &[0x1_EFFF, 0xF000][..];
+    check_places(long, &[segment(0x0F00)], 0xFFFF, 2, [&[], places]);
+    for value in [0x0F01, 0x1000, 0x1EFF, 0x1F00, 0xFFFF] {
+        check_places(long, &[segment(value)], 0xFFFF, 2, [&[], &[]]);
+        check_places(long, &[segment(value)], 0xFFFD, 4, [&[], &[]]);
+    }
+}
+
+/// From 0x1EFFF over the board's end to 0xF010: the bytes between are past it.
+#[test]
+fn record_that_begins_and_ends_on_the_board_is_29_by_its_middle() {
+    let data = hex_record(0, 0xFFEF, &[0; 18]);
+    let mut reading = Reading::under(RuleSet::Two, Board::Long, &[&segment(0x0F01)]);
+    assert_eq!(reading.take(data.as_bytes()), (29, 0));
+    // 29 goes before 30 at either end
+    for (offset, place) in [(0xFFEF, 0x1_EFFF), (0x0000, 0xF010)] {
+        let mut reading = reading.clone();
+        assert_eq!(reading.record(&hex_record(0, offset, &[0x5A])), 0);
+        assert_eq!(reading.named(), [(place, 0x5A)]);
+        assert_eq!(reading.take(data.as_bytes()), (29, 0));
+    }
+    // each end alone is taken
+    let ends = [hex_record(0, 0xFFEF, &[1]), hex_record(0, 0, &[2])];
+    for end in ends {
+        assert_eq!(reading.record(&end), 0);
+    }
+    assert_eq!(reading.named(), [(0xF010, 2), (0x1_EFFF, 1)]);
+}
+
+/// A segment is longer than the board, so that offset 0xFFFF is past its end.
+#[test]
+fn record_that_wraps_is_29_on_the_short_board() {
+    for value in [0, 1, 0x0080, 0x0F00, 0x0F80, 0x1000, 0xF000, 0xFFFF] {
+        let bases = [segment(value)];
+        for (offset, count) in [(0xFFFF, 2), (0xFFFF, 4), (0xFFFE, 3), (0xFFFD, 4)] {
+            check_places(Board::Short, &bases, offset, count, [&[], &[]]);
+        }
+        // the last of 255 bytes alone wraps
+        let longest = hex_record(0, 0xFF02, &[0; 255]);
+        for rules in RULE_SETS {
+            let mut reading = Reading::under(rules, Board::Short, &texts(&bases));
+            assert_eq!(reading.take(longest.as_bytes()), (29, 0));
+        }
+    }
+}
+
+/// Four bytes from offset 0xFFFE under segment base 0x0800, behind a file that
+/// names one byte: 30 under set 1, 30 under set 2.
+#[test]
+fn place_named_before_is_30_before_the_wrap_and_behind_it() {
+    let data = hex_record(0, 0xFFFE, &BYTES);
+    for (place, by_set) in [
+        (0x0000, [0, 0]),
+        (0x07FF, [0, 0]),
+        (0x0800, [0, 30]),
+        (0x0801, [0, 30]),
+        (0x0802, [0, 0]),
+        (0xFFFE, [0, 0]),
+        (0x1_07FD, [0, 0]),
+        (0x1_07FE, [30, 30]),
+        (0x1_07FF, [30, 30]),
+        (0x1_0800, [30, 0]),
+        (0x1_0801, [30, 0]),
+        (0x1_0802, [0, 0]),
+    ] {
+        let upper = linear((place >> 16) as u16);
+        let named = hex_record(0, place as u16, &[0x5A]);
+        let before = [upper, named, linear(0), segment(0x0080)];
+        for (rules, number) in RULE_SETS.into_iter().zip(by_set) {
+            let mut reading = Reading::under(rules, Board::Long, &texts(&before));
+            assert_eq!(reading.take(data.as_bytes()), (number, 0), "{place:X}");
+            assert_eq!(reading.image[place as usize], 0x5A);
+            let bytes = if number == 0 { 5 } else { 1 };
+            assert_eq!(reading.named().len(), bytes, "{rules:?} {place:X}");
+        }
+    }
+}
+
+/// Whether all of it or only a part comes again, from either end.
+#[test]
+fn record_that_wraps_is_30_again() {
+    let data = hex_record(0, 0xFFFE, &BYTES);
+    let taken = Reading::under(RuleSet::Two, Board::Long, &[&segment(0x0080), &data]);
+    for (offset, count, number) in [
+        (0xFFFE, 4, 30),
+        (0xFFFE, 1, 30),
+        (0xFFFF, 2, 30),
+        (0xFFFD, 2, 30),
+        (0x0000, 1, 30),
+        (0x0001, 1, 30),
+        (0x0001, 4, 30),
+        (0xFFFD, 1, 0),
+        (0x0002, 4, 0),
+    ] {
+        let mut reading = taken.clone();
+        let again = hex_record(0, offset, &BYTES[..count]);
+        assert_eq!(reading.take(again.as_bytes()), (number, 0), "{offset:X}");
+    }
+    // by 04 the low part is the same place
+    let mut reading = taken;
+    assert_eq!(reading.record(&linear(0)), 0);
+    assert_eq!(reading.record(&hex_record(0, 0x0801, &[0])), 30);
+    assert_eq!(reading.record(&hex_record(0, 0x0802, &[0])), 0);
+}
+
+/// Linear base, segment base, and whether the latest of 02 and 04 was 02.
+#[test]
+fn bases_are_kept_under_both_sets() {
+    for board in Board::ALL {
+        for rules in RULE_SETS {
+            let mut reading = Reading::under(rules, board, &[]);
+            for (record, linear, segment, segmented) in [
+                (hex_record(0, 0, &[1]), 0, 0, false),
+                (segment(0x0080), 0, 0x0800, true),
+                (hex_record(0, 0, &[2]), 0, 0x0800, true),
+                (linear(0x0001), 0x1_0000, 0x0800, false),
+                (START_RECORDS[1].to_string(), 0x1_0000, 0x0800, false),
+                (linear(0xFFFF), 0xFFFF_0000, 0x0800, false),
+                (segment(0xFFFF), 0xFFFF_0000, 0xF_FFF0, true),
+                (START_RECORDS[4].to_string(), 0xFFFF_0000, 0xF_FFF0, true),
+                (hex_record(0, 0xFFFF, &[]), 0xFFFF_0000, 0xF_FFF0, true),
+                (segment(0), 0xFFFF_0000, 0, true),
+                (linear(0), 0, 0, false),
+                (segment(0), 0, 0, true),
+                (hex_record(1, 0, &[]), 0, 0, true),
+            ] {
+                assert_eq!(reading.record(&record), 0, "{record}");
+                let reader = reading.reader;
+                let bases = (reader.linear, reader.segment, reader.segmented);
+                assert_eq!(bases, (linear, segment, segmented), "{record}");
+                assert_eq!((reader.board, reader.rules), (board, rules));
+            }
+            assert_eq!(reading.close(), (0, 0));
+        }
+    }
+}
+
+/// 02 and 04 records that are refused, and the number of the refusal.
+fn refused_bases() -> [(String, u8); 12] {
+    [
+        (String::from("0200000200807C"), 22),
+        (String::from(":0200000200807C0"), 23),
+        (String::from(":020000020080G7"), 24),
+        (String::from(":0300000200807C"), 25),
+        (String::from(":0200000200807D"), 26),
+        (String::from(":020000040001F8"), 26),
+        (hex_record(2, 0, &[0x80]), 28),
+        (hex_record(2, 0, &[0, 0x80, 0]), 28),
+        (hex_record(2, 1, &[0, 0x80]), 28),
+        (hex_record(4, 0, &[1]), 28),
+        (hex_record(4, 0, &[0, 1, 0, 0]), 28),
+        (hex_record(4, 0x0100, &[0, 1]), 28),
+    ]
+}
+
+/// Neither its base nor which of the two was the latest.
+#[test]
+fn refused_02_or_04_changes_nothing() {
+    for (bases, set_1, set_2) in [
+        (vec![], 0x1_0000, 0x1_0000),
+        (vec![linear(0)], 0x1_0000, 0x1_0000),
+        (vec![segment(0x0020)], 0x1_0200, 0x0200),
+        (vec![linear(0), segment(0x0020)], 0x1_0200, 0x0200),
+        (vec![segment(0x0020), linear(0)], 0x1_0200, 0x1_0000),
+    ] {
+        for (rules, second) in RULE_SETS.into_iter().zip([set_1, set_2]) {
+            let stood = Reading::under(rules, Board::Long, &texts(&bases));
+            for (record, number) in refused_bases() {
+                let mut reading = stood.clone();
+                assert_eq!(reading.record(&record), number, "{record}");
+                assert_eq!(reading, stood, "{record}");
+                assert_eq!(reading.record(&hex_record(0, 0xFFFF, &[1, 2])), 0);
+                assert_eq!(reading.image[second], 2, "{rules:?} {record}");
+            }
+        }
+    }
+}
+
+#[test]
+fn base_after_the_end_changes_nothing() {
+    for rules in RULE_SETS {
+        for latest in [segment(0x0020), linear(0)] {
+            let mut reading = Reading::under(rules, Board::Long, &[&latest, ":00000001FF"]);
+            let stood = reading.clone();
+            for record in [segment(0x0080), segment(0), linear(1), linear(0)] {
+                assert_eq!(reading.take(record.as_bytes()), (21, 0));
+                assert_eq!(reading, stood);
+            }
+        }
+    }
+}
+
+/// Past the board and at the end of a segment; nothing is changed.
+fn check_count_0(board: Board, rules: RuleSet, bases: &[String]) {
+    let mut reading = Reading::under(rules, board, &texts(bases));
+    let stood = reading.clone();
+    for offset in [0, 1, 0xF7FF, 0xF800, 0xFFFE, 0xFFFF] {
+        assert_eq!(reading.record(&hex_record(0, offset, &[])), 0);
+        assert_eq!(reading, stood);
+    }
+    assert_eq!(reading.record(":00000001FF"), 0);
+    assert_eq!(reading.close(), (32, 0));
+}
+
+#[test]
+fn record_of_count_0_is_accepted_anywhere_under_both_sets() {
+    for bases in [
+        vec![],
+        vec![segment(0)],
+        vec![segment(0xFFFF)],
+        vec![linear(1)],
+        vec![linear(0xFFFF)],
+        vec![segment(0xFFFF), linear(0xFFFF)],
+        vec![linear(0xFFFF), segment(0xFFFF)],
+    ] {
+        for board in Board::ALL {
+            for rules in RULE_SETS {
+                check_count_0(board, rules, &bases);
+            }
+        }
+    }
+}
+
+/// On a named place it is accepted too, and names no more.
+#[test]
+fn record_of_count_0_on_a_named_place() {
+    for board in Board::ALL {
+        for rules in RULE_SETS {
+            let mut reading = Reading::under(rules, board, &[&segment(0), ":020000001234B8"]);
+            let stood = reading.clone();
+            assert_eq!(reading.record(":0000000000"), 0);
+            assert_eq!(reading.record(":00FFFF0002"), 0);
+            assert_eq!(reading, stood);
+        }
+    }
+}
+
+/// Bases that no record sets: sums that pass 2 to the 32nd stay far.
+#[test]
+fn made_up_bases_under_set_2() {
+    for (linear, segment, segmented, offset, places) in [
+        (0, 1, true, 0xFFFF, &[0x1_0000, 0x0001][..]),
+        (0, 0xF000, true, 0xFFFF, &[0x1_EFFF, 0xF000]),
+        (0, 0xF001, true, 0xFFFF, &[]),
+        (0, 0x1_EFFE, true, 0, &[0x1_EFFE, 0x1_EFFF]),
+        (0, 0x1_EFFF, true, 0, &[]),
+        (0, u32::MAX, true, 0, &[]),
+        (0, u32::MAX, true, 1, &[]),
+        (0, 0xFFFF_0001, true, 0xFFFF, &[]),
+        (u32::MAX, 1, true, 0, &[0x0001, 0x0002]),
+        (1, 0, false, 0xFFFF, &[0x1_0000, 0x1_0001]),
+        (0x1_EFFE, 0, false, 0, &[0x1_EFFE, 0x1_EFFF]),
+        (0x1_EFFF, 0, false, 0, &[]),
+        (u32::MAX, 0, false, 1, &[]),
+        (0xFFFF_0001, 0, false, 0xFFFF, &[]),
+        (1, u32::MAX, false, 0, &[0x0001, 0x0002]),
+    ] {
+        let mut reading = Reading::under(RuleSet::Two, Board::Long, &[]);
+        (reading.reader.linear, reading.reader.segment) = (linear, segment);
+        reading.reader.segmented = segmented;
+        let number = reading.record(&hex_record(0, offset, &BYTES[..2]));
+        assert_eq!(number, if places.is_empty() { 29 } else { 0 });
+        let mut named: Vec<(usize, u8)> = places.iter().copied().zip(BYTES).collect();
+        named.sort_unstable();
+        assert_eq!(reading.named(), named, "{linear:X} {segment:X}");
+    }
+}
+
+/// Set 1 adds both bases, whichever was the latest.
+#[test]
+fn made_up_bases_under_set_1() {
+    for segmented in [false, true] {
+        for (linear, segment, offset, places) in [
+            (1, 2, 3, &[0x0006, 0x0007][..]),
+            (0, 1, 0xFFFF, &[0x1_0000, 0x1_0001]),
+            (0xF000, 0xFFFE, 0, &[0x1_EFFE, 0x1_EFFF]),
+            (0xF000, 0xFFFF, 0, &[]),
+            (u32::MAX, 1, 0, &[]),
+            (1, u32::MAX, 0, &[]),
+            (u32::MAX, u32::MAX, 2, &[]),
+        ] {
+            let mut reading = Reading::new(Board::Long);
+            (reading.reader.linear, reading.reader.segment) = (linear, segment);
+            reading.reader.segmented = segmented;
+            let number = reading.record(&hex_record(0, offset, &BYTES[..2]));
+            assert_eq!(number, if places.is_empty() { 29 } else { 0 });
+            let named: Vec<(usize, u8)> = places.iter().copied().zip(BYTES).collect();
+            assert_eq!(reading.named(), named, "{linear:X} {segment:X}");
+        }
+    }
+}
+
+/// What both rule sets leave of records, each with its number on either board.
+fn check_alike(board: Board, records: &[(&str, u8)]) {
+    let [mut one, mut two] = RULE_SETS.map(|rules| Reading::under(rules, board, &[]));
+    for (record, number) in records {
+        let (by_one, by_two) = (one.take(record.as_bytes()), two.take(record.as_bytes()));
+        assert_eq!((by_one.0, by_two), (*number, by_one), "{record}");
+        assert_eq!(one.close(), two.close());
+    }
+    assert_eq!(two.reader.rules, RuleSet::Two);
+    two.reader.rules = RuleSet::One;
+    assert!(one == two);
+}
+
+/// A record that runs past offset 0xFFFF reads alike as well.
+#[test]
+fn file_without_02_reads_alike_under_both_sets() {
+    for board in Board::ALL {
+        let far = |number| if board == Board::Long { number } else { 29 };
+        check_alike(
+            board,
+            &[
+                (":020000001234B8", 0),
+                (":01F7FF005AAF", 0),
+                (":02F7FE00000009", 30),
+                (":01F800000007", far(0)),
+                (":02FFFF001234BA", far(0)),
+                (":02FFFF001234BA", far(30)),
+                (":010001000AF4", 30),
+                (":00FFFF0002", 0),
+                (START_RECORDS[1], 0),
+                (&linear(1), 0),
+                (":0100000000FF", far(30)),
+                (":010001000AF4", far(0)),
+                (&hex_record(0, 0xEFFF, &[1, 2]), 29),
+                (&hex_record(0, 0xFFFF, &[1, 2]), 29),
+                (&linear(0xFFFF), 0),
+                (&hex_record(0, 0xFFFF, &[1, 2]), 29),
+                (&linear(0), 0),
+                (&hex_record(0, 2, &[1, 2]), 0),
+                (START_RECORDS[4], 0),
+                (":00000001FF", 0),
+                (":0000000000", 21),
+            ],
+        );
+        for file in [full_file(board), most_pieces(board)] {
+            let records = written(&file);
+            let records: Vec<(&str, u8)> = records.iter().map(|text| (&text[..], 0)).collect();
+            check_alike(board, &records);
+        }
+    }
+}
+
+/// What a new reader says to each record under either rule set, with the column.
 fn check_records(cases: &[(&str, u8, usize)]) {
     for board in Board::ALL {
-        let new = Reading::new(board);
-        for (record, number, column) in cases {
-            let taken = new.clone().take(record.as_bytes());
-            assert_eq!(taken, (*number, *column), "{record}");
+        for rules in RULE_SETS {
+            let new = Reading::under(rules, board, &[]);
+            for (record, number, column) in cases {
+                let taken = new.clone().take(record.as_bytes());
+                assert_eq!(taken, (*number, *column), "{record}");
+            }
         }
     }
 }
@@ -1132,7 +1664,8 @@ fn other_refusals_have_column_0() {
         for shorten in shorten {
             let mut reading = Reading::new(board);
             shorten(&mut reading);
-            let started = Reader::start(board, &mut reading.image, &mut reading.map);
+            let (image, map) = (&mut reading.image, &mut reading.map);
+            let started = Reader::start(board, RuleSet::One, image, map);
             assert_eq!(told(started), (20, 0));
             for line in lines {
                 assert_eq!(reading.take(line.as_bytes()), (20, 0), "{line}");
@@ -1194,13 +1727,13 @@ fn naming(board: Board, places: &[u32]) -> Reading {
 
 fn check_reads_back(reading: &Reading) {
     let records = written(reading);
-    let records: Vec<&str> = records.iter().map(String::as_str).collect();
-    let again = Reading::of(reading.board(), &records);
-    assert!(again.map == reading.map);
-    let named = |at: &usize| reading.map[at / 8] >> (at % 8) & 1 != 0;
-    let mut places = (0..reading.image.len()).filter(named);
-    assert!(places.all(|at| again.image[at] == reading.image[at]));
-    assert_eq!(again.close(), (0, 0));
+    for rules in RULE_SETS {
+        let again = Reading::under(rules, reading.board(), &texts(&records));
+        assert!(again.map == reading.map);
+        let mut places = (0..reading.image.len()).filter(|at| reading.names(*at));
+        assert!(places.all(|at| again.image[at] == reading.image[at]));
+        assert_eq!(again.close(), (0, 0));
+    }
 }
 
 #[test]
@@ -1215,8 +1748,7 @@ fn written_file_reads_back() {
         assert_eq!(records[16], ":0D01000000000000000000000000000000F2");
         assert_eq!(records[17], ":01F7FF005AAF");
         assert_eq!(records[18], ":00000001FF");
-        let records: Vec<&str> = records.iter().map(String::as_str).collect();
-        assert_eq!(Reading::of(board, &records), reading);
+        assert_eq!(Reading::of(board, &texts(&records)), reading);
     }
 }
 
@@ -2750,6 +3282,18 @@ fn plan_is_of_the_short_board() {
     assert_eq!(planned, "REFUSED 3969 29 0\n");
 }
 
+#[test]
+fn plan_keeps_rule_set_1() {
+    let plan = listing::plan(b":020200001234B6\n:00000001FF\n");
+    // 16 times 0x0020 is added though 04 is the latest
+    let text = ":020000020020DC\n:020000040000FA\n:020000001234B8\n:00000001FF\n";
+    assert_eq!(listing::plan(text.as_bytes()), plan);
+    check_plans(&[(
+        ":020000040001F9\n:020000020020DC\n:020000001234B8\n",
+        "REFUSED 3 29 0",
+    )]);
+}
+
 /// Asks each line again and compares all.
 fn check_lines(printed: &str) {
     let asked: String = printed
@@ -2900,7 +3444,7 @@ fn case_lines_of_ends_that_are_another_run_kinds() {
 #[test]
 fn case_lines_begin_with_the_short_board() {
     check_lines(
-        "reader -> 0 124 0 0 0 0\n\
+        "reader -> 0 124 1 0 0 0 0 0\n\
          session -> ?\n\
          take 08 -> 0 41447543373032782020202D363220493331202020200A0D\n\
          hex -> 0\n\
@@ -2911,7 +3455,7 @@ fn case_lines_begin_with_the_short_board() {
          write 00000000 0000 -> 20\n\
          start hold -> 20\n\
          rehearse hold  -> 20\n\
-         reader -> 0 124 0 0 0 0\n\
+         reader -> 0 124 1 0 0 0 0 0\n\
          record :010000005AA5 -> 0\n\
          board 124 -> 0\n\
          write 00000000 0000 -> 0 :010000005AA5 00000001 0000\n",
@@ -2972,7 +3516,7 @@ fn reader_and_session_carry_their_board() {
          record :01EFFF005AB7 -> 0\n\
          record :00000001FF -> 0\n\
          close -> 0\n\
-         reader -> 0 248 65536 0 1 1\n\
+         reader -> 0 248 1 65536 0 0 1 1\n\
          board 248 -> 0\n\
          start hold -> 0 08\n\
          board 124 -> 0\n\
@@ -2990,11 +3534,19 @@ fn reader_and_session_carry_their_board() {
 #[test]
 fn case_lines_with_records_of_too_few_or_too_many_fields() {
     check_lines(
-        "reader 124 0 0 0 -> ?\n\
-         reader 124 0 0 0 0 0 -> ?\n\
-         reader 4294967296 0 0 0 0 -> ?\n\
-         reader 248 1 2 3 4 -> 0\n\
-         reader -> 0 248 1 2 3 4\n\
+        "reader 124 1 0 0 0 -> ?\n\
+         reader 124 1 0 0 0 0 -> ?\n\
+         reader 124 1 0 0 0 0 0 0 -> ?\n\
+         reader 4294967296 1 0 0 0 0 0 -> ?\n\
+         reader 124 4294967296 0 0 0 0 0 -> ?\n\
+         reader 124 1 4294967296 0 0 0 0 -> ?\n\
+         reader 124 1 0 4294967296 0 0 0 -> ?\n\
+         reader 124 1 0 0 256 0 0 -> ?\n\
+         reader 124 1 0 0 0 256 0 -> ?\n\
+         reader 124 1 0 0 0 0 256 -> ?\n\
+         reader -> 0 124 1 0 0 0 0 0\n\
+         reader 248 7 2 3 4 5 6 -> 0\n\
+         reader -> 0 248 7 2 3 4 5 6\n\
          session 2 5 0 0 1 3 3 2 -> ?\n\
          session 124 2 5 0 0 1 3 3 2 0 -> ?\n\
          session 4294967296 2 5 0 0 1 3 3 2 -> ?\n\
@@ -3046,7 +3598,7 @@ fn unknown_board_is_65_before_all_else() {
                  changed -> 0\n\
                  session -> ?\n\
                  loader -> 0 0 0 4294967295 0 0 0 0\n\
-                 reader -> 0 124 0 0 0 0\n\
+                 reader -> 0 124 1 0 0 0 0 0\n\
                  look answer 00000000 4 -> 0 AAAAAAAA\n\
                  look packet 00000000 4 -> 0 AAAAAAAA\n\
                  look record 00000000 4 -> 0 AAAAAAAA\n\
@@ -3067,7 +3619,7 @@ fn unknown_board_is_65_before_all_else() {
 
 #[test]
 fn reader_of_an_unknown_board_is_65() {
-    let lines = "reader BOARD 0 0 ENDED 0 -> 0\n\
+    let lines = "reader BOARD RULES 0 0 0 ENDED 0 -> 0\n\
                  record :020000001234B8 -> 65 0\n\
                  record :0000 -> 65 0\n\
                  record  -> 65 0\n\
@@ -3076,12 +3628,205 @@ fn reader_of_an_unknown_board_is_65() {
                  changed -> 0\n\
                  lend image null -> 0\n\
                  record :020000001234B8 -> 65 0\n\
-                 reader -> 0 BOARD 0 0 ENDED 0\n";
+                 reader -> 0 BOARD RULES 0 0 0 ENDED 0\n";
     for pages in NO_BOARDS {
-        for ended in ["0", "1"] {
+        for (rules, ended) in [("1", "0"), ("1", "1"), ("2", "0"), ("3", "1")] {
             let lines = lines.replace("BOARD", &pages.to_string());
+            let lines = lines.replace("RULES", rules);
             check_lines(&lines.replace("ENDED", ended));
         }
+    }
+}
+
+/// Numbers that no rule set has, among them 1 and 2 in their low bits alone.
+const NO_RULE_SETS: [u32; 8] = [0, 3, 4, 257, 258, 65_537, 65_538, u32::MAX];
+
+#[test]
+fn case_lines_open_under_a_rule_set() {
+    check_cases_of_both(
+        "hex 2 -> 0\n\
+         reader -> 0 BOARD 2 0 0 0 0 0\n\
+         look image 00000200 2 -> 0 FFFF\n\
+         look map 00000040 1 -> 0 00\n\
+         hex 1 -> 0\n\
+         reader -> 0 BOARD 1 0 0 0 0 0\n\
+         hex 2 -> 0\n\
+         record :020000001234B8 -> 0\n\
+         record :00000001FF -> 0\n\
+         close -> 0\n\
+         reader -> 0 BOARD 2 0 0 0 1 1\n\
+         hex -> 0\n\
+         reader -> 0 BOARD 1 0 0 0 0 0\n\
+         look image 00000000 2 -> 0 FFFF\n\
+         hex  -> ?\n\
+         hex 02 -> ?\n\
+         hex -1 -> ?\n\
+         hex two -> ?\n\
+         hex 1 2 -> ?\n\
+         hex 2  -> ?\n\
+         hex 4294967296 -> ?\n\
+         hex 4294967298 -> ?\n\
+         reader -> 0 BOARD 1 0 0 0 0 0\n",
+    );
+}
+
+#[test]
+fn case_lines_of_a_record_that_wraps() {
+    check_cases(
+        Board::Long,
+        "hex 2 -> 0\n\
+         record :0200000200807C -> 0\n\
+         reader -> 0 248 2 0 2048 1 0 0\n\
+         record :04FFFE001122334455 -> 0\n\
+         changed -> 0 image 00000800 3344 image 000107FE 1122 map 00000100 03 map 000020FF C0\n\
+         reader -> 0 248 2 0 2048 1 0 1\n\
+         record :04FFFE001122334455 -> 30 0\n\
+         changed -> 0\n\
+         record :020000040001F9 -> 0\n\
+         reader -> 0 248 2 65536 2048 0 0 1\n\
+         record :04FFFE001122334455 -> 29 0\n\
+         changed -> 0\n\
+         hex -> 0\n\
+         record :0200000200807C -> 0\n\
+         reader -> 0 248 1 0 2048 1 0 0\n\
+         record :04FFFE001122334455 -> 0\n\
+         changed -> 0 image 000107FE 11223344 map 000020FF C003\n\
+         record :020000040001F9 -> 0\n\
+         reader -> 0 248 1 65536 2048 0 0 1\n",
+    );
+}
+
+/// Any value but 0 is a flag that is set, and an answer has 1 for it.
+#[test]
+fn case_lines_of_readers_with_any_flag() {
+    let set = "reader 248 RULES 0 2048 FLAG 0 0 -> 0\n\
+               record :04FFFE001122334466 -> 26 17\n\
+               reader -> 0 248 RULES 0 2048 FLAG 0 0\n\
+               record :04FFFE001122334455 -> 0\n";
+    for flag in ["1", "2", "128", "255"] {
+        for (rules, changed) in [
+            ("1", "image 000107FE 11223344 map 000020FF C003"),
+            (
+                "2",
+                "image 00000800 3344 image 000107FE 1122 map 00000100 03 map 000020FF C0",
+            ),
+        ] {
+            let set = set.replace("RULES", rules).replace("FLAG", flag);
+            check_cases(
+                Board::Long,
+                &format!(
+                    "{set}changed -> 0 {changed}\n\
+                     reader -> 0 248 {rules} 0 2048 1 0 1\n\
+                     reader 248 {rules} 0 2048 {flag} 9 7 -> 0\n\
+                     close -> 0\n\
+                     reader -> 0 248 {rules} 0 2048 1 1 1\n"
+                ),
+            );
+        }
+    }
+}
+
+/// Behind 65 and 20, and neither file nor reader is another then.
+#[test]
+fn opening_under_an_unknown_rule_set_is_34() {
+    for rules in NO_RULE_SETS {
+        for (board, pages) in [(Board::Short, 124), (Board::Long, 248)] {
+            let lent = lent(board);
+            check_cases(
+                board,
+                &format!(
+                    "board 0 -> 0\n\
+                     hex {rules} -> 65 0\n\
+                     lend map null -> 0\n\
+                     hex {rules} -> 65 0\n\
+                     board {pages} -> 0\n\
+                     hex {rules} -> 20 0\n\
+                     {lent}\
+                     lend image 63487 -> 0\n\
+                     hex {rules} -> 20 0\n\
+                     {lent}\
+                     hex {rules} -> 34 0\n\
+                     changed -> 0\n\
+                     look image 000001FF 4 -> 0 FF1234FF\n\
+                     look map 00000040 1 -> 0 03\n\
+                     reader -> 0 {pages} 1 0 0 0 1 1\n\
+                     close -> 0\n"
+                ),
+            );
+        }
+    }
+}
+
+/// Behind 65 and 20, before 21 and all that a line can be refused for.
+#[test]
+fn record_under_an_unknown_rule_set_is_34() {
+    let lines = "reader 0 RULES 65536 2048 7 ENDED 9 -> 0\n\
+                 record :020000001234B8 -> 65 0\n\
+                 reader BOARD RULES 65536 2048 7 ENDED 9 -> 0\n\
+                 lend map null -> 0\n\
+                 record :020000001234B8 -> 20 0\n\
+                 record  -> 20 0\n\
+                 LENT\
+                 record :020000001234B8 -> 34 0\n\
+                 record :0000000000 -> 34 0\n\
+                 record :00000001FF -> 34 0\n\
+                 record :020000040001F9 -> 34 0\n\
+                 record :0200000200807C -> 34 0\n\
+                 record  -> 34 0\n\
+                 line 00 -> 34 0\n\
+                 record :0000 -> 34 0\n\
+                 record :0000000GFF -> 34 0\n\
+                 record :01000000FF -> 34 0\n\
+                 record :00000001FE -> 34 0\n\
+                 record :00000006FA -> 34 0\n\
+                 record :0100000100FE -> 34 0\n\
+                 record :01FFFF000001 -> 34 0\n\
+                 record :020200001234B6 -> 34 0\n\
+                 changed -> 0\n\
+                 look image 000001FF 4 -> 0 FF1234FF\n\
+                 look map 00000040 1 -> 0 03\n\
+                 reader -> 0 BOARD RULES 65536 2048 7 ENDED 9\n";
+    for rules in NO_RULE_SETS {
+        let lines = lines.replace("RULES", &rules.to_string());
+        for board in Board::ALL {
+            let lines = lines.replace("LENT", lent(board));
+            let lines = lines.replace("BOARD", &board.pages().to_string());
+            for ended in ["0", "1", "255"] {
+                check_cases(board, &lines.replace("ENDED", ended));
+            }
+        }
+    }
+}
+
+/// Behind 65, before 31 and 32; a file that could be closed is no other.
+#[test]
+fn closing_under_an_unknown_rule_set_is_34() {
+    for rules in NO_RULE_SETS {
+        for flags in [
+            "0 0 0", "1 0 0", "0 1 0", "0 0 1", "255 9 0", "0 1 1", "1 255 7",
+        ] {
+            check_cases_of_both(&format!(
+                "reader 0 {rules} 65536 2048 {flags} -> 0\n\
+                 close -> 65 0\n\
+                 reader BOARD {rules} 65536 2048 {flags} -> 0\n\
+                 close -> 34 0\n\
+                 lend image null -> 0\n\
+                 lend map null -> 0\n\
+                 close -> 34 0\n\
+                 changed -> 0\n\
+                 reader -> 0 BOARD {rules} 65536 2048 {flags}\n"
+            ));
+        }
+    }
+    for rules in [1, 2] {
+        check_cases_of_both(&format!(
+            "reader BOARD {rules} 0 0 0 0 0 -> 0\n\
+             close -> 31 0\n\
+             reader BOARD {rules} 0 0 0 1 0 -> 0\n\
+             close -> 32 0\n\
+             reader BOARD {rules} 0 0 0 1 1 -> 0\n\
+             close -> 0\n"
+        ));
     }
 }
 

@@ -9,8 +9,10 @@ use crate::loaders;
 use crate::maps;
 use crate::pair::Pair;
 use crate::random::Random;
+use crate::rules::{self, SETS};
 use crate::sessions::{self, PACKET};
 use crate::site::{self, Site, SITES};
+use crate::writer;
 
 /// Rounds with every number that no board has, and with nothing lent at all.
 const ROUNDS: u32 = 2;
@@ -156,9 +158,10 @@ fn told(pair: &mut Pair, random: &mut Random, site: Site, lent: Lent, board: u32
     let (any, mass_erase) = (random.bytes(9), loaders::built(b'E', 0, &[0]));
     let input = random.pick(&[&[][..], &[0x08], &mass_erase, &any]);
     pair.take(board, loader, input, lent.flash, lent.answer);
-    pair.hex(board, lent.image, lent.map);
-    let from = files::any_address(random, site);
-    pair.write(board, file, from, files::any_upper(random), lent.record);
+    let set = random.pick(&SETS);
+    pair.hex(board, rules::told(random, set), lent.image, lent.map);
+    let from = writer::any_address(random, site);
+    pair.write(board, file, from, writer::any_upper(random), lent.record);
     let run = sessions::run(random);
     pair.start(board, run, lent.image, lent.map, lent.packet);
     let losses = random.pick(&[&[][..], &[1], &[0, 2]]);
@@ -167,9 +170,10 @@ fn told(pair: &mut Pair, random: &mut Random, site: Site, lent: Lent, board: u32
 
 /// The calls that are given a reader.
 fn read(pair: &mut Pair, random: &mut Random, site: Site, lent: Lent, board: u32) {
+    let set = random.pick(&SETS);
     let state = ReaderRecord {
         board,
-        ..files::made_up(random, site)
+        ..files::made_up(random, site, set)
     };
     let text = files::text(random, site);
     pair.record(state, &text, lent.image, lent.map);
@@ -202,7 +206,7 @@ fn step(pair: &mut Pair, random: &mut Random, site: Site, lent: Lent, board: u32
 /// one of that board's size it goes on.
 fn changed_reader(pair: &mut Pair, random: &mut Random, site: Site) {
     let other = site.other();
-    let mut state = pair.hex(site.pages(), site.image, site.map);
+    let mut state = pair.open_file(site, random.pick(&SETS));
     for _ in 0..random.within(1, 8) {
         let text = files::text(random, site);
         (_, state) = pair.record(state, &text, site.image, site.map);

@@ -13,8 +13,10 @@ use crate::files;
 use crate::loaders::built;
 use crate::random::Random;
 use crate::root;
+use crate::rules;
 use crate::site::{Site, SITES};
 use crate::wire::Wire;
+use crate::writer;
 
 const LIST: &str = "tests/cases.txt";
 const SCRIPTS: u64 = 12;
@@ -45,6 +47,41 @@ fn log(site: Site) -> Lent {
 
 const BUFFERS: [&str; 10] = [
     "flash", "answer", "image", "map", "packet", "record", "log", "input", "other", "spare",
+];
+
+/// Lines that are no case, and a remark or two.
+const JUNK: [&str; 31] = [
+    "",
+    " ",
+    "#",
+    "# -> ?",
+    " # reset",
+    "turned",
+    "take",
+    "record",
+    "rehearse reset",
+    "rehearse hold",
+    "start Hold",
+    "start held",
+    "turned 1",
+    "turned 0g",
+    "reset ",
+    "Reset",
+    "lend log 131073",
+    "lend input 1",
+    "start -1",
+    "start 4294967296",
+    "hex ",
+    "hex 01",
+    "hex -1",
+    "hex 1 2",
+    "hex 4294967296",
+    "board",
+    "board 0124",
+    "board 4294967296",
+    "write 00000000",
+    "write 00000000 000",
+    "write 00000000 0000 0",
 ];
 
 /// Compares the stored list and gives its number of lines.
@@ -167,8 +204,12 @@ fn wrongly_lent(random: &mut Random, lines: &mut Vec<String>, (part, whole): Len
 /// Reads a file and gives the address of a byte that it names.
 fn file(random: &mut Random, lines: &mut Vec<String>, site: Site) -> u32 {
     let past = site.end() + 0x100;
-    lines.push("hex".to_string());
+    let none = rules::unknown(random);
+    lines.push(random.pick(&["hex", "hex 1", "hex 2", "hex 2"]).to_string());
+    lines.push(format!("hex {none}"));
     wrongly_told(random, lines, site, "hex");
+    let line = random.pick(&["hex 1", "hex 2", "hex 3"]);
+    wrongly_told(random, lines, site, line);
     // the session before has lost its file
     lines.push(format!("proved {:08X}", random.below(past)));
     let named = first_byte(random, lines, site);
@@ -191,8 +232,8 @@ fn file(random: &mut Random, lines: &mut Vec<String>, site: Site) -> u32 {
     lines.push("record :00000001FF".to_string());
     lines.push("close".to_string());
     for _ in 0..4 {
-        let from = files::any_address(random, site);
-        let upper = files::any_upper(random);
+        let from = writer::any_address(random, site);
+        let upper = writer::any_upper(random);
         lines.push(format!("write {from:08X} {upper:04X}"));
         look(random, lines, site, "image");
         look(random, lines, site, "map");
@@ -355,37 +396,9 @@ fn desk(random: &mut Random, lines: &mut Vec<String>) {
         lines.push(format!("fill {buffer} {place:08X} {length} {byte:02X}"));
         lines.push("changed".to_string());
     }
-    let record = random.pick(&[("loader", 7), ("reader", 5), ("session", 9)]);
+    let record = random.pick(&[("loader", 7), ("reader", 7), ("reader", 7), ("session", 9)]);
     made_up(random, lines, record);
-    let junk = [
-        "",
-        " ",
-        "#",
-        "# -> ?",
-        " # reset",
-        "turned",
-        "take",
-        "record",
-        "rehearse reset",
-        "rehearse hold",
-        "start Hold",
-        "start held",
-        "turned 1",
-        "turned 0g",
-        "reset ",
-        "Reset",
-        "lend log 131073",
-        "lend input 1",
-        "start -1",
-        "start 4294967296",
-        "board",
-        "board 0124",
-        "board 4294967296",
-        "write 00000000",
-        "write 00000000 000",
-        "write 00000000 0000 0",
-    ];
-    lines.push(random.pick(&junk).to_string());
+    lines.push(random.pick(&JUNK).to_string());
 }
 
 /// A record of any values, at times one field too few, too many or too large.
@@ -410,6 +423,8 @@ fn made_up(random: &mut Random, lines: &mut Vec<String>, (name, fields): (&str, 
     for line in [
         "reset",
         "take 08",
+        "record :02FFFF001234BA",
+        "record :020000021000EC",
         "record :00000001FF",
         "close",
         "outcome",

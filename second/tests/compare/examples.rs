@@ -1,4 +1,5 @@
-//! Hex files that other tools have written, read by both sides on both boards.
+//! Stored hex files, most of them written by other tools, read by both sides on
+//! both boards and under both rule sets.
 
 use std::fs;
 use std::path::PathBuf;
@@ -8,8 +9,10 @@ use second::listing;
 
 use crate::pair::Pair;
 use crate::root;
+use crate::rules::SETS;
 use crate::sessions;
-use crate::site::{Site, LONG, SHORT};
+use crate::site::{Site, SITES};
+use crate::srec;
 use crate::tools;
 
 /// How reading a file ends.
@@ -19,19 +22,28 @@ pub enum Read {
     Refused { line: usize, number: u8 },
 }
 
-/// Each file with how it ends on the short board and on the long one.
-const EXAMPLES: [(&str, Read, Read); 11] = [
-    ("aligned", Read::Named(96), Read::Named(96)),
-    ("unaligned", Read::Named(301), Read::Named(301)),
-    ("large", Read::Named(12_000), Read::Named(12_000)),
-    ("linear", Read::Named(301), Read::Named(301)),
-    ("segment", Read::Named(301), Read::Named(301)),
-    ("holes", Read::Named(192), Read::Named(192)),
-    ("past-end", refused(3, 29), Read::Named(96)),
-    ("past-segment", refused(2, 29), refused(2, 29)),
-    ("past-linear", refused(2, 29), Read::Named(96)),
-    ("start", Read::Named(96), Read::Named(96)),
-    ("start-linear", Read::Named(96), Read::Named(96)),
+/// Each file with how it ends on the short board and on the long one, under set
+/// 1 and set 2 on each.
+const EXAMPLES: [(&str, [[Read; 2]; 2]); 13] = [
+    ("aligned", [[Read::Named(96); 2]; 2]),
+    ("unaligned", [[Read::Named(301); 2]; 2]),
+    ("large", [[Read::Named(12_000); 2]; 2]),
+    ("linear", [[Read::Named(301); 2]; 2]),
+    ("segment", [[Read::Named(301); 2]; 2]),
+    ("holes", [[Read::Named(192); 2]; 2]),
+    ("past-end", [[refused(3, 29); 2], [Read::Named(96); 2]]),
+    ("past-segment", [[refused(2, 29); 2]; 2]),
+    ("past-linear", [[refused(2, 29); 2], [Read::Named(96); 2]]),
+    ("start", [[Read::Named(96); 2]; 2]),
+    ("start-linear", [[Read::Named(96); 2]; 2]),
+    ("wrapped", [[refused(2, 29); 2], [Read::Named(32); 2]]),
+    (
+        "mixed",
+        [
+            [refused(3, 29), Read::Named(32)],
+            [Read::Named(32), Read::Named(32)],
+        ],
+    ),
 ];
 
 /// The example `aligned` with this start record before its end.
@@ -65,12 +77,13 @@ pub fn compare(pair: &mut Pair) {
     for buffer in [Buffer::Image, Buffer::Map] {
         pair.fill_buffer(buffer, 0x5A);
     }
-    for (name, short, long) in EXAMPLES {
+    for (name, expected) in EXAMPLES {
         let text = text(name);
-        assert_eq!(read_and_walk(pair, SHORT, &text), short, "{name}");
-        assert_eq!(read_and_walk(pair, LONG, &text), long, "{name}");
+        let ends = SITES.map(|site| SETS.map(|rules| read_and_walk(pair, site, rules, &text)));
+        assert_eq!(ends, expected, "{name}");
     }
     tools::compare(pair);
+    srec::compare(pair);
 }
 
 fn text(name: &str) -> Vec<u8> {
@@ -79,8 +92,8 @@ fn text(name: &str) -> Vec<u8> {
 }
 
 /// Reads a file, then walks its sessions.
-fn read_and_walk(pair: &mut Pair, site: Site, text: &[u8]) -> Read {
-    match read(pair, site, text) {
+fn read_and_walk(pair: &mut Pair, site: Site, rules: u32, text: &[u8]) -> Read {
+    match read(pair, site, rules, text) {
         Ok(()) => Read::Named(sessions::walk(pair, site)),
         Err((line, number)) => refused(line, number),
     }
@@ -88,8 +101,8 @@ fn read_and_walk(pair: &mut Pair, site: Site, text: &[u8]) -> Read {
 
 /// Reads a file to its end, or gives the line and the number of its first
 /// refusal.
-pub fn read(pair: &mut Pair, site: Site, text: &[u8]) -> Result<(), (usize, u8)> {
-    let mut state = pair.hex(site.pages(), site.image, site.map);
+pub fn read(pair: &mut Pair, site: Site, rules: u32, text: &[u8]) -> Result<(), (usize, u8)> {
+    let mut state = pair.open_file(site, rules);
     for (index, ended) in listing::lines(text).enumerate() {
         let record = listing::without_end(ended);
         let (number, next) = pair.record(state, record, site.image, site.map);

@@ -13,19 +13,25 @@ mod made;
 mod maps;
 mod packets;
 mod pair;
+mod places;
 mod plans;
 mod programs;
 mod random;
 mod rehearsals;
 mod root;
+mod rules;
 mod sessions;
 mod site;
+mod srec;
 mod tally;
 mod tools;
 mod wire;
+mod wraps;
+mod writer;
 
 use std::thread;
 
+use second::boundary::{RULES_1, RULES_2};
 use second::units::Board;
 
 use pair::Pair;
@@ -40,10 +46,13 @@ const OFTEN_IN_PROGRAMS: u64 = 5;
 /// How often each listed column must be seen that is not the same in every line.
 const OFTEN_IN_COLUMNS: u64 = 2;
 
-const PARTS: [(&str, Compare); 8] = [
+const PARTS: [(&str, Compare); 11] = [
     ("packet", packets::compare),
     ("loader", loaders::compare),
-    ("hex", files::compare),
+    ("hex, set 1", |pair| files::compare(pair, RULES_1)),
+    ("hex, set 2", |pair| files::compare(pair, RULES_2)),
+    ("rule sets", rules::compare),
+    ("hex writer", writer::compare),
     ("session", sessions::compare),
     ("log", logs::compare),
     ("rehearsal", rehearsals::compare),
@@ -86,7 +95,8 @@ fn check(whole: &mut Tallies) {
         let tally = whole.on(On::board(board));
         let name = On::board(board).name();
         println!("made log records, {name}:{}", tally.made_line());
-        tally.check(&tally::ON_EACH, OFTEN);
+        let expected = [&tally::ON_EACH, tally::wrapped(board)].concat();
+        tally.check(&expected, OFTEN);
         tally.check_made(&logs::numbers(board), OFTEN);
         tally.check_columns(&tally::FIXED_COLUMNS, OFTEN);
         tally.check_columns(&tally::RECORD_COLUMNS, OFTEN_IN_COLUMNS);

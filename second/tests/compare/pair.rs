@@ -1,13 +1,16 @@
 //! The product and the second program side by side: each line is asked of
 //! both, and the second program says what must come out.
 
-use second::boundary::{LoaderRecord, ReaderRecord, SessionRecord};
+use second::boundary::{self, LoaderRecord, ReaderRecord, SessionRecord, RULES_1};
 use second::cases::{self, Answer, Buffer, Desk, Part, CAPACITY};
+use second::hex::RuleSet;
 use second::listing::hex_digits;
 use second::units::Board;
 
+use crate::site::Site;
 use crate::tally::{On, Tallies};
 use crate::wire::Wire;
+use crate::wraps::Wrap;
 
 pub struct Pair {
     desk: Desk,
@@ -15,6 +18,8 @@ pub struct Pair {
     wire: Option<Wire>,
     /// Where lines put in `input` what they bring.
     brought: u32,
+    /// Of the hex reader's last answer, 0 where it has none.
+    column: usize,
     tallies: Tallies,
 }
 
@@ -32,6 +37,7 @@ impl Pair {
             desk: Desk::new(),
             wire: Some(Wire::open()),
             brought: 0,
+            column: 0,
             tallies: Tallies::default(),
         }
     }
@@ -208,23 +214,50 @@ impl Pair {
         (bytes_of(&taken), self.desk.loader())
     }
 
-    /// Calls the hex reader and gives the number; the only value of a refusal
-    /// is its column.
-    fn read_hex(&mut self, on: On, function: &'static str, line: impl Into<Vec<u8>>) -> u8 {
+    /// Calls the hex reader for a board and a rule set and gives the number; the
+    /// only value of a refusal is its column.
+    fn read_hex(
+        &mut self,
+        (board, rules): (u32, u32),
+        function: &'static str,
+        line: impl Into<Vec<u8>>,
+    ) -> u8 {
+        let on = On::of(board);
         let answer = self.call(on, function, line);
         self.given(&answer, "reader");
+        self.column = 0;
         if let [column] = &answer.values[..] {
-            let column = column.parse().expect("a column");
-            self.tallies.on(on).column(answer.number, column);
+            self.column = column.parse().expect("a column");
+            self.tallies.on(on).column(answer.number, self.column);
+        }
+        if let (On::Known(_), Some(what)) = (on, under(function, rules)) {
+            self.note(board, what, answer.number);
         }
         answer.number
     }
 
-    pub fn hex(&mut self, board: u32, image: Part, map: Part) -> ReaderRecord {
+    /// The column of the hex reader's last answer, 0 where it has none.
+    pub fn column(&self) -> usize {
+        self.column
+    }
+
+    /// The number and the reader that is kept.
+    pub fn hex(&mut self, board: u32, rules: u32, image: Part, map: Part) -> (u8, ReaderRecord) {
         self.set_board(board);
         self.lend_file(image, map);
-        self.read_hex(On::of(board), "hex", "hex");
-        self.desk.reader()
+        let line = match rules {
+            RULES_1 => String::from("hex"),
+            _ => format!("hex {rules}"),
+        };
+        let number = self.read_hex((board, rules), "hex", line);
+        (number, self.desk.reader())
+    }
+
+    /// Opens a file of the right sizes under a known set.
+    pub fn open_file(&mut self, site: Site, rules: u32) -> ReaderRecord {
+        let (number, opened) = self.hex(site.pages(), rules, site.image, site.map);
+        assert_eq!(number, 0, "opening under {rules}");
+        opened
     }
 
     pub fn record(
@@ -240,13 +273,30 @@ impl Pair {
             true => format!("line {}", hex_digits(text)).into_bytes(),
             false => [b"record ", text].concat(),
         };
-        let number = self.read_hex(On::of(record.board), "record", line);
+        let number = self.read_hex((record.board, record.rules), "record", line);
+        if let Some(wrap) = Wrap::of(&record, text) {
+            self.note_wrap(record.board, &wrap, map, number);
+        }
         (number, self.desk.reader())
+    }
+
+    /// Counts what came of a record that wraps; of 30, on which side of the wrap
+    /// alone a place was named before.
+    fn note_wrap(&mut self, board: u32, wrap: &Wrap, map: Part, number: u8) {
+        match number {
+            0 | 29 => self.note(board, "wrapped", number),
+            30 => match wrap.met(self.look(map)) {
+                (true, false) => self.note(board, "wrapped, named before it", number),
+                (false, true) => self.note(board, "wrapped, named behind it", number),
+                _ => {}
+            },
+            _ => {}
+        }
     }
 
     pub fn close_file(&mut self, record: ReaderRecord) -> u8 {
         self.set_reader(record);
-        self.read_hex(On::of(record.board), "close", "close")
+        self.read_hex((record.board, record.rules), "close", "close")
     }
 
     /// Nothing after a refusal.
@@ -406,6 +456,19 @@ impl Pair {
         }
         (answer.number, self.desk.loader(), self.session())
     }
+}
+
+/// What the numbers of a function under a rule set are counted as; nothing for
+/// a set that is none.
+fn under(function: &str, rules: u32) -> Option<&'static str> {
+    Some(match (boundary::rule_set(rules).ok()?, function) {
+        (RuleSet::One, "hex") => "hex, set 1",
+        (RuleSet::One, "record") => "record, set 1",
+        (RuleSet::One, _) => "close, set 1",
+        (RuleSet::Two, "hex") => "hex, set 2",
+        (RuleSet::Two, "record") => "record, set 2",
+        (RuleSet::Two, _) => "close, set 2",
+    })
 }
 
 /// The buffer and the place of a part that is not null.

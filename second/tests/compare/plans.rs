@@ -45,8 +45,8 @@ pub fn texts() -> Vec<Vec<u8>> {
     texts
 }
 
-/// Files with a byte that only the long board has, by linear and by segment
-/// base; programs stay with the short one.
+/// Files with a byte that only the long board has, by linear base, by segment
+/// base and by both; programs stay with the short one and with rule set 1.
 fn past_end() -> Vec<Vec<u8>> {
     let far = [
         vec![encoded(0xF800, 0, &[0x5A])],
@@ -59,6 +59,17 @@ fn past_end() -> Vec<Vec<u8>> {
             RECORD.to_vec(),
         ],
         vec![encoded(0xFFFF, 0, &[0x5A, 0x5A])],
+        vec![
+            encoded(0, 2, &[0x10, 0]),
+            encoded(0, 4, &[0, 0]),
+            RECORD.to_vec(),
+        ],
+        vec![
+            encoded(0, 4, &[0, 1]),
+            encoded(0, 2, &[0, 0]),
+            RECORD.to_vec(),
+        ],
+        vec![encoded(0, 2, &[0, 0]), encoded(0xFFFF, 0, &[0x5A, 0x5A])],
     ];
     let text = |records: &Vec<Vec<u8>>| [&records.join(&b'\n')[..], b"\n", END, b"\n"].concat();
     far.iter().map(text).collect()

@@ -61,12 +61,22 @@ pub const ON_NOTHING: [(&str, &[u8]); 7] = [
 
 /// The same of the others, on either board; the endings that steps give and
 /// those that are read off; the marks; the run kinds of sessions that were
-/// started, and that ended as asked by steps and in rehearsals.
-pub const ON_EACH: [(&str, &[u8]); 18] = [
+/// started, and that ended as asked by steps and in rehearsals; the hex reader
+/// under each rule set too.
+pub const ON_EACH: [(&str, &[u8]); 24] = [
     ("take", &[0, 1, 2, 3, 4, 5, 6, 7, 8, 9, 10, 11, 20]),
-    ("hex", &[0, 20]),
-    ("record", &[0, 20, 21, 22, 23, 24, 25, 26, 27, 28, 29, 30]),
-    ("close", &[0, 31, 32]),
+    ("hex", &[0, 20, 34]),
+    ("hex, set 1", &[0, 20]),
+    ("hex, set 2", &[0, 20]),
+    (
+        "record",
+        &[0, 20, 34, 21, 22, 23, 24, 25, 26, 27, 28, 29, 30],
+    ),
+    ("record, set 1", RECORD),
+    ("record, set 2", RECORD),
+    ("close", &[0, 34, 31, 32]),
+    ("close, set 1", &[0, 31, 32]),
+    ("close, set 2", &[0, 31, 32]),
     ("write", &[0, 20, 33]),
     ("start", &[0, 20, 32]),
     ("started", &[0, 1, 2]),
@@ -82,6 +92,21 @@ pub const ON_EACH: [(&str, &[u8]); 18] = [
     ("rehearse", &[0, 20, 32]),
     ("rehearsed as asked", &[0, 1, 2]),
 ];
+
+const RECORD: &[u8] = &[0, 20, 21, 22, 23, 24, 25, 26, 27, 28, 29, 30];
+
+/// What comes of records that wrap; on the short board each has a byte past the
+/// end.
+pub fn wrapped(board: Board) -> &'static [(&'static str, &'static [u8])] {
+    match board {
+        Board::Short => &[("wrapped", &[29])],
+        Board::Long => &[
+            ("wrapped", &[0, 29]),
+            ("wrapped, named before it", &[30]),
+            ("wrapped, named behind it", &[30]),
+        ],
+    }
+}
 
 /// What each of them gives on a board that is none.
 pub const ON_UNKNOWN: [(&str, &[u8]); 11] = [

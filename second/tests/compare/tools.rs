@@ -10,7 +10,9 @@ use crate::examples;
 use crate::maps;
 use crate::pair::Pair;
 use crate::random::Random;
+use crate::rules::SETS;
 use crate::site::{Site, SITES};
+use crate::srec;
 
 /// A tool, by the kind of bases that it writes.
 #[derive(Clone, Copy)]
@@ -79,9 +81,10 @@ impl Tool {
     }
 }
 
-/// Reads each tool's files on both boards.
+/// Reads each tool's files on both boards and under both rule sets, and under
+/// set 2 as `srec_cat` reads them back.
 pub fn compare(pair: &mut Pair) {
-    let place = place();
+    let place = place("tools");
     let mut random = Random::new(10);
     for tool in TOOLS {
         for (start, length) in FILES {
@@ -91,8 +94,11 @@ pub fn compare(pair: &mut Pair) {
                 println!("{name} is not installed: no file of its bases of type {base}");
                 break;
             };
+            srec::compare_text(pair, &place, tool.name(), &String::from_utf8_lossy(&text));
             for site in SITES {
-                read(pair, site, tool, &text, (start, &bytes));
+                for rules in SETS {
+                    read(pair, site, rules, tool, &text, (start, &bytes));
+                }
             }
         }
     }
@@ -100,18 +106,25 @@ pub fn compare(pair: &mut Pair) {
 }
 
 /// A directory of this run.
-fn place() -> PathBuf {
-    let place = env::temp_dir().join(format!("gremolunde-{}", process::id()));
+pub fn place(name: &str) -> PathBuf {
+    let place = env::temp_dir().join(format!("gremolunde-{name}-{}", process::id()));
     fs::create_dir_all(&place).expect("a place for files");
     place
 }
 
 /// Reads a file, which is 29 where it reaches past the board's end.
-fn read(pair: &mut Pair, site: Site, tool: Tool, text: &[u8], (start, bytes): (u32, &[u8])) {
+fn read(
+    pair: &mut Pair,
+    site: Site,
+    rules: u32,
+    tool: Tool,
+    text: &[u8],
+    (start, bytes): (u32, &[u8]),
+) {
     let end = start + bytes.len() as u32;
-    let what = format!("{} at {start:#x}", tool.name());
+    let what = format!("{} at {start:#x} under {rules}", tool.name());
     assert!(end <= 0x1_0000 || has_type(text, tool.base()), "{what}");
-    let given = examples::read(pair, site, text);
+    let given = examples::read(pair, site, rules, text);
     if end > site.end() {
         let number = given.map_err(|(_, number)| number);
         assert_eq!(number, Err(29), "{what}");
