@@ -150,7 +150,7 @@ closeOf h =
     first (34 when not (isRuleSet (h .rules)) ∷ 31 when not (h .ended) ∷ 32 when not (h .taken) ∷ [])
     (given h)
 
--- ---- the places of a data record in two rows: up to where its segment wraps, and from the segment's start on
+-- ---- the places of a data record in two rows: up to where its segment wraps, and from its start on
 
 -- what AAAA is added to
 abbrev pub baseOf : Hex → ℕ

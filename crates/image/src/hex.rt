@@ -215,7 +215,7 @@ impl Hex {
         self.linear as u64
     }
 
-    // How many of `count` bytes from the offset on stand in a row: all, or those before the end of a segment that wraps.
+    // How many of `count` bytes from the offset on stand in a row: all, or those before a segment's end where it wraps.
     fn row(self, offset: u16, count: usize) -> usize
         ensures { λ r. ⌜ (r ≡ rowOf self offset count) × (r ≤ count) ⌝ }
     {

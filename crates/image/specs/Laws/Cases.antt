@@ -1,5 +1,5 @@
--- The paper's records, start records and columns, read by a fresh reader on a board of 272 bytes; records that
--- run past offset 0xFFFF, under both rule sets; and records written.
+-- The paper's records, start records and columns, read by a fresh reader on a board of 272 bytes; records
+-- that run past offset 0xFFFF, under both rule sets; and records written.
 use Prim.Native.Nat.{ℕ, _*_}
 use mathlib.Core.Bool.{Bool, true, false}
 use mathlib.Core.List.{List, [], _∷_, _++_}

@@ -296,8 +296,8 @@ module _ (h : Hex) (b : List ℕ) (a : ℕ) (run : (i : ℕ) → place h b i ≡
         name-row (place h b) map 0 a (count b) (in-row (count b)),
       )
 
--- In rule set 1 all records have them so, whatever governs: 29, 30 and the effect are the paper's, by the place
--- linear base + segment base + AAAA.
+-- In rule set 1 all records have them so, whatever governs: 29, 30 and the effect are the paper's, by the
+-- place linear base + segment base + AAAA.
 pub first-set : (size : ℕ) (h : Hex) (b image map : List ℕ) → h .rules ≡ 1
     → let a = h .linear + h .segment + address b in
     (pastBoard size h b ≡ both (ltb 0 (count b)) (ltb size (a + count b)))

@@ -408,8 +408,8 @@ module _ (size : ℕ) (image map : List ℕ) where
               }
 
 -- Writing a file with a named byte record by record, from address 0 and upper half 0, and reading the records
--- back from a fresh reader under either rule set is accepted throughout, closes, and gives the same map and the
--- same named bytes.
+-- back from a fresh reader under either rule set is accepted throughout, closes, and gives the same map and
+-- the same named bytes.
 pub round-trip : (size rules : ℕ) (image map : List ℕ)
     → isRuleSet rules ≡ true
     → size ≤ 2 ^ 32

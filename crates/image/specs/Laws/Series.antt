@@ -150,8 +150,8 @@ unsegmented-start : (size : ℕ) → Unsegmented (started size 1 .reader)
 unsegmented-start size = record { rules = refl; segment = refl; segmented = refl }
 
 -- From a start, a series of records with no type 02 gives the same answers under both rule sets, record by
--- record, with the same columns, the same image and the same map; the readers differ in the set that they carry
--- and in nothing else. Nothing is asked of offsets: before any 02, nothing wraps in either set.
+-- record, with the same columns, the same image and the same map; the readers differ in the set that they
+-- carry and in nothing else. Nothing is asked of offsets: before any 02, nothing wraps in either set.
 pub sets-alike : (size : ℕ) (s : List (List ℕ)) → noSegments s ≡ true
     → answers size s (started size 2) ≡ map (answerUnder 2) (answers size s (started size 1))
 sets-alike size s n = from-here size s (started size 1) (unsegmented-start size) n

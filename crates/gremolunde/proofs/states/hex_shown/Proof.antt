@@ -18,4 +18,5 @@ returns c =
     }
 
 pub hex-shown-spec : {M : Type 1} → statement M
-hex-shown-spec = tie.close (tie.spec (λ c κs. search needs) (λ c κs. search needs) (λ c κs. search needs) returns)
+hex-shown-spec =
+    tie.close (tie.spec (λ c κs. search needs) (λ c κs. search needs) (λ c κs. search needs) returns)

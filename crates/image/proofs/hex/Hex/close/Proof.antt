@@ -23,7 +23,8 @@ returns c = simp (sym (c .before .is-rule-set .ensures) ∙ not-true _ (c .if1 .
 returns-2 : tie.Need-returns-2
 unfolding first closeOf columnOf
 returns-2 c =
-    let going = c .before .before in simp (known going, not-true (entry going .args .self .ended) (c .if2 .taken))
+    let going = c .before .before in
+    simp (known going, not-true (entry going .args .self .ended) (c .if2 .taken))
 
 returns-3 : tie.Need-returns-3
 unfolding first closeOf columnOf

@@ -164,7 +164,13 @@ put-requires c κs =
     let s = entry at .args .self in
     let pre = entry at .pre in
     let k = left .before .row .result in (
-      omega (arith, near-is (left .before), row-is (left .before), fits left, length-take (4 + k - 4) (drop 4 b)),
+      omega (
+        arith,
+        near-is (left .before),
+        row-is (left .before),
+        fits left,
+        length-take (4 + k - 4) (drop 4 b),
+      ),
       omega (
         arith,
         left .before .before .base .ensures .0,

@@ -72,13 +72,13 @@ take-requires c κs =
 
 returns-4 : tie.Need-returns-4
 returns-4 c =
-    let t = c .before .before .before .before .before .take in
-    let tested = sized-at (c .before .before .before .before .before .before .before .before .before .before) in
+    let taken = c .before .before .before .before .before in
+    let tested = sized-at (taken .before .before .before .before .before) in
     let a = entry tested .args in
     let i = a .image .now in
     let m = a .map .now in
     let l = a .line .now in
-    t .ensures
+    taken .take .ensures
     ∙ ap (λ (n : ℕ). settled (pointed l (recordIn n (a .self) l i m)) i m)
     (sizes-right _ _ _ (sized tested) .0)
 

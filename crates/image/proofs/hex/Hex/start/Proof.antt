@@ -30,8 +30,10 @@ module _ (size rules : ℕ) (image map : List ℕ) where
   start-unknown e k = simp (e, k)
 
   start-given : (i m : List ℕ) (k l : ℕ) → rightSizesIn size (length image) (length map) ≡ true
-      → isRuleSet rules ≡ true → k ≡ size → i ≡ copyOf image 0 (replicate k 0xFF) → l ≡ size / 8 → m ≡ copyOf map 0 (replicate l 0)
-      → settledAs (right (fresh rules)) i m ≡ settled (pointed noLine (startIn size rules image map)) image map
+      → isRuleSet rules ≡ true
+      → k ≡ size → i ≡ copyOf image 0 (replicate k 0xFF) → l ≡ size / 8 → m ≡ copyOf map 0 (replicate l 0)
+      → settledAs (right (fresh rules)) i m
+      ≡ settled (pointed noLine (startIn size rules image map)) image map
   unfolding first startIn columnOf
   start-given i m k l e known ek ei el em =
       let s = sizes-right size (length image) (length map) e in
