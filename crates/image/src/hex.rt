@@ -206,13 +206,15 @@ impl Hex {
     fn base(self) -> u64
         ensures { λ r. ⌜ (r ≡ baseOf self) × (r < 2 ^ 33) ⌝ }
     {
+        let linear = self.linear as u64;
+        let segment = self.segment as u64;
         if self.rules == RULES_1 {
-            return self.linear as u64 + self.segment as u64;
+            return linear + segment;
         }
         if self.segmented {
-            return self.segment as u64;
+            return segment;
         }
-        self.linear as u64
+        linear
     }
 
     // How many of `count` bytes from the offset on stand in a row: all, or those before a segment's end where it wraps.
