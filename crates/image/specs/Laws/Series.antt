@@ -14,7 +14,7 @@ use Rattle.basis.specs.Laws.Choice.{decide, both-true}
 use Rattle.basis.specs.Laws.Refusals.{first-then, through, given-one}
 use Rattle.basis.specs.Refusals.{Answer, refused, given, Rule, _when_, first, andThen, bare}
 use Rattle.image.specs.Digits.{decoded}
-use Rattle.image.specs.Hex.{File, hex, file, isRuleSet, started, place, otherOf, placed, effect, recordIn, closeOf}
+use Rattle.image.specs.Hex.{File, isRuleSet, started, place, otherOf, effect, recordIn, closeOf}
 use Rattle.image.specs.Record.{count, kind, isData, characterRows, byteRows, shapeRows, Pointed, wrong, right, pointed}
 use Rattle.image.specs.Series.{fileAfter, answers, lastFile, ruled, under, answerUnder, noSegments}
 use Rattle.image.specs.declared.hex.Hex.{Hex}
