@@ -34,15 +34,38 @@ shape-count b e n0 =
     let q = either-none (not counted) (not (eqb (address b) 0)) (simp (ne-eqb _ _ n0) at p) in
     eqb-true _ _ (not-false counted (q .0))
 
+-- a record that is taken has done what it does
+pub record-did : (size : ℕ) (h : Hex) (text image map : List ℕ) (f : File)
+    → recordIn size h text image map ≡ given f
+    → f ≡ effect h (decoded (drop 1 text)) image map
+unfolding recordIn
+record-did size h text image map f e =
+    let did = effect h (decoded (drop 1 text)) image map in
+    given-one (sym e ∙ through _ did (given did) e)
+
+-- the rule set stays with the reader, whatever record is taken
+pub set-stays : (size : ℕ) (h : Hex) (text image map : List ℕ) (f : File)
+    → recordIn size h text image map ≡ given f
+    → f .reader .rules ≡ h .rules
+set-stays size h text image map f e =
+    ap (λ (g : File). g .reader .rules) (record-did size h text image map f e) ∙ stays (decoded (drop 1 text))
+  where
+    other : (b : List ℕ) → otherOf h b .rules ≡ h .rules
+    other b =
+        decide (eqb (kind b) 1) (λ e. rw e)
+        (λ e. decide (eqb (kind b) 2) (λ t. rw (e, t))
+        (λ t. decide (eqb (kind b) 4) (λ q. rw (e, t, q)) (λ q. rw (e, t, q))))
+
+    stays : (b : List ℕ) → effect h b image map .reader .rules ≡ h .rules
+    stays b = decide (isData b) (λ e. rw e) (λ e. rw e (other b))
+
 -- a start record, where it is taken, leaves reader, image and map as they stood
 pub start-ignored : (size : ℕ) (h : Hex) (text image map : List ℕ) (f : File)
     → isStart (kind (decoded (drop 1 text))) ≡ true
     → recordIn size h text image map ≡ given f
     → f ≡ file h image map
-unfolding recordIn
 start-ignored size h text image map f s e =
-    let did = effect h (decoded (drop 1 text)) image map in
-    given-one (sym e ∙ through _ did (given did) e) ∙ ignored (decoded (drop 1 text)) s
+    record-did size h text image map f e ∙ ignored (decoded (drop 1 text)) s
   where
     ignored : (b : List ℕ) → isStart (kind b) ≡ true → effect h b image map ≡ file h image map
     ignored b s =

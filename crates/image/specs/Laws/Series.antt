@@ -11,10 +11,11 @@ use Rattle.basis.specs.Choice.{pick, any}
 use Rattle.basis.specs.Units.{rightSizesIn}
 use Rattle.runs.specs.Map.{named}
 use Rattle.basis.specs.Laws.Choice.{decide, both-true}
-use Rattle.basis.specs.Laws.Refusals.{first-then, through, given-one}
+use Rattle.basis.specs.Laws.Refusals.{first-then}
 use Rattle.basis.specs.Refusals.{Answer, refused, given, Rule, _when_, first, andThen, bare}
 use Rattle.image.specs.Digits.{decoded}
 use Rattle.image.specs.Hex.{File, isRuleSet, started, place, otherOf, effect, recordIn, closeOf}
+use Rattle.image.specs.Laws.Hex.{record-did}
 use Rattle.image.specs.Record.{count, kind, isData, characterRows, byteRows, shapeRows, Pointed, wrong, right, pointed}
 use Rattle.image.specs.Series.{fileAfter, answers, lastFile, ruled, under, answerUnder, noSegments}
 use Rattle.image.specs.declared.hex.Hex.{Hex}
@@ -98,10 +99,8 @@ module _ (h : Hex) (u : Unsegmented h) where
         → (g : File)
         → recordIn size h line image map ≡ given g
         → Unsegmented (g .reader)
-    unfolding recordIn
     record-kept n g e =
-        let did = effect h (decoded (drop 1 line)) image map in
-        subst (λ (f : File). Unsegmented (f .reader)) (given-one (sym (through _ did (given did) e) ∙ e))
+        subst (λ (f : File). Unsegmented (f .reader)) (sym (record-did size h line image map g e))
         (effect-kept (decoded (drop 1 line)) image map n)
 
   close-same : bare (closeOf (ruled 2 h)) ≡ bare (closeOf h)
@@ -125,26 +124,22 @@ module _ (size : ℕ) where
   after-kept l f u n (refused k) e = u
   after-kept l f u n (given g) e = record-kept (f .reader) u size l (f .image) (f .map) n g e
 
+  -- the answers, the file after them, and that no 02 has come then either
   from-here : (s : List (List ℕ)) (f : File) → Unsegmented (f .reader) → noSegments s ≡ true
-      → answers size s (under 2 f) ≡ map (answerUnder 2) (answers size s f)
-  unfolding answers
-  from-here [] f u n = refl
+      → (answers size s (under 2 f) ≡ map (answerUnder 2) (answers size s f))
+      × (lastFile size s (under 2 f) ≡ under 2 (lastFile size s f))
+      × Unsegmented (lastFile size s f .reader)
+  unfolding answers lastFile
+  from-here [] f u n = (refl, refl, u)
   from-here (l ∷ s) f u n =
       let a = recordIn size (f .reader) l (f .image) (f .map) in
       let t = both-true (not (eqb (kind (decoded (drop 1 l))) 2)) (noSegments s) n in
-      rw (record-same (f .reader) u size l (f .image) (f .map), after-same f (pointed l a))
-      (ap (λ (x : List (Pointed File)). answerUnder 2 (pointed l a) ∷ x)
-      (from-here s (fileAfter f (pointed l a)) (after-kept l f u (not-true _ (t .0)) a refl) (t .1)))
-
-  last-here : (s : List (List ℕ)) (f : File) → Unsegmented (f .reader) → noSegments s ≡ true
-      → (lastFile size s (under 2 f) ≡ under 2 (lastFile size s f)) × Unsegmented (lastFile size s f .reader)
-  unfolding lastFile
-  last-here [] f u n = (refl, u)
-  last-here (l ∷ s) f u n =
-      let a = recordIn size (f .reader) l (f .image) (f .map) in
-      let t = both-true (not (eqb (kind (decoded (drop 1 l))) 2)) (noSegments s) n in
-      rw (record-same (f .reader) u size l (f .image) (f .map), after-same f (pointed l a))
-      (last-here s (fileAfter f (pointed l a)) (after-kept l f u (not-true _ (t .0)) a refl) (t .1))
+      let on = from-here s (fileAfter f (pointed l a)) (after-kept l f u (not-true _ (t .0)) a refl) (t .1) in
+      rw (record-same (f .reader) u size l (f .image) (f .map), after-same f (pointed l a)) (
+        ap (λ (x : List (Pointed File)). answerUnder 2 (pointed l a) ∷ x) (on .0),
+        on .1,
+        on .2,
+      )
 
 unsegmented-start : (size : ℕ) → Unsegmented (started size 1 .reader)
 unsegmented-start size = record { rules = refl; segment = refl; segmented = refl }
@@ -154,13 +149,13 @@ unsegmented-start size = record { rules = refl; segment = refl; segmented = refl
 -- carry and in nothing else. Nothing is asked of offsets: before any 02, nothing wraps in either set.
 pub sets-alike : (size : ℕ) (s : List (List ℕ)) → noSegments s ≡ true
     → answers size s (started size 2) ≡ map (answerUnder 2) (answers size s (started size 1))
-sets-alike size s n = from-here size s (started size 1) (unsegmented-start size) n
+sets-alike size s n = from-here size s (started size 1) (unsegmented-start size) n .0
 
 -- And it closes alike.
 pub closes-alike : (size : ℕ) (s : List (List ℕ)) → noSegments s ≡ true
     → bare (closeOf (lastFile size s (started size 2) .reader))
     ≡ bare (closeOf (lastFile size s (started size 1) .reader))
 closes-alike size s n =
-    let e = last-here size s (started size 1) (unsegmented-start size) n in
-    ap (λ (f : File). bare (closeOf (f .reader))) (e .0)
-    ∙ close-same (lastFile size s (started size 1) .reader) (e .1)
+    let e = from-here size s (started size 1) (unsegmented-start size) n in
+    ap (λ (f : File). bare (closeOf (f .reader))) (e .1)
+    ∙ close-same (lastFile size s (started size 1) .reader) (e .2)
