@@ -9,9 +9,10 @@
  * the function says otherwise, and leaves all lent bytes as they were unless the function says otherwise. A function
  * that cannot refuse gives its value itself.
  *
- * States. gremolunde_loader, gremolunde_hex and gremolunde_session are plain values that the caller keeps, copies and
- * stores. Every value of every field is safe to pass. Where a field is a flag, 0 is false and all else is true; an
- * answer has 0 or 1 there.
+ * States. gremolunde_loader, gremolunde_receiver, gremolunde_port, gremolunde_hex and gremolunde_session are plain
+ * values that the caller keeps, copies and stores. Every value of every field is safe to pass. Where a field is a
+ * flag, 0 is false and all else is true; an answer has 0 or 1 there. One function, gremolunde_receiver_byte, works on
+ * a state where it stands.
  *
  * Lent bytes. A pointer and the length after it lend so many bytes for the time of the call. With a length of 0 the
  * pointer may be null. Bytes that a function may write (a pointer without const) must not overlap other bytes that
@@ -59,6 +60,23 @@ typedef struct gremolunde_loader {
     uint8_t opened;     /* flag: a protect sequence is open */
     uint8_t added_read; /* flag: read protection is added to the sequence */
 } gremolunde_loader;
+
+/* A receiver: fed one byte at a time, it hunts for 07 0E, gathers N + 4 bytes and hands the packet on. It is fed only
+ * while a loader is serving. It has no clock: what was begun waits for its last byte. The first `length` bytes are
+ * gathered, all of them where `length` is larger than there are; those behind them count for nothing, and a packet
+ * that is handed on stands at the start, with a `length` of 0. Where a caller made one up, what stands third in it is
+ * N, and what stands first and second is taken for the start, whatever it is; where more is gathered than N + 3 bytes
+ * it is dropped with the next byte, which is hunted. */
+typedef struct gremolunde_receiver {
+    uint8_t bytes[GREMOLUNDE_PACKET];
+    size_t length;
+} gremolunde_receiver;
+
+/* A port: a loader behind a receiver. */
+typedef struct gremolunde_port {
+    gremolunde_loader loader;
+    gremolunde_receiver receiver;
+} gremolunde_port;
 
 /* The rule set for the addresses of a hex file, chosen when it is opened; a number that is not listed is refused with
  * 34, after 20. Byte i of a data record has its place at
@@ -132,6 +150,22 @@ typedef struct gremolunde_taken {
     gremolunde_loader loader;
 } gremolunde_taken;
 
+/* The length of the packet that was handed on, 0 where none was, how many bytes were taken, and the next receiver, at
+ * the start of whose bytes the packet stands. */
+typedef struct gremolunde_received {
+    size_t packet;
+    size_t taken;
+    gremolunde_receiver receiver;
+} gremolunde_received;
+
+/* How many bytes were taken, how many answer bytes were written, and the next port. */
+typedef struct gremolunde_port_taken {
+    uint32_t number;
+    size_t taken;
+    size_t answered;
+    gremolunde_port port;
+} gremolunde_port_taken;
+
 /* The next hex reader. A refusal from 22 to 28 has the column where its line is wrong, counted from 0. */
 typedef struct gremolunde_hex_read {
     uint32_t number;
@@ -202,6 +236,29 @@ gremolunde_taken gremolunde_loader_take(uint32_t board, gremolunde_loader loader
                                         size_t input_length, uint8_t *flash, size_t flash_length, uint8_t *answer,
                                         size_t answer_length);
 
+/* A receiver that has gathered nothing; its bytes are 0. */
+gremolunde_receiver gremolunde_receiver_new(void);
+
+/* Feeds one byte to a receiver where it stands, so that an interrupt can keep it in its own storage: `receiver` points
+ * to one, and is not null. Gives the length of the packet that this byte completes, which then stands at the start of
+ * the receiver's bytes until the next byte is fed, or 0. A count below 5 completes a packet of three bytes at once, so
+ * that the loader says 3. All bytes behind those gathered, or behind the packet, stay as they were. */
+size_t gremolunde_receiver_byte(gremolunde_receiver *receiver, uint8_t byte);
+
+/* Feeds bytes as they came, one after another, up to and with the one that completes a packet, or all of them. Where
+ * the bytes are cut between calls changes nothing. */
+gremolunde_received gremolunde_receiver_bytes(gremolunde_receiver receiver, const uint8_t *bytes, size_t bytes_length);
+
+/* Takes bytes as they came from the line, up to and with the one that brings the loader an input, or all of them. While
+ * the loader serves they go to the receiver, and a packet that it hands on goes to the loader; else the first of them
+ * alone goes to the loader as it comes, and the receiver has then gathered nothing, its bytes as they were. So the
+ * single byte 08 opens the board, the receiver is fed after the greeting, and not after R. `number` is 0 where the
+ * loader got no input. 65, 20 with no byte taken; else as gremolunde_loader_take says, with `taken` and the next
+ * receiver on those refusals too, the loader as it came. Call again with the rest until all are taken. */
+gremolunde_port_taken gremolunde_port_take(uint32_t board, gremolunde_port port, const uint8_t *bytes,
+                                           size_t bytes_length, uint8_t *flash, size_t flash_length, uint8_t *answer,
+                                           size_t answer_length);
+
 /* Opens a file for a board, under a rule set: fills image with 0xFF and map with 0. 65 unknown board, 20 wrong sizes,
  * 34 unknown rule set; the reader is then all 0. */
 gremolunde_hex_read gremolunde_hex_start(uint32_t board, uint32_t rules, uint8_t *image, size_t image_length,
@@ -271,6 +328,17 @@ gremolunde_rehearsal gremolunde_rehearse(uint32_t board, uint32_t run, gremolund
                                          const uint8_t *losses, size_t losses_length, const uint8_t *image,
                                          size_t image_length, const uint8_t *map, size_t map_length,
                                          uint8_t *flash, size_t flash_length);
+
+/* Rehearses a whole load with rubbish on the line, the loader behind a receiver that has gathered nothing. Before what
+ * the session sends in exchange i, counted from 0, the board gets `each` bytes of `rubbish` from place i * `each` on,
+ * fewer or none where they end. What is lost is the packet, and not the rubbish before it; or the answers of the
+ * exchange, all of them. The answers to rubbish and packet that are not lost reach the session one after another as
+ * one. All else is as in gremolunde_rehearse. */
+gremolunde_rehearsal gremolunde_rehearse_noisy(uint32_t board, uint32_t run, gremolunde_loader loader,
+                                               const uint8_t *losses, size_t losses_length, const uint8_t *rubbish,
+                                               size_t rubbish_length, size_t each, const uint8_t *image,
+                                               size_t image_length, const uint8_t *map, size_t map_length,
+                                               uint8_t *flash, size_t flash_length);
 
 #ifdef __cplusplus
 }
