@@ -15,6 +15,10 @@ use Rattle.receiver.specs.declared.receiver.Stretch.{Stretch}
 abbrev pub fresh : Receiver
 fresh = record { bytes = replicate packetMost 0; len = 0 }
 
+-- what was gathered is dropped, every byte stays
+abbrev pub emptied : Receiver → Receiver
+emptied r = record { bytes = r .bytes; len = 0 }
+
 abbrev pub gathered : Receiver → List ℕ
 gathered r = take (r .len) (r .bytes)
 
@@ -30,7 +34,7 @@ abbrev pub keeping : Receiver → Received
 keeping r = record { receiver = r; packet = 0 }
 
 abbrev pub giving : Receiver → Received
-giving r = record { receiver = record { bytes = r .bytes; len = 0 }; packet = r .len }
+giving r = record { receiver = emptied r; packet = r .len }
 
 -- after one byte
 abbrev pub byteOf : Receiver → ℕ → Received

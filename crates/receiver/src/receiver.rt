@@ -1,10 +1,10 @@
 // A receiver hunts for 07 0E, gathers N + 4 bytes, and hands on the packet.
 ghost use mathlib.Core.Path.{_≡_};
 ghost use mathlib.Core.List.{[], _∷_, _++_};
-ghost use Prim.Native.Nat.{_<_};
+ghost use Prim.Native.Nat.{_≤_, _<_};
 ghost use Rattle.packet.specs.Packet.{packetMost};
 ghost use Rattle.receiver.specs.Hearing.{hunted, gathering};
-ghost use Rattle.receiver.specs.Receiver.{fresh, gathered, stored, keeping, giving, byteOf, bytesOf};
+ghost use Rattle.receiver.specs.Receiver.{fresh, emptied, gathered, stored, keeping, giving, byteOf, bytesOf};
 use packet::build::PACKET;
 use packet::table::NEXT_START;
 use packet::table::START;
@@ -40,7 +40,7 @@ impl Receiver {
     }
 
     pub fn byte(self, b: u8) -> Received
-        ensures { λ r. ⌜ r ≡ byteOf self b ⌝ }
+        ensures { λ r. ⌜ (r ≡ byteOf self b) × (r .packet ≤ packetMost) ⌝ }
     {
         let len = self.len;
         if len == 0 {
@@ -70,7 +70,7 @@ impl Receiver {
 
     // Bytes as they came, up to and with the one that completes a packet.
     pub fn bytes(self, bytes: &[u8]) -> Stretch
-        ensures { λ r. ⌜ r ≡ bytesOf self (now (bytes .entry)) ⌝ }
+        ensures { λ r. ⌜ (r ≡ bytesOf self (now (bytes .entry))) × (r .packet ≤ packetMost) ⌝ }
     {
         let mut receiver = self;
         let mut i = 0;
@@ -94,6 +94,13 @@ impl Receiver {
         }
     }
 
+    pub fn emptied(mut self) -> Receiver
+        ensures { λ r. ⌜ r ≡ emptied self ⌝ }
+    {
+        self.len = 0;
+        self
+    }
+
     // What was gathered is dropped; the byte may itself begin a start.
     fn hunt(mut self, b: u8) -> Receiver
         ensures { λ r. ⌜ r ≡ stored self (gathering (hunted b)) ⌝ }
@@ -109,7 +116,9 @@ impl Receiver {
 
     fn gather(mut self, b: u8) -> Receiver
         requires { ⌜ self .len < packetMost ⌝ }
-        ensures { λ r. ⌜ r ≡ stored self (gathering (gathered self ++ (b ∷ []))) ⌝ }
+        ensures { λ r. ⌜
+            (r ≡ stored self (gathering (gathered self ++ (b ∷ [])))) × (r .len ≤ packetMost)
+            ⌝ }
     {
         let len = self.len;
         self.bytes[len] = b;
@@ -119,7 +128,7 @@ impl Receiver {
 
     // Nothing is handed on.
     fn quiet(self) -> Received
-        ensures { λ r. ⌜ r ≡ keeping self ⌝ }
+        ensures { λ r. ⌜ (r ≡ keeping self) × (r .packet ≤ packetMost) ⌝ }
     {
         Received {
             receiver: self,
@@ -128,13 +137,13 @@ impl Receiver {
     }
 
     // All that is gathered is handed on.
-    fn hand(mut self) -> Received
-        ensures { λ r. ⌜ r ≡ giving self ⌝ }
+    fn hand(self) -> Received
+        requires { ⌜ self .len ≤ packetMost ⌝ }
+        ensures { λ r. ⌜ (r ≡ giving self) × (r .packet ≤ packetMost) ⌝ }
     {
         let len = self.len;
-        self.len = 0;
         Received {
-            receiver: self,
+            receiver: self.emptied(),
             packet: len,
         }
     }

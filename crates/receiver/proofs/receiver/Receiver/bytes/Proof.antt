@@ -24,16 +24,17 @@ packet x = x .packet
 returns : tie.Need-returns Inv-loop μ-loop
 returns c =
     let l = c .before .before .before .before .before .loop in
-    let e = c .before .before .byte .ensures in
+    let e = c .before .before .byte .ensures .0 in
     let s = now (c .before .before .before .before .before .before .before .args .bytes) in
-    sym (l .inv .1
+    (sym (l .inv .1
     ∙ bytes-found (l .receiver) s (l .i) (omega arith) (λ z. c .if1 .taken (ap packet e ∙ z))
-    ∙ ap (λ (x : Received). ending (x .receiver) (x .packet) (l .i + 1)) (sym e))
+    ∙ ap (λ (x : Received). ending (x .receiver) (x .packet) (l .i + 1)) (sym e)),
+    c .before .before .byte .ensures .1)
 
 loop-again : tie.Need-loop-again Inv-loop μ-loop
 loop-again c =
     let l = c .before .before .before .before .before .loop in
-    let e = c .before .before .byte .ensures in
+    let e = c .before .before .byte .ensures .0 in
     let s = now (c .before .before .before .before .before .before .before .args .bytes) in
     (omega arith, l .inv .1
     ∙ bytes-on (l .receiver) s (l .i) (omega arith) (sym (ap packet e) ∙ c .if1 .left)
@@ -42,8 +43,9 @@ loop-again c =
 returns-2 : tie.Need-returns-2 Inv-loop μ-loop
 returns-2 c =
     let l = c .before .loop in
-    sym (l .inv .1
-    ∙ bytes-ended (l .receiver) (now (c .before .before .before .args .bytes)) (l .i) (omega arith))
+    (sym (l .inv .1
+    ∙ bytes-ended (l .receiver) (now (c .before .before .before .args .bytes)) (l .i) (omega arith)),
+    search needs)
 
 pub bytes-spec : {M : Type 1} → statement M
 bytes-spec =
