@@ -34,6 +34,17 @@ pub record Turn : Type 0 where
   pub taken : ℕ
   pub answer : List ℕ
 
+-- no byte is taken
+abbrev pub unserved : Loader → Receiver → List ℕ → ℕ → Turn
+unserved l r f n =
+    record {
+      port = record { loader = l; receiver = r };
+      flash = f;
+      verdict = refused n;
+      taken = 0;
+      answer = [];
+    }
+
 -- the loader gets no input
 abbrev pub still : Loader → Receiver → List ℕ → ℕ → Turn
 still l r f n =
@@ -80,7 +91,7 @@ portOf board p s f room = first (20 when sizesWrong board f room ∷ []) (given 
 
 -- what stands then: that refusal changes nothing
 abbrev pub turnAfter : Port → List ℕ → Answer Turn → Turn
-turnAfter p f (refused n) = record { port = p; flash = f; verdict = refused n; taken = 0; answer = [] }
+turnAfter p f (refused n) = unserved (p .loader) (p .receiver) f n
 turnAfter p f (given t) = t
 
 -- what the entry shows

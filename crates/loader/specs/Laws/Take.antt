@@ -19,6 +19,18 @@ use Rattle.loader.specs.declared.state.Condition.the-variants.{Waiting, 
 use Rattle.loader.specs.declared.state.Loader.{Loader}
 use Rattle.packet.specs.Packet.{Parts, readOf}
 
+-- ---- 20
+module _ (board : ℕ) (f : List ℕ) (room : ℕ) where
+  pub size-wrong : (length f ≡ startOf board → ⊥) → sizesWrong board f room ≡ true
+  size-wrong h = either-first (not (eqb (length f) (startOf board))) _ (ap not (ne-eqb _ _ h))
+
+  pub room-wrong : room < answerMost → sizesWrong board f room ≡ true
+  room-wrong h = either-second (not (eqb (length f) (startOf board))) _ (lt-ltb room answerMost h)
+
+  pub sizes-right : length f ≡ startOf board → answerMost ≤ room → sizesWrong board f room ≡ false
+  sizes-right e h =
+      either-false (not (eqb (length f) (startOf board))) _ (ap not (eq-eqb _ _ e)) (le-ltb room answerMost h)
+
 module _ (board : ℕ) (l : Loader) (s f : List ℕ) where
   -- ---- by condition
   pub heard-waiting : l .condition ≡ Waiting → opensBoard s ≡ true
@@ -52,22 +64,16 @@ module _ (board : ℕ) (l : Loader) (s f : List ℕ) where
   module _ (room : ℕ) where
     pub take-size : (length f ≡ startOf board → ⊥) → takeOf board l s f room ≡ refused 20
     unfolding takeOf
-    take-size h =
-        stop 20 _ _ _ (either-first (not (eqb (length f) (startOf board))) _ (ap not (ne-eqb _ _ h)))
+    take-size h = stop 20 _ _ _ (size-wrong board f room h)
 
     pub take-small : room < answerMost → takeOf board l s f room ≡ refused 20
     unfolding takeOf
-    take-small h =
-        stop 20 _ _ _ (either-second (not (eqb (length f) (startOf board))) _ (lt-ltb room answerMost h))
+    take-small h = stop 20 _ _ _ (room-wrong board f room h)
 
     pub take-heard : length f ≡ startOf board → answerMost ≤ room
         → takeOf board l s f room ≡ hearOf board l s f
     unfolding takeOf
-    take-heard e h =
-        skip 20 _ _ _
-        (either-false (not (eqb (length f) (startOf board))) _ (ap not (eq-eqb _ _ e))
-        (le-ltb room answerMost h))
-        ∙ done _
+    take-heard e h = skip 20 _ _ _ (sizes-right board f room e h) ∙ done _
 
 -- ---- what any input leaves
 

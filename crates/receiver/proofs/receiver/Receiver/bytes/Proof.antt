@@ -25,27 +25,31 @@ returns : tie.Need-returns Inv-loop μ-loop
 returns c =
     let l = c .before .before .before .before .before .loop in
     let e = c .before .before .byte .ensures .0 in
-    let s = now (c .before .before .before .before .before .before .before .args .bytes) in
-    (sym (l .inv .1
-    ∙ bytes-found (l .receiver) s (l .i) (omega arith) (λ z. c .if1 .taken (ap packet e ∙ z))
-    ∙ ap (λ (x : Received). ending (x .receiver) (x .packet) (l .i + 1)) (sym e)),
-    c .before .before .byte .ensures .1)
+    let s = now (c .before .before .before .before .before .before .before .args .bytes) in (
+      sym (l .inv .1
+          ∙ bytes-found (l .receiver) s (l .i) (omega arith) (λ z. c .if1 .taken (ap packet e ∙ z))
+          ∙ ap (λ (x : Received). ending (x .receiver) (x .packet) (l .i + 1)) (sym e)),
+      c .before .before .byte .ensures .1,
+    )
 
 loop-again : tie.Need-loop-again Inv-loop μ-loop
 loop-again c =
     let l = c .before .before .before .before .before .loop in
     let e = c .before .before .byte .ensures .0 in
-    let s = now (c .before .before .before .before .before .before .before .args .bytes) in
-    (omega arith, l .inv .1
-    ∙ bytes-on (l .receiver) s (l .i) (omega arith) (sym (ap packet e) ∙ c .if1 .left)
-    ∙ ap (λ (x : Received). further (l .i + 1) (bytesOf (x .receiver) (drop (l .i + 1) s))) (sym e))
+    let s = now (c .before .before .before .before .before .before .before .args .bytes) in (
+      omega arith,
+      l .inv .1
+          ∙ bytes-on (l .receiver) s (l .i) (omega arith) (sym (ap packet e) ∙ c .if1 .left)
+          ∙ ap (λ (x : Received). further (l .i + 1) (bytesOf (x .receiver) (drop (l .i + 1) s))) (sym e),
+    )
 
 returns-2 : tie.Need-returns-2 Inv-loop μ-loop
 returns-2 c =
-    let l = c .before .loop in
-    (sym (l .inv .1
-    ∙ bytes-ended (l .receiver) (now (c .before .before .before .args .bytes)) (l .i) (omega arith)),
-    search needs)
+    let l = c .before .loop in (
+      sym (l .inv .1
+          ∙ bytes-ended (l .receiver) (now (c .before .before .before .args .bytes)) (l .i) (omega arith)),
+      search needs,
+    )
 
 pub bytes-spec : {M : Type 1} → statement M
 bytes-spec =

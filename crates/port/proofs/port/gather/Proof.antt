@@ -1,0 +1,68 @@
+use Prim.Native.Nat.{ℕ, _≤_}
+use mathlib.Core.Path.{_≡_, sym, ap, _∙_}
+use native.Mathlib.Omega.{arith}
+use borrow.Author.Needs.{needs}
+use lib.ListN.{length}
+use lib.Seq.{length-take-le}
+use Rattle.basis.specs.Board.{pagesOf}
+use Rattle.port.specs.Laws.Port.{through-none, through-packet, serves-as}
+use Rattle.port.specs.Port.{through}
+use Rattle.receiver.specs.Receiver.{bytesOf}
+use Rattle.receiver.specs.declared.receiver.Stretch.{Stretch}
+use Rattle.port.proofs.port.gather.Statement.{statement}
+use Rattle.port.proofs.port.gather.Tie as tie
+
+-- what the bytes come to is what the receiver made of them
+abbrev entry : tie.After-bytes → tie.Start
+entry c = c .before .before .before .before
+
+came : (c : tie.After-bytes) → let a = entry c .args in
+    through (pagesOf (a .board)) (length (a .answer .now)) (a .loader) (a .flash .now) (bytesOf (a .receiver) (a .bytes .now))
+    ≡ through (pagesOf (a .board)) (length (a .answer .now)) (a .loader) (a .flash .now) (c .bytes .result)
+came c = let a = entry c .args in
+    ap (λ (x : Stretch). through (pagesOf (a .board)) (length (a .answer .now)) (a .loader) (a .flash .now) x)
+    (sym (c .bytes .ensures .0))
+
+-- a packet lies within the receiver's bytes
+within : (c : tie.After-bytes) → c .bytes .result .packet ≤ length (c .bytes .result .receiver .bytes)
+within c = let l : length (c .bytes .result .receiver .bytes) ≡ 259 = search needs in omega (arith, c .bytes .ensures .1)
+
+returns : tie.Need-returns
+returns c =
+    let b = c .before .before .before in
+    let a = entry b .args in
+    serves-as (came b
+    ∙ through-none (pagesOf (a .board)) (length (a .answer .now)) (a .loader) (a .flash .now) (b .bytes .result)
+    (c .before .if1 .taken))
+    (c .still .ensures (a .flash .now) (a .answer .now))
+
+array-share-prefix-standing : tie.Need-array-share-prefix-standing
+array-share-prefix-standing c = within (c .before .before .before)
+
+slice-aggregate-bring : tie.Need-slice-aggregate-bring
+slice-aggregate-bring c =
+    let x = c .before .before .before .before .bytes .result in
+    sym (length-take-le (x .packet) (x .receiver .bytes) (within (c .before .before .before .before)))
+
+returns-2 : tie.Need-returns-2
+returns-2 c =
+    let b = c .before .before .before .before .before .before .before .before .before .before .before in
+    let a = entry b .args in
+    serves-as (came b
+    ∙ through-packet (pagesOf (a .board)) (length (a .answer .now)) (a .loader) (a .flash .now) (b .bytes .result)
+    (c .before .before .before .before .before .before .before .before .before .if1 .left))
+    (c .before .before .before .before .bring .ensures)
+
+pub gather-spec : {M : Type 1} → statement M
+gather-spec =
+    tie.close
+    (tie.spec
+    (λ c κs. search needs)
+    (λ c κs. search needs)
+    returns
+    array-share-prefix-standing
+    slice-aggregate-bring
+    (λ c κs. search needs)
+    (λ c. search needs)
+    (λ c. search needs)
+    returns-2)
