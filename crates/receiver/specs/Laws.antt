@@ -1,3 +1,5 @@
 pub mod Hearing
 pub mod Gathered
 pub mod Bytes
+pub mod Feeding
+pub mod Record
