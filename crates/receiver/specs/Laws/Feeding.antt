@@ -38,13 +38,17 @@ feed-length g [] = refl
 feed-length g (b ∷ s) = rw (feed-length (hear g b .gathered) s)
 
 -- one byte before others
-abbrev before : List ℕ → Fed → Fed
+abbrev pub before : List ℕ → Fed → Fed
 before p x = record { gathered = x .gathered; handed = p ∷ x .handed }
+
+pub feed-cons : (g : List ℕ) (b : ℕ) (s : List ℕ)
+    → feed g (b ∷ s) ≡ before (hear g b .packet) (feed (hear g b .gathered) s)
+unfolding feed
+feed-cons g b s = refl
 
 -- a byte that hands nothing on
 feed-quiet : (g h : List ℕ) (b : ℕ) (s : List ℕ) → hear g b ≡ gathering h → feed g (b ∷ s) ≡ before [] (feed h s)
-unfolding feed
-feed-quiet g h b s e = rw e
+feed-quiet g h b s e = feed-cons g b s ∙ ap (λ (x : Heard). before (x .packet) (feed (x .gathered) s)) e
 
 -- ---- rubbish
 
@@ -190,6 +194,11 @@ pub rubbish-packet : (z s : List ℕ) → rubbish z ≡ true → Whole s
 rubbish-packet z s e w =
     let u = rubbish-idle z e in
     feed-append [] z s ∙ rw (idle-packet (feed [] z .gathered) s (u .1) w, u .0)
+
+-- a count below 5 is handed on at once as the three bytes gathered
+pub short-handed : (n : ℕ) → n < 5 → feed [] (begun n []) ≡ handedAfter 2 (begun n [])
+unfolding feed hear
+short-handed n h = rw (lt-ltb n 5 h)
 
 -- every packet that is built is whole, and so is every input that reading accepts
 pub built-whole : (c a : ℕ) (d : List ℕ) → Whole (packet c a d)
