@@ -2,6 +2,7 @@
 -- refusal's number; a refusal hands a state back as it came.
 use Prim.Native.Nat.{ℕ}
 use mathlib.Core.Bool.{Bool}
+use lib.ListN.{length}
 use Rattle.basis.specs.Refusals.{Answer, refused, given}
 use Rattle.image.specs.Record.{Pointed, wrong, right}
 use Rattle.image.specs.Writer.{Measured}
@@ -9,6 +10,9 @@ use Rattle.image.specs.declared.hex.Hex.{Hex}
 use Rattle.line.specs.declared.rehearse.Load.{Load}
 use Rattle.loader.specs.declared.state.Loader.{Loader}
 use Rattle.packet.specs.Packet as packet
+use Rattle.port.specs.Port.{Turn}
+use Rattle.port.specs.declared.port.Port.{Port}
+use Rattle.receiver.specs.declared.receiver.Stretch.{Stretch}
 use Rattle.service_log.specs.declared.read.Record.{Record}
 use Rattle.session.specs.declared.session.Next.{Next}
 use Rattle.gremolunde.specs.States.{flagOf, loaderShown, hexShown, sessionShown}
@@ -17,6 +21,8 @@ use Rattle.gremolunde.specs.declared.files.HexRead.{HexRead}
 use Rattle.gremolunde.specs.declared.files.HexWritten.{HexWritten}
 use Rattle.gremolunde.specs.declared.loading.Taken.{Taken}
 use Rattle.gremolunde.specs.declared.packets.Parts.{Parts}
+use Rattle.gremolunde.specs.declared.ports.PortTaken.{PortTaken}
+use Rattle.gremolunde.specs.declared.receiving.Received.{Received}
 use Rattle.gremolunde.specs.declared.records.LogRecord.{LogRecord}
 use Rattle.gremolunde.specs.declared.rehearsals.Rehearsal.{Rehearsal}
 use Rattle.gremolunde.specs.declared.sessions.SessionMark.{SessionMark}
@@ -40,6 +46,24 @@ partsAnswer (given p) =
 abbrev pub takenAnswer : LoaderState → Answer (Unit {0}) → Loader → ℕ → Taken
 takenAnswer s (refused n) next k = record { number = n; answered = k; loader = s }
 takenAnswer s (given u) next k = record { number = 0; answered = k; loader = loaderShown next }
+
+-- the receiver after a stretch of bytes
+abbrev pub receivedAnswer : Stretch → Received
+receivedAnswer x = record { packet = x .packet; taken = x .taken; receiver = x .receiver }
+
+-- the port after some bytes: its loader as after an input, its receiver as it moved on
+abbrev pub portAnswerOf : LoaderState → Answer (Unit {0}) → Port → ℕ → ℕ → PortTaken
+portAnswerOf s v next n k =
+    let x = takenAnswer s v (next .loader) k in
+    record {
+      number = x .number;
+      taken = n;
+      answered = x .answered;
+      port = record { loader = x .loader; receiver = next .receiver };
+    }
+
+abbrev pub portAnswer : LoaderState → Turn → PortTaken
+portAnswer s t = portAnswerOf s (t .verdict) (t .port) (t .taken) (length (t .answer))
 
 -- the hex reader; before a start there is none
 abbrev pub noReader : HexState

@@ -13,10 +13,12 @@ use Rattle.loader.specs.declared.state.Condition.the-variants.{Waiting, Serving
 use Rattle.loader.specs.declared.state.Loader.{Loader}
 use Rattle.order.specs.Steps.{eraseAt, writeAt, verifyAt}
 use Rattle.order.specs.declared.step.Step.{Step}
+use Rattle.port.specs.declared.port.Port.{Port}
 use Rattle.session.specs.declared.phase.Phase.{Phase}
 use Rattle.session.specs.declared.session.Session.{Session}
 use Rattle.gremolunde.specs.declared.states.HexState.{HexState}
 use Rattle.gremolunde.specs.declared.states.LoaderState.{LoaderState}
+use Rattle.gremolunde.specs.declared.states.PortState.{PortState}
 use Rattle.gremolunde.specs.declared.states.SessionState.{SessionState}
 
 -- a flag: 0 is false, all else is true; shown as 0 or 1
@@ -59,6 +61,10 @@ loaderShown l =
       opened = flagOf (l .sequence .opened);
       «added_read» = flagOf (l .sequence .added .read);
     }
+
+-- a receiver is kept as it is
+abbrev pub portMeant : PortState → Port
+portMeant s = record { loader = loaderMeant (s .loader); receiver = s .receiver }
 
 -- the board that a hex reader carries stands beside what it has read
 abbrev pub hexMeant : HexState → Hex

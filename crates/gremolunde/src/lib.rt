@@ -3,6 +3,8 @@ pub mod answers;
 pub mod files;
 pub mod loading;
 pub mod packets;
+pub mod ports;
+pub mod receiving;
 pub mod records;
 pub mod rehearsals;
 pub mod sessions;

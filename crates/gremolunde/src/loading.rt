@@ -78,7 +78,7 @@ pub extern "C" fn gremolunde_loader_take(
     }
 }
 
-fn taken_answer(loader: LoaderState, verdict: Verdict, next: Loader, answered: usize) -> Taken
+pub fn taken_answer(loader: LoaderState, verdict: Verdict, next: Loader, answered: usize) -> Taken
     ensures { λ r. ⌜ r ≡ takenAnswer loader (paperVerdict verdict) next answered ⌝ }
 {
     match verdict {

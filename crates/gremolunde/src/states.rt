@@ -1,6 +1,6 @@
 // The states that a C caller keeps, and what each stands for.
 ghost use mathlib.Core.Path.{_≡_};
-ghost use Rattle.gremolunde.specs.States.{conditionMeant, conditionShown, loaderMeant, loaderShown, hexMeant, hexShown, nowhere, endMeant, phaseMeant, without, phaseShown, pageShown, addressShown, outcomeShown, sessionMeant, sessionShown};
+ghost use Rattle.gremolunde.specs.States.{conditionMeant, conditionShown, loaderMeant, loaderShown, portMeant, hexMeant, hexShown, nowhere, endMeant, phaseMeant, without, phaseShown, pageShown, addressShown, outcomeShown, sessionMeant, sessionShown};
 use crate::answers::flag;
 use basis::kind::RunKind;
 use basis::units::Address;
@@ -12,6 +12,8 @@ use loader::state::Condition;
 use loader::state::Loader;
 use loader::state::Sequence;
 use order::step::Step;
+use port::port::Port;
+use receiver::receiver::Receiver;
 use session::phase::Phase;
 use session::session::Session;
 
@@ -25,6 +27,12 @@ pub struct LoaderState {
     pub read: u8,
     pub opened: u8,
     pub added_read: u8,
+}
+
+#[repr(C)]
+pub struct PortState {
+    pub loader: LoaderState,
+    pub receiver: Receiver,
 }
 
 // `board` is its number of pages, `rules` the number of its rule set.
@@ -112,6 +120,17 @@ fn condition_shown(condition: Condition) -> u8
         Condition::Waiting => 0,
         Condition::Serving => 1,
         Condition::Left => 2,
+    }
+}
+
+pub fn port_meant(state: PortState) -> Port
+    ensures { λ r. ⌜ r ≡ portMeant state ⌝ }
+{
+    let loader = state.loader;
+    let receiver = state.receiver;
+    Port {
+        loader: loader_meant(loader),
+        receiver,
     }
 }
 
