@@ -12,6 +12,7 @@ use Rattle.loader.specs.declared.state.Loader.{Loader}
 use Rattle.packet.specs.Packet as packet
 use Rattle.port.specs.Port.{Turn}
 use Rattle.port.specs.declared.port.Port.{Port}
+use Rattle.receiver.specs.declared.receiver.Receiver.{Receiver}
 use Rattle.receiver.specs.declared.receiver.Stretch.{Stretch}
 use Rattle.service_log.specs.declared.read.Record.{Record}
 use Rattle.session.specs.declared.session.Next.{Next}
@@ -52,15 +53,17 @@ abbrev pub receivedAnswer : Stretch → Received
 receivedAnswer x = record { packet = x .packet; taken = x .taken; receiver = x .receiver }
 
 -- the port after some bytes: its loader as after an input, its receiver as it moved on
-abbrev pub portAnswerOf : LoaderState → Answer (Unit {0}) → Port → ℕ → ℕ → PortTaken
-portAnswerOf s v next n k =
-    let x = takenAnswer s v (next .loader) k in
+abbrev pub portShownAs : Receiver → ℕ → Taken → PortTaken
+portShownAs r n x =
     record {
       number = x .number;
       taken = n;
       answered = x .answered;
-      port = record { loader = x .loader; receiver = next .receiver };
+      port = record { loader = x .loader; receiver = r };
     }
+
+abbrev pub portAnswerOf : LoaderState → Answer (Unit {0}) → Port → ℕ → ℕ → PortTaken
+portAnswerOf s v next n k = portShownAs (next .receiver) n (takenAnswer s v (next .loader) k)
 
 abbrev pub portAnswer : LoaderState → Turn → PortTaken
 portAnswer s t = portAnswerOf s (t .verdict) (t .port) (t .taken) (length (t .answer))
