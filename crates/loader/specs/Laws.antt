@@ -7,3 +7,4 @@ pub mod Guard
 pub mod Key
 pub mod Determined
 pub mod Cases
+pub mod Numbers
