@@ -47,10 +47,10 @@ impl Receiver {
             return self.hunt(b).quiet();
         }
         if len == 1 {
-            if b == NEXT_START {
-                return self.gather(b).quiet();
+            if b != NEXT_START {
+                return self.hunt(b).quiet();
             }
-            return self.hunt(b).quiet();
+            return self.gather(b).quiet();
         }
         if len == 2 {
             if b < 5 {
