@@ -37,7 +37,7 @@ returns-4 : tie.Need-returns-4
 returns-4 c =
     let a = c .before .before .before .before .before .before .args in (
       c .hand .ensures .0 ∙ ap giving (c .before .gather2 .ensures .0)
-          ∙ sym (at-few (a .t1) (a .b) (search needs) (c .before .before .before .if4 .taken) (c .before .before .if5 .taken)),
+          ∙ sym (at-few (a .t1) (a .b) (search needs) (c .before .before .before .if4 .taken) (omega arith)),
       c .hand .ensures .1,
     )
 
@@ -45,7 +45,7 @@ returns-5 : tie.Need-returns-5
 returns-5 c =
     let a = c .before .before .before .before .before .before .args in (
       c .quiet4 .ensures .0 ∙ ap keeping (c .before .gather3 .ensures .0)
-          ∙ sym (at-count (a .t1) (a .b) (search needs) (c .before .before .before .if4 .taken) (c .before .before .if5 .left)),
+          ∙ sym (at-count (a .t1) (a .b) (search needs) (c .before .before .before .if4 .taken) (omega arith)),
       c .quiet4 .ensures .1,
     )
 
@@ -65,7 +65,7 @@ returns-6 c =
     let f : Fits w8 (getD (c .before .before .before .before .before .before .before .args .t1 .bytes) 2 0) = search needs in
     let more : 3 ≤ c .before .before .before .before .before .before .before .args .t1 .len = omega arith in (
       c .quiet5 .ensures .0 ∙ ap keeping (c .before .gather4 .ensures .0)
-          ∙ sym (at-on (a .t1) (a .b) (search needs) more (f .fits) (c .before .before .if6 .taken)),
+          ∙ sym (at-on (a .t1) (a .b) (search needs) more (f .fits) (omega arith)),
       c .quiet5 .ensures .1,
     )
 
@@ -81,7 +81,7 @@ returns-7 c =
     let f : Fits w8 (getD (c .before .before .before .before .before .before .before .before .args .t1 .bytes) 2 0) = search needs in
     let more : 3 ≤ c .before .before .before .before .before .before .before .before .args .t1 .len = omega arith in (
       c .hand2 .ensures .0 ∙ ap giving (c .before .gather5 .ensures .0)
-          ∙ sym (at-last (a .t1) (a .b) (search needs) more (f .fits) (c .before .before .if7 .taken)),
+          ∙ sym (at-last (a .t1) (a .b) (search needs) more (f .fits) (omega arith)),
       c .hand2 .ensures .1,
     )
 
