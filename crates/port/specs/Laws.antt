@@ -1,2 +1,3 @@
 pub mod Port
 pub mod Handed
+pub mod Determined

@@ -46,7 +46,7 @@ refusal-back Differs = refl
 refusal-one : (x y : Refusal) → paperRefusal x ≡ paperRefusal y → x ≡ y
 refusal-one = back-one paperRefusal refusalBy refusal-back
 
-verdict-one : (v w : Verdict) → paperVerdict v ≡ paperVerdict w → v ≡ w
+pub verdict-one : (v w : Verdict) → paperVerdict v ≡ paperVerdict w → v ≡ w
 verdict-one Accepted Accepted e = refl
 verdict-one Accepted (Refused y) e = absurd (apart (sym e))
 verdict-one (Refused x) Accepted e = absurd (apart e)
