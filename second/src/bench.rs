@@ -8,6 +8,7 @@ use crate::hex::{self, Reader, RuleSet, RECORD_BUFFER};
 use crate::listing::hex_digits;
 use crate::loader::{Loader, ACK, BACKSPACE};
 use crate::packet::{self, LONGEST, PIECE};
+use crate::receiver::Receiver;
 use crate::session::{Event, Outcome, Phase, Run, Session};
 use crate::units::{Board, ByteAddress, GREETING_BYTES};
 
@@ -20,10 +21,13 @@ const GOOD: &str = "the bytes are sound";
 /// From a segment's first byte to behind its last, and from one base to the next.
 const SEGMENT: usize = 0x1_0000;
 const PARAGRAPH: usize = 16;
+/// The rubbish before each packet of the stream.
+const RUBBISH: usize = 8;
 /// Each record that wraps has so many bytes on either side of its segment's end.
 const HALF: usize = 8;
 
-/// What the turns gave in bytes, a sum over all buffers, and the time.
+/// What the turns gave in bytes, a sum over all buffers or over all that was
+/// received, and the time.
 pub struct Done {
     pub given: u64,
     pub sum: u64,
@@ -44,6 +48,10 @@ struct Bench {
     data_bytes: usize,
     loader: Loader,
     begun: Option<Session>,
+    /// Packets with rubbish before each.
+    stream: Vec<u8>,
+    /// The sum of all bytes received, in the job that receives.
+    received: Option<u64>,
 }
 
 type Prepare = fn(&mut Bench);
@@ -74,6 +82,7 @@ fn job(name: &str) -> Option<Job> {
             |bench| bench.prepare_board(b'V'),
             Bench::take,
         ),
+        "receive" => (Short, FULL_MAP, Bench::prepare_stream, Bench::receive),
         "step-full" => (Short, FULL_MAP, Bench::prepare_session, Bench::step_full),
         "step-full-long" => (Long, FULL_MAP, Bench::prepare_session, Bench::step_full),
         "step-worst" => (Short, WORST_MAP, Bench::prepare_session, Bench::step_worst),
@@ -98,7 +107,7 @@ pub fn run(name: &str, times: u64) -> Option<Done> {
     Some(Done {
         given,
         nanoseconds: began.elapsed().as_nanos(),
-        sum: summed(&bench.image) + summed(&bench.flash) + summed(&bench.packet),
+        sum: bench.sum(),
     })
 }
 
@@ -125,7 +134,14 @@ impl Bench {
             data_bytes: 0,
             loader: Loader::factory(),
             begun: None,
+            stream: Vec::new(),
+            received: None,
         }
+    }
+
+    fn sum(&self) -> u64 {
+        let buffers = summed(&self.image) + summed(&self.flash) + summed(&self.packet);
+        self.received.unwrap_or(buffers)
     }
 
     fn records(&self) -> impl Iterator<Item = &[u8]> {
@@ -175,6 +191,18 @@ impl Bench {
         greeted.expect(GOOD);
     }
 
+    /// Each W of the full file, with rubbish before it.
+    fn prepare_stream(&mut self) {
+        let mut buffer = [0; LONGEST];
+        for (i, piece) in self.image.chunks(PIECE).enumerate() {
+            let rubbish = (i..i + RUBBISH).map(|k| b'0' + (k % 10) as u8);
+            let built = packet::build(&mut buffer, b'W', (i * PIECE) as u32, piece);
+            self.stream.extend(rubbish);
+            self.stream.extend(&buffer[..built.expect(GOOD)]);
+        }
+        self.received = Some(0);
+    }
+
     fn prepare_session(&mut self) {
         self.begun = Some(self.start().0);
     }
@@ -212,6 +240,21 @@ impl Bench {
         let (flash, answer) = (&mut self.flash, &mut self.answer);
         let taken = self.loader.take(self.board, &self.packet, flash, answer);
         taken.expect(GOOD) as u64
+    }
+
+    fn receive(&mut self, _: u64) -> u64 {
+        let mut receiver = Receiver::default();
+        let (mut count, mut sum) = (0, 0u64);
+        for byte in &self.stream {
+            if let Some(packet) = receiver.byte(*byte) {
+                count += packet.len();
+                sum += packet.iter().map(|byte| u64::from(*byte)).sum::<u64>();
+            }
+        }
+        let rubbish = self.image.len().div_ceil(PIECE) * RUBBISH;
+        assert_eq!(count + rubbish, self.stream.len());
+        self.received = self.received.map(|before| before.wrapping_add(sum));
+        self.stream.len() as u64
     }
 
     fn start(&mut self) -> (Session, usize) {

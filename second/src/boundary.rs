@@ -2,7 +2,10 @@
 //! they mean.
 
 use crate::hex::{check_sizes, HexRefusal, Reader, RuleSet};
-use crate::loader::{Condition, Loader, Protection};
+use crate::loader::{self, Condition, Loader, Protection};
+use crate::packet::LONGEST;
+use crate::port::Port;
+use crate::receiver::Receiver;
 use crate::refusal::Refusal;
 use crate::session::{Outcome, Phase, Run, Session};
 use crate::units::{Board, ByteAddress, Page};
@@ -75,7 +78,7 @@ impl LoaderRecord {
         }
     }
 
-    /// The record after an input that was accepted. What is said to be added
+    /// The record after a call that was not refused. What is said to be added
     /// with no sequence open has no meaning and stays.
     pub fn followed_by(&self, next: Loader) -> LoaderRecord {
         let after = LoaderRecord::from(next);
@@ -106,6 +109,112 @@ impl From<Loader> for LoaderRecord {
             opened: loader.sequence.is_some().into(),
             added_read: added.read.into(),
         }
+    }
+}
+
+#[derive(Clone, Copy, Debug, PartialEq, Eq)]
+pub struct ReceiverRecord {
+    pub bytes: [u8; LONGEST],
+    pub length: u64,
+}
+
+impl ReceiverRecord {
+    /// One that has gathered nothing.
+    pub fn hunting() -> ReceiverRecord {
+        ReceiverRecord {
+            bytes: [0; LONGEST],
+            length: 0,
+        }
+    }
+
+    /// With these bytes first and 00 behind them; none where they are too many.
+    pub fn of_bytes(bytes: &[u8], length: u64) -> Option<ReceiverRecord> {
+        let mut record = ReceiverRecord {
+            length,
+            ..ReceiverRecord::hunting()
+        };
+        record.bytes.get_mut(..bytes.len())?.copy_from_slice(bytes);
+        Some(record)
+    }
+
+    /// All bytes are gathered where the length is larger than there are.
+    pub fn meaning(&self) -> Receiver {
+        let length = usize::try_from(self.length).unwrap_or(LONGEST);
+        Receiver::having(&self.bytes[..length.min(LONGEST)])
+    }
+
+    /// The record after a byte; what stands behind the bytes gathered, or behind
+    /// the packet handed on, stays.
+    pub fn followed_by(&self, next: &Receiver) -> ReceiverRecord {
+        let mut bytes = self.bytes;
+        bytes[..next.bytes().len()].copy_from_slice(next.bytes());
+        ReceiverRecord {
+            bytes,
+            length: next.gathered().len() as u64,
+        }
+    }
+
+    /// Feeds one byte; gives the packet that it completes.
+    pub fn byte(&mut self, byte: u8) -> Option<&[u8]> {
+        let mut receiver = self.meaning();
+        let packet = receiver.byte(byte).map(<[u8]>::len);
+        *self = self.followed_by(&receiver);
+        packet.map(|length| &self.bytes[..length])
+    }
+
+    /// Feeds bytes up to and with the one that completes a packet; gives how
+    /// many were taken, and the packet.
+    pub fn feed(&mut self, bytes: &[u8]) -> (usize, Option<&[u8]>) {
+        for (before, byte) in bytes.iter().enumerate() {
+            if let Some(length) = self.byte(*byte).map(<[u8]>::len) {
+                return (before + 1, Some(&self.bytes[..length]));
+            }
+        }
+        (bytes.len(), None)
+    }
+}
+
+#[derive(Clone, Copy, Debug, PartialEq, Eq)]
+pub struct PortRecord {
+    pub loader: LoaderRecord,
+    pub receiver: ReceiverRecord,
+}
+
+impl PortRecord {
+    pub fn meaning(&self) -> Port {
+        Port {
+            loader: self.loader.meaning(),
+            receiver: self.receiver.meaning(),
+        }
+    }
+
+    /// Takes bytes up to and with the one that brings the loader an input; gives
+    /// how many were taken, and the length of the answer.
+    pub fn take(
+        &mut self,
+        pages: u32,
+        bytes: &[u8],
+        flash: &mut [u8],
+        answer: &mut [u8],
+    ) -> (usize, Result<usize, Refusal>) {
+        let board = match board_of_flash(pages, flash, answer) {
+            Ok(board) => board,
+            Err(refusal) => return (0, Err(refusal)),
+        };
+        for (before, byte) in bytes.iter().enumerate() {
+            let mut port = self.meaning();
+            let brought = port.byte(board, *byte, flash, answer);
+            self.receiver = self.receiver.followed_by(&port.receiver);
+            if let Some(taken) = brought {
+                if taken.is_ok() {
+                    self.loader = self.loader.followed_by(port.loader);
+                }
+                return (before + 1, taken);
+            }
+        }
+        // an answer has its flags 0 or 1, without an input too
+        self.loader = self.loader.followed_by(self.loader.meaning());
+        (bytes.len(), Ok(0))
     }
 }
 
@@ -303,6 +412,13 @@ pub fn board(pages: u32) -> Result<Board, Refusal> {
     let mut all = Board::ALL.into_iter();
     let board = all.find(|board| board.pages() == pages);
     board.ok_or(Refusal::UnknownBoard)
+}
+
+/// The same, if what the loader is lent is that board's.
+fn board_of_flash(pages: u32, flash: &[u8], answer: &[u8]) -> Result<Board, Refusal> {
+    let board = board(pages)?;
+    loader::check_lent(board, flash, answer)?;
+    Ok(board)
 }
 
 /// The rule set under its number.

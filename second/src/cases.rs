@@ -6,11 +6,13 @@ mod words;
 use std::fmt;
 use std::io::{self, BufRead, Write};
 
-use crate::boundary::{self, LoaderRecord, ReaderRecord, SessionRecord};
+use crate::boundary::{
+    self, LoaderRecord, PortRecord, ReaderRecord, ReceiverRecord, SessionRecord,
+};
 use crate::hex::{self, HexRefusal, Reader};
-use crate::line::{self, Exchange};
+use crate::line::{self, Exchange, Noise};
 use crate::listing::{hex_digits, log_line};
-use crate::loader::Loader;
+use crate::loader::{self, Loader};
 use crate::log;
 use crate::packet;
 use crate::refusal::Refusal;
@@ -102,6 +104,7 @@ pub struct Desk {
     /// A number of pages, whether a board has so many or not.
     board: u32,
     loader: LoaderRecord,
+    receiver: ReceiverRecord,
     reader: ReaderRecord,
     session: Option<SessionRecord>,
 }
@@ -118,6 +121,7 @@ impl Desk {
             buffers: Buffers::new(),
             board: Board::Short.pages(),
             loader: Loader::factory().into(),
+            receiver: ReceiverRecord::hunting(),
             reader: ReaderRecord::started(Board::Short),
             session: None,
         }
@@ -129,6 +133,10 @@ impl Desk {
 
     pub fn loader(&self) -> LoaderRecord {
         self.loader
+    }
+
+    pub fn receiver(&self) -> ReceiverRecord {
+        self.receiver
     }
 
     pub fn reader(&self) -> ReaderRecord {
@@ -180,6 +188,12 @@ impl Desk {
                 self.board = words::number(pages)?;
                 Some(Answer::nothing())
             }
+            (b"receiver", []) => Some(self.show_receiver()),
+            (b"receiver", [bytes, length]) => {
+                let (bytes, length) = (words::bytes(bytes)?, words::number(length)?);
+                self.receiver = ReceiverRecord::of_bytes(&bytes, length)?;
+                Some(Answer::nothing())
+            }
             (b"loader", []) => Some(shown(&self.loader.fields())),
             (b"reader", []) => Some(shown(&self.reader.fields())),
             (b"session", []) => Some(shown(&self.session?.fields())),
@@ -222,6 +236,14 @@ impl Desk {
         Answer::done(stretches.iter().flat_map(words).collect())
     }
 
+    /// The receiver's bytes without the 00s at their end, and its length.
+    fn show_receiver(&self) -> Answer {
+        let bytes = &self.receiver.bytes;
+        let last = bytes.iter().rposition(|byte| *byte != 0);
+        let shown = &bytes[..last.map_or(0, |place| place + 1)];
+        Answer::done(vec![hex_digits(shown), self.receiver.length.to_string()])
+    }
+
     fn set_record(&mut self, name: &[u8], fields: &[&str]) -> Option<Answer> {
         let fields: Option<Vec<u64>> = fields.iter().map(|word| words::number(word)).collect();
         let fields = fields?;
@@ -246,6 +268,10 @@ impl Desk {
             (b"factory", [byte]) => self.factory(words::byte(byte)?),
             (b"reset", []) => self.reset(),
             (b"take", [input]) => self.take(&words::bytes(input)?),
+            (b"hunt", []) => self.hunt(),
+            (b"byte", [byte]) => self.feed_byte(words::byte(byte)?),
+            (b"bytes", [bytes]) => self.feed_bytes(&words::bytes(bytes)?),
+            (b"port", [bytes]) => self.take_bytes(&words::bytes(bytes)?),
             (b"hex", []) => self.start_hex(boundary::RULES_1),
             (b"hex", [rules]) => self.start_hex(words::number(rules)?),
             (b"line", [bytes]) => self.take_record(&words::bytes(bytes)?),
@@ -262,6 +288,10 @@ impl Desk {
             (b"log", []) => self.write_log(),
             (b"logread", [input]) => self.read_log(&words::bytes(input)?),
             (b"rehearse", [run, losses]) => self.rehearse(words::run(run)?, &words::bytes(losses)?),
+            (b"noisy", [run, each, losses, rubbish]) => {
+                let (run, each) = (words::run(run)?, words::number(each)?);
+                self.rehearse_noisy(run, each, &words::bytes(losses)?, &words::bytes(rubbish)?)
+            }
             _ => None,
         }
     }
@@ -307,25 +337,68 @@ impl Desk {
     }
 
     fn take(&mut self, input: &[u8]) -> Option<Answer> {
+        let (board, mut loader) = (boundary::board(self.board), self.loader.meaning());
+        let shown = self.over_flash(input, |flash, answer| {
+            loader.take(board?, input, flash, answer)
+        })?;
+        if shown.number == 0 {
+            self.loader = self.loader.followed_by(loader);
+        }
+        Some(shown)
+    }
+
+    fn hunt(&mut self) -> Option<Answer> {
+        self.buffers.call(&[], &[], &[])?;
+        self.receiver = ReceiverRecord::hunting();
+        Some(Answer::nothing())
+    }
+
+    fn feed_byte(&mut self, byte: u8) -> Option<Answer> {
+        self.buffers.call(&[], &[], &[])?;
+        let packet = self.receiver.byte(byte).unwrap_or_default();
+        Some(Answer::one(hex_digits(packet)))
+    }
+
+    fn feed_bytes(&mut self, bytes: &[u8]) -> Option<Answer> {
+        self.buffers.call(bytes, &[], &[])?;
+        let (taken, packet) = self.receiver.feed(bytes);
+        let packet = hex_digits(packet.unwrap_or_default());
+        Some(Answer::done(vec![taken.to_string(), packet]))
+    }
+
+    fn take_bytes(&mut self, bytes: &[u8]) -> Option<Answer> {
+        let (pages, mut count) = (self.board, 0);
+        let mut port = PortRecord {
+            loader: self.loader,
+            receiver: self.receiver,
+        };
+        let mut shown = self.over_flash(bytes, |flash, answer| {
+            let (before, taken) = port.take(pages, bytes, flash, answer);
+            count = before;
+            taken
+        })?;
+        (self.loader, self.receiver) = (port.loader, port.receiver);
+        shown.values.insert(0, count.to_string());
+        Some(shown)
+    }
+
+    /// Makes a call that may write flash and an answer, which is shown on
+    /// refusals too.
+    fn over_flash(
+        &mut self,
+        brought: &[u8],
+        call: impl FnOnce(&mut [u8], &mut [u8]) -> Result<usize, Refusal>,
+    ) -> Option<Answer> {
         self.buffers
-            .call(input, &[Buffer::Flash, Buffer::Answer], &[])?;
-        let mut loader = self.loader.meaning();
+            .call(brought, &[Buffer::Flash, Buffer::Answer], &[])?;
         let mut flash = self.buffers.lent(Buffer::Flash).to_vec();
         let mut answer = self.buffers.lent(Buffer::Answer).to_vec();
-        let taken = boundary::board(self.board)
-            .and_then(|board| loader.take(board, input, &mut flash, &mut answer));
+        let taken = call(&mut flash, &mut answer);
         self.buffers.keep(Buffer::Flash, &flash);
         self.buffers.keep(Buffer::Answer, &answer);
-        let (number, answered) = match taken {
-            Ok(length) => {
-                self.loader = self.loader.followed_by(loader);
-                (0, length)
-            }
-            Err(refusal) => (refusal.number(), refusal.answered().into()),
-        };
         Some(Answer {
-            number,
-            values: vec![hex_digits(&answer[..answered])],
+            number: taken.map_or_else(Refusal::number, |_| 0),
+            values: vec![hex_digits(&answer[..loader::answered(taken)])],
         })
     }
 
@@ -473,15 +546,43 @@ impl Desk {
     }
 
     fn rehearse(&mut self, run: Run, losses: &[u8]) -> Option<Answer> {
-        let file = [Buffer::Image, Buffer::Map];
-        self.buffers.call(losses, &[Buffer::Flash], &file)?;
         let exchanges: Vec<Exchange> = losses.iter().map(exchange).collect();
+        self.load(losses, |board, (image, map), loader, flash| {
+            line::rehearse(board, run, image, map, loader, flash, &exchanges)
+        })
+    }
+
+    fn rehearse_noisy(
+        &mut self,
+        run: Run,
+        each: usize,
+        losses: &[u8],
+        rubbish: &[u8],
+    ) -> Option<Answer> {
+        let exchanges: Vec<Exchange> = losses.iter().map(exchange).collect();
+        let noise = Noise {
+            exchanges: &exchanges,
+            rubbish,
+            each,
+        };
+        let brought = [losses, rubbish].concat();
+        self.load(&brought, |board, (image, map), loader, flash| {
+            line::rehearse_noisy(board, run, image, map, loader, flash, &noise)
+        })
+    }
+
+    /// Makes a call that loads the file into flash.
+    fn load(
+        &mut self,
+        brought: &[u8],
+        call: impl FnOnce(Board, (&[u8], &[u8]), &mut Loader, &mut [u8]) -> Result<Session, Refusal>,
+    ) -> Option<Answer> {
+        let file = [Buffer::Image, Buffer::Map];
+        self.buffers.call(brought, &[Buffer::Flash], &file)?;
         let mut loader = self.loader.meaning();
         let mut flash = self.buffers.lent(Buffer::Flash).to_vec();
-        let (image, map) = self.file();
-        let given = boundary::board(self.board).and_then(|board| {
-            line::rehearse(board, run, image, map, &mut loader, &mut flash, &exchanges)
-        });
+        let given = boundary::board(self.board)
+            .and_then(|board| call(board, self.file(), &mut loader, &mut flash));
         self.buffers.keep(Buffer::Flash, &flash);
         Some(Answer::of(given.map(|session| {
             self.loader = loader.into();

@@ -11,6 +11,8 @@ pub mod loader;
 pub mod log;
 pub mod map;
 pub mod packet;
+pub mod port;
+pub mod receiver;
 pub mod refusal;
 pub mod session;
 pub mod units;

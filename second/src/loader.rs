@@ -91,9 +91,7 @@ impl Loader {
         flash: &mut [u8],
         answer: &mut [u8],
     ) -> Result<usize, Refusal> {
-        if flash.len() != board.flash_bytes() || answer.len() < GREETING_BYTES {
-            return Err(Refusal::Size);
-        }
+        check_lent(board, flash, answer)?;
         match self.condition {
             Condition::Left => Err(Refusal::NotServing),
             Condition::Waiting => self.greet(board, input, answer),
@@ -233,6 +231,19 @@ impl Loader {
             Ok(())
         }
     }
+}
+
+/// Flash is the board's, and the answer has room for the greeting.
+pub fn check_lent(board: Board, flash: &[u8], answer: &[u8]) -> Result<(), Refusal> {
+    if flash.len() != board.flash_bytes() || answer.len() < GREETING_BYTES {
+        return Err(Refusal::Size);
+    }
+    Ok(())
+}
+
+/// How long the answer to an input is, the BEL of a refusal too.
+pub fn answered(taken: Result<usize, Refusal>) -> usize {
+    taken.unwrap_or_else(|refusal| refusal.answered().into())
 }
 
 /// The part of flash that E names.

@@ -9,7 +9,7 @@ pub const LONGEST: usize = 259;
 pub const PIECE: usize = 250;
 
 /// N counts the command and the address too.
-const COUNT_WITHOUT_DATA: usize = 5;
+pub const COUNT_WITHOUT_DATA: usize = 5;
 
 pub const OPEN: u8 = 0x00;
 pub const ADD: u8 = 0x0F;

@@ -1,12 +1,16 @@
 //! The paper's printed cases and limits.
 
+use second::bench;
+use second::boundary::{PortRecord, ReceiverRecord};
 use second::cases;
 use second::hex::{self, HexRefusal, Reader, RuleSet};
-use second::line::{rehearse, Exchange};
+use second::line::{rehearse, rehearse_noisy, Exchange, Noise};
 use second::listing;
 use second::loader::{Condition, Loader, Protection, NO_KEY};
 use second::log;
 use second::packet::{self, Command};
+use second::port::Port;
+use second::receiver::Receiver;
 use second::session::{Event, Outcome, Phase, Run, Session};
 use second::units::{Board, ByteAddress, Page};
 use second::Refusal;
@@ -429,6 +433,366 @@ fn run_leaves() {
         served.loader.reset();
         assert_eq!(served.input(&[0x08]), Ok(board.greeting().to_vec()));
         assert_eq!(served.give(Command::Run, 0, &[]), ack());
+    }
+}
+
+/// R with address 1.
+const RESET: [u8; 9] = [0x07, 0x0E, 0x05, 0x52, 0x00, 0x00, 0x00, 0x01, 0xA8];
+/// E of page 0, whose checksum is 07.
+const ENDS_IN_07: [u8; 10] = [0x07, 0x0E, 0x06, 0x45, 0x00, 0x00, 0x00, 0xAD, 0x01, 0x07];
+/// W of 07 0E 04 at 0.
+const HOLDS_A_START: [u8; 12] = [
+    0x07, 0x0E, 0x08, 0x57, 0x00, 0x00, 0x00, 0x00, 0x07, 0x0E, 0x04, 0x88,
+];
+
+/// The packets that a new receiver hands on, and what it has gathered then.
+fn received(bytes: &[u8]) -> (Vec<Vec<u8>>, Vec<u8>) {
+    let mut receiver = Receiver::default();
+    let mut packets = Vec::new();
+    for byte in bytes {
+        packets.extend(receiver.byte(*byte).map(<[u8]>::to_vec));
+    }
+    (packets, receiver.gathered().to_vec())
+}
+
+fn check_received(bytes: &[u8], packets: &[&[u8]], gathered: &[u8]) {
+    let (found, left) = received(bytes);
+    assert_eq!(found, packets, "{bytes:02X?}");
+    assert_eq!(left, gathered, "{bytes:02X?}");
+}
+
+#[test]
+fn receiver_finds_packets_between_rubbish() {
+    check_received(&[], &[], &[]);
+    check_received(&RESET, &[&RESET], &[]);
+    let stream = [&[0x00, 0x0E, 0x55, 0x08], &RESET[..], &[0xFF], &ENDS_IN_07].concat();
+    check_received(&stream, &[&RESET, &ENDS_IN_07], &[]);
+    check_received(&[&RESET[..], &RESET].concat(), &[&RESET, &RESET], &[]);
+}
+
+/// What is not complete is kept, and hands nothing on.
+#[test]
+fn receiver_hands_on_with_the_last_byte_and_not_before() {
+    for packet in [&RESET[..], &ENDS_IN_07, &HOLDS_A_START] {
+        for length in 0..packet.len() {
+            check_received(&packet[..length], &[], &packet[..length]);
+        }
+    }
+}
+
+/// No other byte begins a start, and none but 0E goes on with it.
+#[test]
+fn receiver_hunts_for_07_0e_alone() {
+    for byte in 0..=255u8 {
+        let begun: &[u8] = if byte == 0x07 { &[0x07] } else { &[] };
+        check_received(&[byte], &[], begun);
+        match byte {
+            0x0E => check_received(&[0x07, byte], &[], &[0x07, 0x0E]),
+            _ => check_received(&[0x07, byte], &[], begun),
+        }
+    }
+    check_received(&[&[0x07, 0x55], &RESET[1..]].concat(), &[], &[]);
+    check_received(&[&[0x0E, 0x07], &RESET[2..]].concat(), &[], &[]);
+}
+
+#[test]
+fn second_07_may_itself_begin_the_start() {
+    for count in 1..5 {
+        let stream = [&vec![0x07; count], &RESET[..]].concat();
+        check_received(&stream, &[&RESET], &[]);
+    }
+    check_received(&[0x07, 0x07], &[], &[0x07]);
+    check_received(&[0x07, 0x07, 0x0E], &[], &[0x07, 0x0E]);
+    check_received(&[&[0x07, 0x55, 0x07], &RESET[..]].concat(), &[&RESET], &[]);
+}
+
+#[test]
+fn checksum_07_is_not_the_start_of_what_follows() {
+    assert_eq!(built(Command::Erase, 0xAD, &[1]), ENDS_IN_07);
+    let stream = [&ENDS_IN_07[..], &RESET[1..]].concat();
+    check_received(&stream, &[&ENDS_IN_07], &[]);
+    let stream = [&ENDS_IN_07[..], &[0x0E], &RESET].concat();
+    check_received(&stream, &[&ENDS_IN_07, &RESET], &[]);
+}
+
+#[test]
+fn start_inside_data_is_no_start() {
+    assert_eq!(built(Command::Write, 0, &[0x07, 0x0E, 0x04]), HOLDS_A_START);
+    check_received(&HOLDS_A_START, &[&HOLDS_A_START], &[]);
+    let whole = built(Command::Write, 0x070E, &RESET);
+    check_received(&whole, &[&whole], &[]);
+}
+
+/// A start in the rubbish takes a packet for its data: 07 is its count.
+#[test]
+fn start_in_rubbish_swallows_what_follows() {
+    let stream = [&[0x07, 0x0E], &RESET[..]].concat();
+    check_received(&stream, &[&stream], &[]);
+    let twice = [&stream[..], &RESET].concat();
+    check_received(&twice, &[&stream, &RESET], &[]);
+    let mut wired = Wired::serving(Board::Short, 0x00);
+    assert_eq!(wired.hear(&twice), [(4, vec![0x07]), (0, vec![0x06])]);
+}
+
+#[test]
+fn count_below_5_is_handed_on_as_three_bytes() {
+    for count in 0..=4 {
+        let three = [0x07, 0x0E, count];
+        check_received(&three, &[&three], &[]);
+        check_received(&[&three[..], &RESET].concat(), &[&three, &RESET], &[]);
+        check_received(&[&three[..], &RESET[1..]].concat(), &[&three], &[]);
+        check_received(&[three, three].concat(), &[&three, &three], &[]);
+        let mut wired = Wired::serving(Board::Long, 0x00);
+        assert_eq!(wired.hear(&three), [(3, vec![0x07])]);
+    }
+}
+
+/// A 07 that is the count begins nothing.
+#[test]
+fn hunt_begins_again_behind_a_count_below_5() {
+    check_received(
+        &[0x07, 0x0E, 0x04, 0x07, 0x0E, 0x03],
+        &[&[0x07, 0x0E, 0x04], &[0x07, 0x0E, 0x03]],
+        &[],
+    );
+    check_received(
+        &[0x07, 0x07, 0x0E, 0x00, 0x07],
+        &[&[0x07, 0x0E, 0x00]],
+        &[0x07],
+    );
+    check_received(&[0x07, 0x0E, 0x07, 0x0E], &[], &[0x07, 0x0E, 0x07, 0x0E]);
+}
+
+#[test]
+fn every_count_from_5_gathers_n_and_4_bytes() {
+    for count in 5..=255u8 {
+        let length = usize::from(count) + 4;
+        let mut packet = vec![0x07; length];
+        packet[1] = 0x0E;
+        packet[2] = count;
+        check_received(&packet[..length - 1], &[], &packet[..length - 1]);
+        check_received(&packet, &[&packet], &[]);
+        check_received(&[&packet[..], &[0x0E]].concat(), &[&packet], &[]);
+    }
+}
+
+#[test]
+fn shortest_and_longest_packet_are_handed_on() {
+    let longest = built(Command::Write, 0, &[0x07; 250]);
+    assert_eq!((longest.len(), longest[2], longest[258]), (259, 255, 0xD4));
+    let stream = [&RESET[..], &longest, &RESET].concat();
+    check_received(&stream, &[&RESET, &longest, &RESET], &[]);
+}
+
+/// The checksum is the loader's to judge.
+#[test]
+fn wrong_packets_are_handed_on() {
+    let mut wrong = RESET;
+    wrong[8] = 0xA9;
+    check_received(&wrong, &[&wrong], &[]);
+    let unknown = [0x07, 0x0E, 0x05, 0x00, 0x00, 0x00, 0x00, 0x00, 0xFB];
+    check_received(&unknown, &[&unknown], &[]);
+    let mut wired = Wired::serving(Board::Short, 0x00);
+    let answers = wired.hear(&[&wrong[..], &unknown, &RESET].concat());
+    let bel = vec![0x07];
+    assert_eq!(answers, [(4, bel.clone()), (5, bel), (0, vec![0x06])]);
+}
+
+/// A board with a receiver at its end of the line.
+struct Wired {
+    board: Board,
+    port: Port,
+    flash: Vec<u8>,
+}
+
+impl Wired {
+    fn new(board: Board, filling: u8) -> Wired {
+        Wired {
+            board,
+            port: Port {
+                loader: Loader::factory(),
+                receiver: Receiver::default(),
+            },
+            flash: vec![filling; board.flash_bytes()],
+        }
+    }
+
+    fn serving(board: Board, filling: u8) -> Wired {
+        let mut wired = Wired::new(board, filling);
+        assert_eq!(wired.hear(&[0x08]), [greets(board)]);
+        wired
+    }
+
+    /// The number and the answer of each input that these bytes bring.
+    fn hear(&mut self, bytes: &[u8]) -> Vec<(u8, Vec<u8>)> {
+        let mut inputs = Vec::new();
+        for byte in bytes {
+            let mut answer = [0xAA; 30];
+            let flash = &mut self.flash;
+            let taken = self.port.byte(self.board, *byte, flash, &mut answer);
+            let written = answer.iter().position(|byte| *byte == 0xAA).unwrap();
+            let number = taken.map(|taken| taken.map_or_else(Refusal::number, |_| 0));
+            inputs.extend(number.map(|number| (number, answer[..written].to_vec())));
+        }
+        inputs
+    }
+}
+
+fn greets(board: Board) -> (u8, Vec<u8>) {
+    (0, board.greeting().to_vec())
+}
+
+fn unheard() -> (u8, Vec<u8>) {
+    (11, vec![])
+}
+
+/// Each byte is an input of its own while the loader waits.
+#[test]
+fn single_08_in_rubbish_opens_the_board() {
+    for board in Board::ALL {
+        let mut wired = Wired::new(board, 0x00);
+        let opened = wired.hear(&[0x55, 0x07, 0x0E, 0x08, 0x08, 0x00]);
+        assert_eq!(opened, [unheard(), unheard(), unheard(), greets(board)]);
+        assert_eq!(wired.port.loader.condition, Condition::Serving);
+        assert_eq!(wired.hear(&RESET), [(0, vec![0x06])]);
+    }
+}
+
+#[test]
+fn receiver_is_fed_after_the_greeting() {
+    for board in Board::ALL {
+        let mut wired = Wired::new(board, 0x00);
+        assert_eq!(wired.hear(&RESET[..2]), [unheard(), unheard()]);
+        assert_eq!(wired.hear(&[0x08]), [greets(board)]);
+        assert_eq!(wired.port.receiver.gathered(), []);
+        assert_eq!(wired.hear(&RESET[2..]), []);
+        assert_eq!(wired.port.loader.condition, Condition::Serving);
+        // 08 is no input any more
+        assert_eq!(wired.hear(&[0x08, 0x08]), []);
+        assert_eq!(wired.hear(&RESET), [(0, vec![0x06])]);
+    }
+}
+
+#[test]
+fn receiver_is_not_fed_after_r() {
+    for board in Board::ALL {
+        let mut wired = Wired::serving(board, 0x00);
+        assert_eq!(wired.hear(&RESET), [(0, vec![0x06])]);
+        assert_eq!(wired.hear(&ENDS_IN_07), vec![unheard(); 10]);
+        assert_eq!(wired.hear(&[0x08]), [unheard()]);
+        assert_eq!(wired.port.receiver.gathered(), []);
+        assert_eq!(wired.port.loader.condition, Condition::Left);
+        assert!(wired.flash.iter().all(|byte| *byte == 0x00));
+    }
+}
+
+#[test]
+fn what_was_begun_before_a_reset_is_dropped() {
+    let mut wired = Wired::serving(Board::Short, 0x00);
+    assert_eq!(wired.hear(&RESET[..5]), []);
+    wired.port.loader.reset();
+    assert_eq!(wired.hear(&[0x08]), [greets(Board::Short)]);
+    assert_eq!(wired.port.receiver.gathered(), []);
+    assert_eq!(wired.hear(&RESET[5..]), []);
+    assert_eq!(wired.port.loader.condition, Condition::Serving);
+}
+
+/// The R that begins with the checksum of E is none.
+#[test]
+fn loader_takes_only_what_the_receiver_hands_on() {
+    let mut wired = Wired::serving(Board::Short, 0x00);
+    let stream = [&ENDS_IN_07[..], &RESET[1..], &HOLDS_A_START].concat();
+    let ack = (0, vec![0x06]);
+    assert_eq!(wired.hear(&stream), [ack.clone(), ack]);
+    assert_eq!(wired.port.loader.condition, Condition::Serving);
+    assert_eq!(wired.flash[..4], [0x07, 0x0E, 0x04, 0xFF]);
+    assert!(wired.flash[4..512].iter().all(|byte| *byte == 0xFF));
+    assert!(wired.flash[512..].iter().all(|byte| *byte == 0x00));
+}
+
+/// Rubbish with packets in it: what is handed on, and what is left.
+fn noisy_stream() -> (Vec<u8>, Vec<Vec<u8>>, Vec<u8>) {
+    let three = [0x07, 0x0E, 0x04];
+    let stream = [
+        &[0x55, 0x07][..],
+        &ENDS_IN_07,
+        &[0x0E, 0x07, 0x07],
+        &three,
+        &HOLDS_A_START,
+        &[0x07],
+    ];
+    let packets = [&ENDS_IN_07[..], &three, &HOLDS_A_START];
+    let packets = packets.map(<[u8]>::to_vec).to_vec();
+    (stream.concat(), packets, vec![0x07])
+}
+
+/// Feeds all of these bytes, call by call, and gives the packets.
+fn fed(record: &mut ReceiverRecord, mut bytes: &[u8]) -> Vec<Vec<u8>> {
+    let mut packets = Vec::new();
+    while !bytes.is_empty() {
+        let (taken, packet) = record.feed(bytes);
+        packets.extend(packet.map(<[u8]>::to_vec));
+        bytes = &bytes[taken..];
+    }
+    packets
+}
+
+#[test]
+fn cutting_the_bytes_elsewhere_changes_nothing() {
+    let (stream, packets, gathered) = noisy_stream();
+    let mut whole = ReceiverRecord::hunting();
+    assert_eq!(fed(&mut whole, &stream), packets);
+    assert_eq!(whole.length, 1);
+    for first in 0..=stream.len() {
+        for second in first..=stream.len() {
+            let mut record = ReceiverRecord::hunting();
+            let mut found = fed(&mut record, &stream[..first]);
+            found.extend(fed(&mut record, &stream[first..second]));
+            found.extend(fed(&mut record, &stream[second..]));
+            assert_eq!(found, packets);
+            assert_eq!(record, whole);
+        }
+    }
+    let packets: Vec<&[u8]> = packets.iter().map(Vec::as_slice).collect();
+    check_received(&stream, &packets, &gathered);
+}
+
+/// Takes all of these bytes, call by call, and gives the number and the answer
+/// of each input that is answered.
+fn ported(port: &mut PortRecord, mut bytes: &[u8], flash: &mut [u8]) -> Vec<(u8, Vec<u8>)> {
+    let mut inputs = Vec::new();
+    while !bytes.is_empty() {
+        let mut answer = [0xAA; 24];
+        let (taken, given) = port.take(124, bytes, flash, &mut answer);
+        let number = given.map_or_else(Refusal::number, |_| 0);
+        let answered = answer.iter().position(|byte| *byte == 0xAA).unwrap_or(24);
+        if answered > 0 {
+            inputs.push((number, answer[..answered].to_vec()));
+        }
+        bytes = &bytes[taken..];
+    }
+    inputs
+}
+
+#[test]
+fn cutting_the_bytes_to_a_port_changes_nothing() {
+    let (noise, _, _) = noisy_stream();
+    let stream = [&[0x07, 0x08][..], &noise, &RESET[1..], &[0x08]].concat();
+    let ack = (0, vec![0x06]);
+    let bel = (3, vec![0x07]);
+    let answers = [greets(Board::Short), ack.clone(), bel, ack.clone(), ack];
+    for cut in 0..=stream.len() {
+        let mut flash = vec![0x00; 63_488];
+        let mut port = PortRecord {
+            loader: Loader::factory().into(),
+            receiver: ReceiverRecord::hunting(),
+        };
+        let mut found = ported(&mut port, &stream[..cut], &mut flash);
+        found.extend(ported(&mut port, &stream[cut..], &mut flash));
+        assert_eq!(found, answers);
+        assert_eq!(port.loader.condition, 2);
+        assert_eq!(port.receiver.length, 0);
+        assert_eq!(flash[..4], [0x07, 0x0E, 0x04, 0xFF]);
     }
 }
 
@@ -3206,6 +3570,199 @@ fn rehearsal_refuses_20_then_32_and_sends_nothing() {
     }
 }
 
+/// A rehearsal on a noisy line, over a flash of zeros.
+fn load_noisy(reading: &Reading, run: Run, noise: &Noise) -> (Session, Loader, Vec<u8>) {
+    let board = reading.board();
+    let mut loader = Loader::factory();
+    let mut flash = vec![0x00; board.flash_bytes()];
+    let (image, map) = (&reading.image, &reading.map);
+    let ended = rehearse_noisy(board, run, image, map, &mut loader, &mut flash, noise).unwrap();
+    (ended, loader, flash)
+}
+
+/// With so much rubbish before each, all is as on a quiet line.
+fn check_as_quiet(reading: &Reading, run: Run, exchanges: &[Exchange], rubbish: &[u8]) {
+    let quiet = load(reading, run, exchanges);
+    for each in [0, 1, 7, 8, 9, rubbish.len(), usize::MAX] {
+        let noise = Noise {
+            exchanges,
+            rubbish,
+            each,
+        };
+        assert!(load_noisy(reading, run, &noise) == quiet, "{each}");
+    }
+}
+
+/// Every byte but 07 and 08.
+fn harmless() -> Vec<u8> {
+    (0..=255u8)
+        .filter(|byte| ![0x07, 0x08].contains(byte))
+        .collect()
+}
+
+#[test]
+fn rubbish_without_07_and_08_changes_no_rehearsal() {
+    for reading in files([plan_file, three_pieces]) {
+        for run in RUNS {
+            let total = reading.session(run).total as usize;
+            for lost in [Exchange::PacketLost, Exchange::AnswerLost] {
+                for place in 0..=total + 1 {
+                    check_as_quiet(&reading, run, &loss_at(place, lost), &harmless());
+                }
+            }
+            check_as_quiet(&reading, run, &[], &[]);
+        }
+    }
+}
+
+#[test]
+fn noisy_rehearsal_of_a_full_board() {
+    for board in Board::ALL {
+        let mut reading = full_file(board);
+        for (at, byte) in reading.image.iter_mut().enumerate() {
+            *byte = [0x07, 0x0E, 0x04][at % 3];
+        }
+        // each packet but the first has a lone 07 before it
+        let noise = Noise {
+            exchanges: &[],
+            rubbish: &[0x55, 0x07].repeat(2000),
+            each: 2,
+        };
+        let (ended, loader, flash) = load_noisy(&reading, Run::Reset, &noise);
+        assert_eq!(ended.phase, Phase::Ended(Outcome::Valid));
+        assert_eq!(ended.acknowledged, ended.total);
+        assert_eq!(loader.condition, Condition::Left);
+        assert!(flash == reading.image);
+    }
+}
+
+/// How a load of the plan by reset ends with this rubbish before its E; before
+/// 08 there are as many 00s.
+fn check_rubbish(rubbish: &[u8], lost: Exchange, outcome: Outcome, acknowledged: u32) {
+    for reading in files([plan_file]) {
+        let before = [&vec![0x00; rubbish.len()], rubbish].concat();
+        let noise = Noise {
+            exchanges: &[Exchange::Whole, lost],
+            rubbish: &before,
+            each: rubbish.len(),
+        };
+        let (ended, _, _) = load_noisy(&reading, Run::Reset, &noise);
+        assert_eq!(ended.phase, Phase::Ended(outcome), "{rubbish:02X?}");
+        assert_eq!(ended.acknowledged, acknowledged, "{rubbish:02X?}");
+    }
+}
+
+#[test]
+fn answers_of_an_exchange_are_heard_as_one() {
+    let three = [0x07, 0x0E, 0x04];
+    check_rubbish(&three, Exchange::Whole, Outcome::WrongAnswer, 0);
+    check_rubbish(&three, Exchange::PacketLost, Outcome::Refused, 0);
+    check_rubbish(&three, Exchange::AnswerLost, Outcome::Silent, 0);
+    let twice = [three, three].concat();
+    check_rubbish(&twice, Exchange::PacketLost, Outcome::WrongAnswer, 0);
+    // E of another page is acknowledged too
+    check_rubbish(&ENDS_IN_07, Exchange::Whole, Outcome::WrongAnswer, 0);
+}
+
+/// The ACK to E of page 0 passes for that of the E that is lost, so that W goes
+/// to a page of zeros and V differs.
+#[test]
+fn rubbish_before_a_lost_packet_arrives() {
+    check_rubbish(&ENDS_IN_07, Exchange::PacketLost, Outcome::Refused, 2);
+    check_rubbish(&[0x07], Exchange::PacketLost, Outcome::Silent, 0);
+}
+
+/// 11 bytes are wanted behind the count, and E has 10.
+#[test]
+fn rubbish_that_swallows_a_packet_is_silence() {
+    let start = [0x07, 0x0E, 0x0A];
+    check_rubbish(&start, Exchange::Whole, Outcome::Silent, 0);
+    // with 10 wanted the packet completes what was begun
+    let start = [0x07, 0x0E, 0x09];
+    check_rubbish(&start, Exchange::Whole, Outcome::Refused, 0);
+}
+
+/// After an R in the rubbish nothing of E is heard, and W is silence.
+#[test]
+fn rubbish_that_is_r_leaves() {
+    check_rubbish(&RESET, Exchange::Whole, Outcome::Silent, 1);
+}
+
+/// The same with the rubbish before 08 and none later.
+fn check_before_08(rubbish: &[u8], lost: Exchange, outcome: Outcome, acknowledged: u32) {
+    for reading in files([plan_file]) {
+        let noise = Noise {
+            exchanges: &[lost],
+            rubbish,
+            each: rubbish.len(),
+        };
+        let (ended, _, _) = load_noisy(&reading, Run::Reset, &noise);
+        assert_eq!(ended.phase, Phase::Ended(outcome), "{rubbish:02X?}");
+        assert_eq!(ended.acknowledged, acknowledged, "{rubbish:02X?}");
+    }
+}
+
+#[test]
+fn rubbish_before_the_greeting() {
+    // nothing is fed before 08
+    check_before_08(&[0x07, 0x0E], Exchange::Whole, Outcome::Valid, 4);
+    // an 08 in the rubbish is as good
+    check_before_08(&[0x55, 0x08], Exchange::Whole, Outcome::Valid, 4);
+    check_before_08(&[0x55, 0x08], Exchange::PacketLost, Outcome::Valid, 4);
+    check_before_08(&[0x55, 0x08], Exchange::AnswerLost, Outcome::Silent, 0);
+    check_before_08(&[0x55, 0x07], Exchange::PacketLost, Outcome::Silent, 0);
+    // the session's own 08 is then the count of a packet
+    check_before_08(&[0x08, 0x07, 0x0E], Exchange::Whole, Outcome::Refused, 0);
+    // a BEL behind the greeting
+    let three = [0x08, 0x07, 0x0E, 0x04];
+    check_before_08(&three, Exchange::Whole, Outcome::WrongGreeting, 0);
+}
+
+#[test]
+fn noisy_rehearsal_refuses_20_then_32_and_sends_nothing() {
+    for board in Board::ALL {
+        let bytes = board_bytes(board);
+        for (reading, flash, refusal) in [
+            (plan_file(board), bytes - 1, Refusal::Size),
+            (plan_file(board), board_bytes(other(board)), Refusal::Size),
+            (plan_file(other(board)), bytes, Refusal::Size),
+            (Reading::new(board), bytes + 1, Refusal::Size),
+            (Reading::new(board), bytes, Refusal::NoData),
+        ] {
+            let noise = Noise {
+                exchanges: &[],
+                rubbish: &RESET,
+                each: 9,
+            };
+            let mut loader = Served::new(board, 0x00).loader;
+            let mut flash = vec![0x00; flash];
+            let (image, map) = (&reading.image, &reading.map);
+            let run = Run::Reset;
+            let given = rehearse_noisy(board, run, image, map, &mut loader, &mut flash, &noise);
+            assert_eq!(given, Err(refusal));
+            assert_eq!(loader.condition, Condition::Serving);
+            assert!(flash.iter().all(|byte| *byte == 0x00));
+        }
+    }
+}
+
+/// 253 pieces of 250 bytes and one of 238, each with 8 bytes before its packet.
+#[test]
+fn stream_of_the_bench_is_received() {
+    let image = (0..63_488usize).map(|i| (i * 167 + i / 256 * 13) as u8);
+    let image: Vec<u8> = image.collect();
+    let mut sum = 0;
+    for (i, piece) in image.chunks(250).enumerate() {
+        let packet = built(Command::Write, i as u32 * 250, piece);
+        sum += packet.iter().map(|byte| u64::from(*byte)).sum::<u64>();
+    }
+    for times in 0..3 {
+        let done = bench::run("receive", times).unwrap();
+        assert_eq!(done.given, times * (253 * (259 + 8) + 247 + 8));
+        assert_eq!(done.sum, times * sum);
+    }
+}
+
 #[test]
 fn printed_listings() {
     let plan = "STEP KIND PACKET\n\
@@ -3324,10 +3881,16 @@ fn check_cases(board: Board, printed: &str) {
     check_lines(&format!("board {pages} -> 0\n{lent}{file}{printed}"));
 }
 
-/// On each board, whose number of pages stands for `BOARD`.
+/// On each board, whose number of pages stands for `BOARD`, and what it greets
+/// with for `GREETING`.
 fn check_cases_of_both(printed: &str) {
-    for (board, pages) in [(Board::Short, "124"), (Board::Long, "248")] {
-        check_cases(board, &printed.replace("BOARD", pages));
+    for (board, pages, length) in [
+        (Board::Short, "124", "2D363220"),
+        (Board::Long, "248", "2D313234"),
+    ] {
+        let greeting = format!("4144754337303278202020{length}493331202020200A0D");
+        let printed = printed.replace("BOARD", pages);
+        check_cases(board, &printed.replace("GREETING", &greeting));
     }
 }
 
@@ -3438,6 +4001,339 @@ fn case_lines_of_ends_that_are_another_run_kinds() {
              session -> 0 BOARD {record}\n"
         ));
     }
+}
+
+#[test]
+fn case_lines_of_the_receiver() {
+    check_lines(
+        "receiver -> 0 0\n\
+         byte 55 -> 0\n\
+         byte 07 -> 0\n\
+         receiver -> 0 07 1\n\
+         byte 07 -> 0\n\
+         receiver -> 0 07 1\n\
+         byte 0E -> 0\n\
+         byte 05 -> 0\n\
+         bytes 520000 -> 0 3\n\
+         receiver -> 0 070E0552 6\n\
+         bytes  -> 0 0\n\
+         bytes 0001A80700 -> 0 3 070E055200000001A8\n\
+         receiver -> 0 070E055200000001A8 0\n\
+         bytes 55070E04FF -> 0 4 070E04\n\
+         receiver -> 0 070E045200000001A8 0\n\
+         byte 07 -> 0\n\
+         byte 0E -> 0\n\
+         byte 00 -> 0 070E00\n\
+         receiver -> 0 070E005200000001A8 0\n\
+         hunt -> 0\n\
+         receiver -> 0 0\n",
+    );
+}
+
+/// What stands behind the bytes gathered, or behind the packet, stays.
+#[test]
+fn case_lines_of_a_receiver_with_bytes_behind() {
+    check_lines(
+        "receiver 1122334455667788 0 -> 0\n\
+         byte 55 -> 0\n\
+         receiver -> 0 1122334455667788 0\n\
+         byte 07 -> 0\n\
+         receiver -> 0 0722334455667788 1\n\
+         byte 55 -> 0\n\
+         receiver -> 0 0722334455667788 0\n\
+         bytes 070E -> 0 2\n\
+         receiver -> 0 070E334455667788 2\n\
+         byte 04 -> 0 070E04\n\
+         receiver -> 0 070E044455667788 0\n\
+         bytes 070700 -> 0 3\n\
+         receiver -> 0 070E044455667788 0\n",
+    );
+}
+
+/// What stands third is N; what stands before it is taken for the start.
+#[test]
+fn case_lines_of_receivers_that_were_made_up() {
+    for (bytes, length, byte, packet, after, left) in [
+        ("55", 1, "0E", "", "550E", 2),
+        ("55", 1, "07", "", "07", 1),
+        ("55", 1, "55", "", "55", 0),
+        ("", 1, "0E", "", "000E", 2),
+        ("1122", 2, "05", "", "112205", 3),
+        ("1122", 2, "04", " 112204", "112204", 0),
+        ("", 2, "FF", "", "0000FF", 3),
+        ("112200", 3, "77", " 11220077", "11220077", 0),
+        ("112201", 3, "77", "", "11220177", 4),
+        ("11220133", 4, "77", " 1122013377", "1122013377", 0),
+        ("11220033", 4, "07", "", "07220033", 1),
+        ("11220033", 4, "77", "", "11220033", 0),
+        (
+            "112205",
+            8,
+            "77",
+            " 112205000000000077",
+            "112205000000000077",
+            0,
+        ),
+        ("112205", 9, "77", "", "112205", 0),
+        ("112205", 9, "07", "", "072205", 1),
+        ("1122FF", 259, "07", "", "0722FF", 1),
+        ("1122FF", 260, "77", "", "1122FF", 0),
+        ("1122FF", u64::MAX, "07", "", "0722FF", 1),
+    ] {
+        check_lines(&format!(
+            "receiver {bytes} {length} -> 0\n\
+             byte {byte} -> 0{packet}\n\
+             receiver -> 0 {after} {left}\n\
+             receiver {bytes} {length} -> 0\n\
+             bytes {byte} -> 0 1{packet}\n\
+             receiver -> 0 {after} {left}\n"
+        ));
+    }
+}
+
+#[test]
+fn case_lines_of_the_longest_packet() {
+    let front = format!("070EFF{}", "5A".repeat(255));
+    check_lines(&format!(
+        "bytes {front} -> 0 258\n\
+         receiver -> 0 {front} 258\n\
+         byte 07 -> 0 {front}07\n\
+         receiver -> 0 {front}07 0\n\
+         byte 0E -> 0\n\
+         receiver -> 0 {front}07 0\n\
+         receiver {front} 258 -> 0\n\
+         bytes 070E -> 0 1 {front}07\n\
+         receiver {front}0707 0 -> ?\n\
+         receiver -> 0 {front}07 0\n"
+    ));
+}
+
+/// A length that no bytes have been fed to stays, even where it is too large.
+#[test]
+fn case_lines_that_are_no_receiver() {
+    check_lines(
+        "receiver 07 300 -> 0\n\
+         receiver  -> ?\n\
+         receiver 07 -> ?\n\
+         receiver 7 1 -> ?\n\
+         receiver 0e 1 -> ?\n\
+         receiver 07 01 -> ?\n\
+         receiver 07 -1 -> ?\n\
+         receiver 07 1 1 -> ?\n\
+         receiver 07 18446744073709551616 -> ?\n\
+         hunt  -> ?\n\
+         byte -> ?\n\
+         byte  -> ?\n\
+         byte 7 -> ?\n\
+         byte 070E -> ?\n\
+         bytes -> ?\n\
+         bytes 0 -> ?\n\
+         bytes 07 0E -> ?\n\
+         port -> ?\n\
+         port 8 -> ?\n\
+         port 08 08 -> ?\n\
+         bytes  -> 0 0\n\
+         port  -> 0 0\n\
+         receiver -> 0 07 300\n\
+         receiver  18446744073709551615 -> 0\n\
+         receiver -> 0 18446744073709551615\n",
+    );
+}
+
+#[test]
+fn case_lines_of_a_port() {
+    check_cases_of_both(
+        "factory 00 -> 0\n\
+         bytes 1107 -> 0 2\n\
+         port  -> 0 0\n\
+         receiver -> 0 07 1\n\
+         port 070E08 -> 11 1\n\
+         receiver -> 0 07 0\n\
+         lend answer 25 -> 0\n\
+         port 08070E -> 0 1 GREETING\n\
+         port 08070E -> 0 3\n\
+         receiver -> 0 070E 2\n\
+         port 04070E -> 3 1 07\n\
+         receiver -> 0 070E04 0\n\
+         port 55070E06450000020001B2FF -> 0 11 06\n\
+         look flash 000001FF 2 -> 0 00FF\n\
+         port 070E055200000002A7 -> 7 9 07\n\
+         port 070E055200000001A9 -> 4 9 07\n\
+         receiver -> 0 070E055200000001A9B2 0\n\
+         loader -> 0 0 0 4294967295 1 0 0 0\n\
+         port 070E055200000001A8 -> 0 9 06\n\
+         loader -> 0 0 0 4294967295 2 0 0 0\n\
+         byte 07 -> 0\n\
+         port 08 -> 11 1\n\
+         receiver -> 0 070E055200000001A8B2 0\n\
+         port  -> 0 0\n",
+    );
+}
+
+/// 65, then 20, with no byte taken, whatever the receiver and the loader.
+#[test]
+fn case_lines_of_a_port_that_takes_nothing() {
+    for condition in [0, 1, 2] {
+        check_cases_of_both(&format!(
+            "loader 0 0 0 {condition} 2 0 3 -> 0\n\
+             receiver 070E04 2 -> 0\n\
+             lend answer 23 -> 0\n\
+             port  -> 20 0\n\
+             port 04 -> 20 0\n\
+             lend answer 24 -> 0\n\
+             lend flash 63487 -> 0\n\
+             port  -> 20 0\n\
+             port 08 -> 20 0\n\
+             board 125 -> 0\n\
+             port  -> 65 0\n\
+             port 08 -> 65 0\n\
+             receiver -> 0 070E04 2\n\
+             loader -> 0 0 0 0 {condition} 2 0 3\n"
+        ));
+    }
+}
+
+/// A refusal hands the loader back as it was; else its flags are 0 or 1.
+#[test]
+fn case_lines_of_a_port_with_any_loader() {
+    check_lines(
+        "loader 5 6 7 1 2 0 3 -> 0\n\
+         port 070E04 -> 3 3 07\n\
+         loader -> 0 5 6 7 1 2 0 3\n\
+         port 07 -> 0 1\n\
+         loader -> 0 5 6 7 1 1 0 1\n\
+         loader 5 6 7 9 2 4 3 -> 0\n\
+         port 08 -> 11 1\n\
+         loader -> 0 5 6 7 9 2 4 3\n\
+         receiver -> 0 070E04 0\n\
+         loader 5 6 7 1 2 4 3 -> 0\n\
+         port 070E065000000000018B -> 4 10 07\n\
+         port 070E0650000000010 -> ?\n\
+         port 070E06500000000001A9 -> 0 10 06\n\
+         loader -> 0 7 0 0 1 1 0 0\n",
+    );
+}
+
+/// Where the start was made up the loader says 1, and gives no answer.
+#[test]
+fn case_lines_of_a_port_with_any_receiver() {
+    check_lines(
+        "loader 0 0 0 1 0 0 0 -> 0\n\
+         receiver 5566 2 -> 0\n\
+         port 0455 -> 1 1\n\
+         receiver -> 0 556604 0\n\
+         receiver 070E00 3 -> 0\n\
+         port 0455 -> 3 1 07\n\
+         receiver -> 0 070E0004 0\n\
+         receiver 070E05 9 -> 0\n\
+         port 07 -> 0 1\n\
+         receiver -> 0 070E05 1\n",
+    );
+}
+
+#[test]
+fn case_lines_of_noisy_rehearsals() {
+    check_cases_of_both(
+        "factory 00 -> 0\n\
+         receiver 0711 1 -> 0\n\
+         noisy reset 0   -> 0 ended 0 4\n\
+         loader -> 0 0 0 4294967295 2 0 0 0\n\
+         session -> 0 BOARD 0 5 0 0 0 4 4 2\n\
+         look flash 000001FF 4 -> 0 001234FF\n\
+         noisy hold 3  0102030405060708 -> 0 ended 1 3\n\
+         loader -> 0 0 0 4294967295 1 0 0 0\n\
+         noisy 7 3  080808 -> 0 ended 1 3\n\
+         session -> 0 BOARD 2 5 0 0 1 3 3 2\n\
+         noisy jump 1 01 08 -> 0 ended 0 4\n\
+         noisy jump 1 01 07 -> 0 ended 40 0\n\
+         noisy jump 3 0000 000000070E04 -> 0 ended 43 0\n\
+         noisy jump 3 0001 000000070E04 -> 0 ended 41 0\n\
+         noisy jump 3 0002 000000070E04 -> 0 ended 40 0\n\
+         noisy jump 3 00FF 000000070E04 -> 0 ended 40 0\n\
+         noisy jump 3  00000007 -> 0 ended 0 4\n\
+         noisy jump 18446744073709551615  5508070E -> 0 ended 41 0\n\
+         noisy jump 9223372036854775808  55 -> 0 ended 0 4\n\
+         receiver -> 0 0711 1\n\
+         noisy jump 18446744073709551616  55 -> ?\n\
+         noisy held 0   -> ?\n\
+         noisy jump 0  -> ?\n\
+         noisy jump   -> ?\n\
+         noisy jump 0 0  -> ?\n\
+         noisy jump 0  0 -> ?\n\
+         noisy jump 01   -> ?\n\
+         noisy 4294967296 0   -> ?\n\
+         session -> 0 BOARD 1 5 0 0 0 4 4 2\n",
+    );
+}
+
+#[test]
+fn case_lines_of_refused_noisy_rehearsals() {
+    check_lines(
+        "noisy reset 1  08 -> 32\n\
+         session -> ?\n\
+         lend map 7935 -> 0\n\
+         noisy reset 1  08 -> 20\n\
+         lend map 7936 -> 0\n\
+         lend flash null -> 0\n\
+         noisy reset 1  08 -> 20\n\
+         board 125 -> 0\n\
+         noisy reset 1  08 -> 65\n\
+         session -> ?\n\
+         loader -> 0 0 0 4294967295 0 0 0 0\n",
+    );
+}
+
+/// What lines bring is lent, and what their calls may write must not overlap it.
+#[test]
+fn case_lines_of_bytes_from_the_line() {
+    check_cases(
+        Board::Short,
+        "fill input 00000000 5 AA -> 0\n\
+         noisy reset 1 0000 5566 -> 0 ended 0 4\n\
+         look input 00000000 5 -> 0 00005566AA\n\
+         changed -> 0 flash 00000200 1234\n\
+         bytes 07 -> 0 1\n\
+         look input 00000000 2 -> 0 0700\n\
+         changed -> 0\n\
+         factory 00 -> 0\n\
+         port 08 -> 0 1 41447543373032782020202D363220493331202020200A0D\n\
+         changed -> 0 answer 00000000 41447543373032782020202D363220493331202020200A0D\n\
+         port 070E -> 0 2\n\
+         changed -> 0\n\
+         port 04 -> 3 1 07\n\
+         changed -> 0 answer 00000000 07\n\
+         hunt -> 0\n\
+         changed -> 0\n\
+         port 070E03 -> 3 3 07\n\
+         changed -> 0\n\
+         lend input flash 0000F7FF -> 0\n\
+         port 07 -> ?\n\
+         port  -> 0 0\n\
+         noisy reset 0 00  -> ?\n\
+         noisy reset 0  00 -> ?\n\
+         bytes 07 -> 0 1\n\
+         look flash 0000F7FF 1 -> 0 07\n\
+         lend input flash 0000F7FE -> 0\n\
+         noisy reset 0 00 00 -> ?\n\
+         lend input flash 0000F800 -> 0\n\
+         noisy reset 0 00 00 -> 0 ended 0 4\n\
+         lend input answer 00000017 -> 0\n\
+         port 07 -> ?\n\
+         noisy reset 0  00 -> 0 ended 0 4\n\
+         lend input spare 0001FFFF -> 0\n\
+         bytes 0707 -> ?\n\
+         port 0707 -> ?\n\
+         noisy reset 0 00 00 -> ?\n\
+         byte 0E -> 0\n\
+         noisy reset 0  00 -> 0 ended 0 4\n\
+         lend flash image 00000000 63488 -> 0\n\
+         noisy reset 0   -> ?\n\
+         port 55 -> 11 1\n\
+         lend answer image 00000000 24 -> 0\n\
+         port 55 -> ?\n\
+         byte 55 -> 0\n\
+         bytes 55 -> 0 1\n",
+    );
 }
 
 /// The short board's sizes are lent until a line lends others.
