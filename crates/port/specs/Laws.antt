@@ -1,3 +1,4 @@
 pub mod Port
 pub mod Handed
 pub mod Determined
+pub mod All
