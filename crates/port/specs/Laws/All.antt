@@ -2,19 +2,21 @@
 use Prim.Native.Nat.{ℕ, zero, suc, _+_, _≤_, _<_}
 use mathlib.Core.Bool.{true, false}
 use mathlib.Core.List.{List, [], _∷_, _++_, append-assoc, append-nil}
+use mathlib.Core.Logic.{inl, inr}
 use mathlib.Core.Path.{_≡_, refl, sym, ap, subst, _∙_}
-use native.Mathlib.Nat.{add-comm}
-use native.Mathlib.Numerals.{add-one}
+use native.Mathlib.Nat.{zero-add, suc-add}
 use native.Mathlib.Omega.{arith}
 use borrow.Author.Tests.{eq-eqb, ne-eqb, eqb-true, eqb-false}
 use lib.Dec.{eqb}
-use lib.ListN.{length, getD, take}
+use lib.ListN.{length, getD, take, length-append}
 use Rattle.basis.specs.Board.{answerMost, openingByte}
 use Rattle.basis.specs.Laws.Choice.{decide}
-use Rattle.basis.specs.Refusals.{refused}
+use Rattle.basis.specs.Refusals.{Answer, given}
 use Rattle.basis.specs.Units.{startOf}
 use Rattle.loader.specs.Commands.{Effect, effectAfter}
+use Rattle.loader.specs.Laws.Host.{sent-opening}
 use Rattle.loader.specs.Laws.Take.{take-heard, waiting-unheard}
+use Rattle.loader.specs.State.{withCondition}
 use Rattle.loader.specs.Take.{takeOf, answerBytes}
 use Rattle.loader.specs.declared.state.Condition.{Condition}
 use Rattle.loader.specs.declared.state.Condition.the-variants.{Waiting, Serving, Left}
@@ -22,9 +24,9 @@ use Rattle.loader.specs.declared.state.Loader.{Loader}
 use Rattle.port.specs.Laws.Port.{turn-gathers, turn-passes, through-none, through-packet}
 use Rattle.port.specs.Port.{serving, still, brings, through, asItComes, Turn, turnOf, All, allOf}
 use Rattle.port.specs.declared.port.Port.{Port}
-use Rattle.receiver.specs.Hearing.{hear, feed}
+use Rattle.receiver.specs.Hearing.{hear, Fed, feed, rubbish}
 use Rattle.receiver.specs.Laws.Bytes.{ending}
-use Rattle.receiver.specs.Laws.Feeding.{nothing}
+use Rattle.receiver.specs.Laws.Feeding.{nothing, feed-append, rubbish-tail, rubbish-idle, Idle}
 use Rattle.receiver.specs.Laws.Record.{byte-gathered, byte-packet}
 use Rattle.receiver.specs.Receiver.{emptied, gathered, packetIn, further, byteOf, bytesOf}
 use Rattle.receiver.specs.declared.receiver.Receiver.{Receiver}
@@ -174,6 +176,30 @@ module _ (board room : ℕ) (l : Loader) (c : l .condition ≡ Serving) where
         gathered-is = rw (byte-gathered r b) at (i .gathered-is);
       })
 
+-- ---- rubbish and then the opening byte
+
+-- bytes at which nothing is handed on, one after another
+pub nothing-joined : (a b : ℕ) (t : List (List ℕ)) → nothing a ++ (nothing b ++ t) ≡ nothing (a + b) ++ t
+nothing-joined zero b t = rw zero-add
+nothing-joined (suc a) b t = rw (suc-add, nothing-joined a b t)
+
+-- nothing is gathered after it, and nothing handed on
+past-opening : (g : List ℕ) → Idle g → feed g (openingByte ∷ []) ≡ record { gathered = []; handed = [] ∷ [] }
+unfolding feed hear
+past-opening g (inl e) = rw e
+past-opening g (inr e) = rw e
+
+opening-fed : (z : List ℕ) → rubbish z ≡ true
+    → feed [] (z ++ (openingByte ∷ []))
+    ≡ record { gathered = []; handed = nothing (length (z ++ (openingByte ∷ []))) }
+opening-fed z e =
+    let u = rubbish-idle z e in
+    let n : length (z ++ (openingByte ∷ [])) ≡ length z + 1 = length-append z (openingByte ∷ []) in
+    feed-append [] z (openingByte ∷ [])
+    ∙ rw (past-opening (feed [] z .gathered) (u .1), u .0, n)
+    (ap (λ (h : List (List ℕ)). record { gathered = []; handed = h })
+    (nothing-joined (length z) 1 [] ∙ append-nil (nothing (length z + 1))))
+
 -- ---- the loader waits: what is not the opening byte is not heard
 
 module _ (board room : ℕ) (l : Loader) (c : l .condition ≡ Waiting) (f : List ℕ) (size : length f ≡ startOf board)
@@ -195,6 +221,62 @@ module _ (board room : ℕ) (l : Loader) (c : l .condition ≡ Waiting) (f : Lis
       subst (Idles l f [])
       (sym (all-first board room (record { loader = l; receiver = r }) f b s
       ∙ ap (λ (a : All). andThen board room a s) (byte-unheard r b (n 0)))) i
+
+  abbrev opening : Answer Effect
+  opening = takeOf board l (openingByte ∷ []) f room
+
+  opens : opening ≡ given (record { loader = withCondition l Serving; flash = f })
+  opens = sent-opening board l f room size fits c
+
+  byte-opens : (r : Receiver)
+      → ofTurn (turnOf board room (record { loader = l; receiver = r }) f (openingByte ∷ []))
+      ≡ record {
+        port = record { loader = withCondition l Serving; receiver = emptied r };
+        flash = f;
+        answers = answerBytes board l opening;
+      }
+  byte-opens r =
+      ap ofTurn (turn-passes board (record { loader = l; receiver = r }) (openingByte ∷ []) f room (ap serving c))
+      ∙ ap (λ (x : Answer Effect). record {
+        port = record { loader = effectAfter l f x .loader; receiver = emptied r };
+        flash = effectAfter l f x .flash;
+        answers = answerBytes board l opening;
+      }) opens
+
+  -- a second opening byte changes nothing, whatever rubbish is between
+  opens-once : (z : List ℕ) (r : Receiver) → rubbish z ≡ true
+      → Brings board room l f (openingByte ∷ []) [] (allOf board room (record { loader = l; receiver = r }) f
+      (openingByte ∷ z ++ (openingByte ∷ [])))
+  opens-once z r e =
+      let s = z ++ (openingByte ∷ []) in
+      let h = opening-fed z e in
+      let i = all-idle board room (withCondition l Serving) refl s (emptied r) f (ap (λ (x : Fed). x .handed) h) in
+      subst (Brings board room l f (openingByte ∷ []) [])
+      (sym (all-first board room (record { loader = l; receiver = r }) f openingByte s
+      ∙ ap (λ (a : All). andThen board room a s) (byte-opens r)))
+      (record {
+        loader-is = i .loader-is ∙ sym (ap (λ (x : Answer Effect). effectAfter l f x .loader) opens);
+        flash-is = i .flash-is ∙ sym (ap (λ (x : Answer Effect). effectAfter l f x .flash) opens);
+        answers-is = ap (λ (t : List ℕ). answerBytes board l opening ++ t) (i .answers-is) ∙ append-nil _;
+        gathered-is = i .gathered-is ∙ ap (λ (x : Fed). x .gathered) h;
+      })
+
+  -- the opening byte opens the board, also when rubbish came before it
+  pub all-opens : (z : List ℕ) (r : Receiver) → rubbish z ≡ true
+      → Brings board room l f (openingByte ∷ []) [] (allOf board room (record { loader = l; receiver = r }) f
+      (z ++ (openingByte ∷ [])))
+  unfolding allOf
+  all-opens [] r e =
+      rw (turn-passes board (record { loader = l; receiver = r }) (openingByte ∷ []) f room (ap serving c))
+      (record { loader-is = refl; flash-is = refl; answers-is = append-nil _; gathered-is = refl })
+  all-opens (b ∷ z) r e =
+      decide (eqb b openingByte)
+      (λ t. rw (eqb-true b openingByte t) (opens-once z r (rubbish-tail b z e)))
+      (λ t. subst (Brings board room l f (openingByte ∷ []) [])
+      (sym (all-first board room (record { loader = l; receiver = r }) f b (z ++ (openingByte ∷ []))
+      ∙ ap (λ (a : All). andThen board room a (z ++ (openingByte ∷ [])))
+      (byte-unheard r b (eqb-false b openingByte t))))
+      (all-opens z (emptied r) (rubbish-tail b z e)))
 
 -- ---- a call over a stretch is the same as the bytes that it takes, one after another
 

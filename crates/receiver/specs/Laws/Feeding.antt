@@ -60,7 +60,7 @@ Idle g = (g ≡ []) ⊎ (g ≡ startByte ∷ [])
 abbrev pub Unheard : Fed → ℕ → Type 0
 Unheard x n = (x .handed ≡ nothing n) × Idle (x .gathered)
 
-rubbish-tail : (x : ℕ) (s : List ℕ) → rubbish (x ∷ s) ≡ true → rubbish s ≡ true
+pub rubbish-tail : (x : ℕ) (s : List ℕ) → rubbish (x ∷ s) ≡ true → rubbish s ≡ true
 unfolding rubbish
 rubbish-tail x [] e = refl
 rubbish-tail x (y ∷ s) e =
