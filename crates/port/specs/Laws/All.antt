@@ -21,14 +21,14 @@ use Rattle.loader.specs.Take.{takeOf, answerBytes}
 use Rattle.loader.specs.declared.state.Condition.{Condition}
 use Rattle.loader.specs.declared.state.Condition.the-variants.{Waiting, Serving, Left}
 use Rattle.loader.specs.declared.state.Loader.{Loader}
-use Rattle.port.specs.Laws.Port.{turn-gathers, turn-passes, through-none, through-packet}
+use Rattle.port.specs.Laws.Port.{turn-gathers, turn-passes, through-packet}
 use Rattle.port.specs.Port.{serving, still, brings, through, asItComes, Turn, turnOf, All, allOf}
 use Rattle.port.specs.declared.port.Port.{Port}
 use Rattle.receiver.specs.Hearing.{hear, Fed, feed, rubbish}
 use Rattle.receiver.specs.Laws.Bytes.{ending}
 use Rattle.receiver.specs.Laws.Feeding.{nothing, feed-append, rubbish-tail, rubbish-idle, Idle}
 use Rattle.receiver.specs.Laws.Record.{byte-gathered, byte-packet}
-use Rattle.receiver.specs.Receiver.{emptied, gathered, packetIn, further, byteOf, bytesOf}
+use Rattle.receiver.specs.Receiver.{emptied, gathered, further, byteOf, bytesOf}
 use Rattle.receiver.specs.declared.receiver.Receiver.{Receiver}
 use Rattle.receiver.specs.declared.receiver.Stretch.{Stretch}
 
@@ -45,7 +45,8 @@ module _ (board room : ℕ) where
       let r = allOf board room (a .port) (a .flash) s in
       record { port = r .port; flash = r .flash; answers = a .answers ++ r .answers }
 
-  pub all-none : (p : Port) (f : List ℕ) → allOf board room p f [] ≡ record { port = p; flash = f; answers = [] }
+  pub all-none : (p : Port) (f : List ℕ)
+      → allOf board room p f [] ≡ record { port = p; flash = f; answers = [] }
   unfolding allOf
   all-none p f = refl
 
@@ -59,7 +60,8 @@ module _ (board room : ℕ) where
   unfolding allOf
   all-one p f b = rw (append-nil (turnOf board room p f (b ∷ []) .answer))
 
-  pub all-append : (p : Port) (f s t : List ℕ) → allOf board room p f (s ++ t) ≡ andThen (allOf board room p f s) t
+  pub all-append : (p : Port) (f s t : List ℕ)
+      → allOf board room p f (s ++ t) ≡ andThen (allOf board room p f s) t
   unfolding allOf
   all-append p f [] t = refl
   all-append p f (b ∷ s) t =
@@ -116,7 +118,8 @@ module _ (board room : ℕ) (l : Loader) (c : l .condition ≡ Serving) where
         ∙ rw (eq-eqb (byteOf r b .packet) 0 (ap length e))
 
     byte-brings : (hear (gathered r) b .packet ≡ [] → ⊥)
-        → turnOf board room (portWith r) f (b ∷ []) ≡ brings board room l next f 1 (hear (gathered r) b .packet)
+        → turnOf board room (portWith r) f (b ∷ [])
+        ≡ brings board room l next f 1 (hear (gathered r) b .packet)
     byte-brings n =
         let m : byteOf r b .packet ≡ 0 → ⊥ = λ e. n (length-none _ e) in
         turn-gathers board (portWith r) (b ∷ []) f room (ap serving c)
@@ -202,8 +205,8 @@ opening-fed z e =
 
 -- ---- the loader waits: what is not the opening byte is not heard
 
-module _ (board room : ℕ) (l : Loader) (c : l .condition ≡ Waiting) (f : List ℕ) (size : length f ≡ startOf board)
-    (fits : answerMost ≤ room) where
+module _ (board room : ℕ) (l : Loader) (c : l .condition ≡ Waiting) (f : List ℕ)
+    (size : length f ≡ startOf board) (fits : answerMost ≤ room) where
   byte-unheard : (r : Receiver) (b : ℕ) → (b ≡ openingByte → ⊥)
       → ofTurn (turnOf board room (record { loader = l; receiver = r }) f (b ∷ []))
       ≡ record { port = record { loader = l; receiver = emptied r }; flash = f; answers = [] }
@@ -236,7 +239,8 @@ module _ (board room : ℕ) (l : Loader) (c : l .condition ≡ Waiting) (f : Lis
         answers = answerBytes board l opening;
       }
   byte-opens r =
-      ap ofTurn (turn-passes board (record { loader = l; receiver = r }) (openingByte ∷ []) f room (ap serving c))
+      ap ofTurn
+      (turn-passes board (record { loader = l; receiver = r }) (openingByte ∷ []) f room (ap serving c))
       ∙ ap (λ (x : Answer Effect). record {
         port = record { loader = effectAfter l f x .loader; receiver = emptied r };
         flash = effectAfter l f x .flash;
@@ -250,7 +254,8 @@ module _ (board room : ℕ) (l : Loader) (c : l .condition ≡ Waiting) (f : Lis
   opens-once z r e =
       let s = z ++ (openingByte ∷ []) in
       let h = opening-fed z e in
-      let i = all-idle board room (withCondition l Serving) refl s (emptied r) f (ap (λ (x : Fed). x .handed) h) in
+      let i = all-idle board room (withCondition l Serving) refl s (emptied r) f
+      (ap (λ (x : Fed). x .handed) h) in
       subst (Brings board room l f (openingByte ∷ []) [])
       (sym (all-first board room (record { loader = l; receiver = r }) f openingByte s
       ∙ ap (λ (a : All). andThen board room a s) (byte-opens r)))
@@ -363,6 +368,7 @@ turn-takes board room p f s h =
     (λ t. rw (turn-passes board p s f room t) (go s h))
   where
     go : (s : List ℕ) → 0 < length s
-        → (let t = asItComes board room (p .loader) (p .receiver) f s in (0 < t .taken) × (t .taken ≤ length s))
+        → (let t = asItComes board room (p .loader) (p .receiver) f s in
+        (0 < t .taken) × (t .taken ≤ length s))
     go [] h = absurd (omega arith)
     go (b ∷ s) h = (omega arith, omega arith)

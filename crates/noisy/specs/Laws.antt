@@ -1,0 +1,3 @@
+pub mod Board
+pub mod Moments
+pub mod AsWithout

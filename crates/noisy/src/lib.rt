@@ -1,0 +1,1 @@
+// A whole load with rubbish between its packets.
