@@ -1,3 +1,4 @@
 pub mod Board
 pub mod Moments
 pub mod AsWithout
+pub mod Demand

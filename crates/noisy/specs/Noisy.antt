@@ -114,6 +114,11 @@ noisyRehearseOf board image m kind l losses z f =
 
 -- ---- what the laws speak by
 
+-- an answer without the receiver
+abbrev pub plainAnswer : Answer NoisyMoment → Answer Moment
+plainAnswer (refused n) = refused n
+plainAnswer (given x) = given (plainly x)
+
 -- no byte that opens the board
 abbrev pub NoOpening : List ℕ → Type 0
 NoOpening s = (k : ℕ) → getD s k 0 ≡ openingByte → ⊥

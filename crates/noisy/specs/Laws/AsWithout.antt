@@ -120,3 +120,10 @@ module _ (board : ℕ) (few : board ≤ 255) (image m before : List ℕ) (file :
   pub as-without : (n : ℕ) → plainly (noisyLoadAt board image m kind l losses z before n)
       ≡ loadAt board image m kind l losses before n
   as-without n = like n .plain-is
+
+  -- so is what stands between the board's part of an exchange and the session's, and what the session hears
+  pub alike-at : (n : ℕ) → ended (noisyLoadAt board image m kind l losses z before n .session .phase) ≡ false
+      → Alike board (losses n) (z n) (noisyLoadAt board image m kind l losses z before n)
+  alike-at n t =
+      let h = like n in
+      next-alike n h (sym (ap (λ (x : Moment). ended (x .session .phase)) (h .plain-is)) ∙ t)
