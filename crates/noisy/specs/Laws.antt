@@ -1,4 +1,6 @@
 pub mod Board
 pub mod Moments
+pub mod Ending
 pub mod AsWithout
 pub mod Demand
+pub mod Heard

@@ -1,9 +1,9 @@
 -- A load with rubbish between the packets: the loader stands behind a receiver that hunts for packets.
-use Prim.Native.Nat.{ℕ, zero, suc, _+_, _*_}
+use Prim.Native.Nat.{ℕ, zero, suc, _+_, _-_, _*_, _≤_}
 use mathlib.Core.Bool.{not}
 use mathlib.Core.List.{List, [], _∷_, _++_}
 use mathlib.Core.Path.{_≡_}
-use lib.Dec.{eqb}
+use lib.Dec.{eqb, ltb}
 use lib.ListN.{length, getD, take, drop}
 use Rattle.basis.specs.Board.{answerMost, openingByte}
 use Rattle.basis.specs.Choice.{pick, both}
@@ -14,6 +14,7 @@ use Rattle.line.specs.Line.{Moment, eventFrom}
 use Rattle.line.specs.declared.exchange.Loss.{Loss}
 use Rattle.loader.specs.State.{resetOf}
 use Rattle.loader.specs.declared.state.Loader.{Loader}
+use Rattle.noisy.specs.declared.exchange.Link.{Link}
 use Rattle.order.specs.Plan.{total}
 use Rattle.packet.specs.Packet.{packetMost}
 use Rattle.port.specs.Port.{All, allOf}
@@ -22,6 +23,7 @@ use Rattle.receiver.specs.Receiver.{fresh}
 use Rattle.runs.specs.Pieces.{namedCount}
 use Rattle.session.specs.Phases.{ended}
 use Rattle.session.specs.Session.{Sent, rightSizes, atGreeting, stepOf}
+use Rattle.session.specs.declared.session.Next.{Next}
 use Rattle.session.specs.declared.session.Session.{Session}
 
 -- what stands at a moment: loader and receiver, the flash, the session, and what it has sent last
@@ -122,3 +124,39 @@ plainAnswer (given x) = given (plainly x)
 -- no byte that opens the board
 abbrev pub NoOpening : List ℕ → Type 0
 NoOpening s = (k : ℕ) → getD s k 0 ≡ openingByte → ⊥
+
+-- ---- what the functions are lent, and what they show
+
+-- so many bytes tell every event: one more than the longest answer has
+abbrev pub heardMost : ℕ
+heardMost = answerMost + 1
+
+-- where the rubbish before an exchange ends that starts at a place: `each` bytes on, or at the list's end
+abbrev pub endOf : ℕ → ℕ → ℕ → ℕ
+endOf len at each = pick (ltb each (len - at)) (at + each) len
+
+-- port, session and packet buffer as a moment
+abbrev pub noisyOn : Link → List ℕ → List ℕ → NoisyMoment
+noisyOn e flash packet =
+    record { port = e .port; flash = flash; session = e .session; wire = take (e .len) packet }
+
+-- port and flash, and the answers joined behind what was joined before
+pub record Joins (a : All) (before : List ℕ) (port : Port) (heard : ℕ) (flash joined : List ℕ) : Type 0 where
+  pub port-is : port ≡ a .port
+  pub flash-is : flash ≡ a .flash
+  pub heard-fits : heard ≤ length joined
+  pub joined-is : take heard joined ≡ take heardMost (before ++ a .answers)
+
+-- what the board made, with those answers that the session hears
+abbrev pub hearing : Loss → All → All
+hearing o a = record { port = a .port; flash = a .flash; answers = heardOf o (a .answers) }
+
+-- the session after its step with the length of its packet; a refused step leaves both
+abbrev pub nextAfter : Session → ℕ → Answer Sent → Next
+nextAfter s n (refused k) = record { session = s; len = n }
+nextAfter s n (given x) = record { session = x .session; len = length (x .packet) }
+
+pub record NoisyExchanges (board : ℕ) (image m : List ℕ) (o : Loss) (z : List ℕ) (x : NoisyMoment) (r : Link)
+    (flash packet : List ℕ) : Type 0 where
+  pub moment-is : noisyOn r flash packet ≡ noisyExchangeOf board image m o z x
+  pub len-fits : r .len ≤ length packet

@@ -1,1 +1,3 @@
-// A whole load with rubbish between its packets.
+// A whole load with rubbish between its packets: one exchange, and a rehearsal.
+pub mod exchange;
+pub mod rehearse;

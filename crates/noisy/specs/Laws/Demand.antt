@@ -104,13 +104,6 @@ module _ (board : ℕ) (few : board ≤ 255) (image m before : List ℕ) (file :
         plain.never-held board few image m before file bytes kind l size losses i (open-too i goes-on)
         unanswered n (sym (ap (λ (x : Moment). x .session .phase) (same n)) ∙ v)
 
-  -- it ends by itself, after at most the total and one exchange more
-  pub noisy-finite :
-      ended (noisyLoadAt board image m kind l losses z before (total board m kind + 1) .session .phase) ≡ true
-  noisy-finite =
-      ap (λ (x : Moment). ended (x .session .phase)) (same (total board m kind + 1))
-      ∙ plain.finite board few image m before file bytes kind l size losses
-
 -- a rehearsal, refused or not, is the plain one
 module _ (board : ℕ) (few : board ≤ 255) (image m : List ℕ) (bytes : Bytes image) (kind : RunKind)
     (l : Loader) (losses : ℕ → Loss) (z : ℕ → List ℕ) (only : (i : ℕ) → rubbish (z i) ≡ true)

@@ -1,0 +1,89 @@
+-- `deliver` meets its contract: the rubbish goes in, then the packet unless it is lost.
+use mathlib.Core.Path.{_∙_}
+use native.Mathlib.Omega.{arith}
+use borrow.Author.Needs.{needs}
+use Rattle.basis.specs.Board.{pagesOf}
+use Rattle.noisy.proofs.Joining.{joins-both, whole, lost, unanswered}
+use Rattle.noisy.proofs.exchange.deliver.Statement.{statement}
+use Rattle.noisy.proofs.exchange.deliver.Tie as tie
+
+-- the entry, as the first feeding looks back to it
+abbrev entry : tie.After-feed → tie.Start
+entry c = c .before .before .before .before .before .before .before .before .before
+
+feed-requires : tie.Need-feed-requires
+feed-requires c κs =
+    let s = c .before .before .before .before .before .before .before .before in
+    (s .pre .0, s .pre .1, s .pre .2, omega arith)
+
+feed-requires-2 : tie.Need-feed-requires-2
+feed-requires-2 c κs =
+    let r = c .before .before .before .before .before .before .before .before .before .before .before .before in
+    let s = entry r in
+    let k = r .feed .kept .1 .1 .1 .1 in (
+      k .0 ∙ s .pre .0,
+      k .1 .0 ∙ s .pre .1,
+      k .1 .1 .0 ∙ s .pre .2,
+      omega (arith, r .feed .ensures .heard-fits, k .1 .1 .0, s .pre .2),
+    )
+
+feed-requires-3 : tie.Need-feed-requires-3
+feed-requires-3 c κs =
+    let r = c .before .before .before .before .before .before .before .before .before .before .before .before in
+    let s = entry r in
+    let k = r .feed .kept .1 .1 .1 .1 in (
+      k .0 ∙ s .pre .0,
+      k .1 .0 ∙ s .pre .1,
+      k .1 .1 .0 ∙ s .pre .2,
+      omega (arith, r .feed .ensures .heard-fits, k .1 .1 .0, s .pre .2),
+    )
+
+returns : tie.Need-returns
+returns c =
+    let d = c .before .before .before .before .before .before in
+    let r = d .before .before .before .before .before .before .before .before .before .before .before .before .before in
+    let a = entry r .args in
+    whole (pagesOf (a .board)) (a .port) (a .flash .now) (a .rubbish .now) (a .packet .now)
+    (d .before .before .before .before .enum-told .given .1)
+    (joins-both (pagesOf (a .board)) (a .port) (a .flash .now) (a .rubbish .now) (a .packet .now)
+    (r .feed .ensures) (d .feed2 .ensures))
+
+returns-2 : tie.Need-returns-2
+returns-2 c =
+    let r = c .before .before .before .before .before .before .before .before .before in
+    let a = entry r .args in
+    lost (pagesOf (a .board)) (a .port) (a .flash .now) (a .rubbish .now) (a .packet .now)
+    (c .enum-told2 .given .1) (r .feed .ensures)
+
+returns-3 : tie.Need-returns-3
+returns-3 c =
+    let d = c .before .before .before .before .before .before .before in
+    let r = d .before .before .before .before .before .before .before .before .before .before .before .before .before in
+    let a = entry r .args in
+    unanswered (pagesOf (a .board)) (a .port) (a .flash .now) (a .rubbish .now) (a .packet .now)
+    (d .before .before .before .before .enum-told3 .given .1)
+    (joins-both (pagesOf (a .board)) (a .port) (a .flash .now) (a .rubbish .now) (a .packet .now)
+    (r .feed .ensures) (d .feed3 .ensures))
+
+pub deliver-spec : {M : Type 1} → statement M
+deliver-spec =
+    tie.close
+    (tie.spec
+    feed-requires
+    (λ c. search needs)
+    feed-requires-2
+    (λ c. search needs)
+    (λ c. search needs)
+    feed-requires-3
+    (λ c. search needs)
+    (λ c. search needs)
+    (λ c. search needs)
+    returns
+    (λ c. search needs)
+    (λ c. search needs)
+    (λ c. search needs)
+    returns-2
+    (λ c. search needs)
+    (λ c. search needs)
+    (λ c. search needs)
+    returns-3)
