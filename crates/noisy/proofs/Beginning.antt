@@ -102,7 +102,8 @@ module _ (board : ℕ) (image m : List ℕ) (kind : RunKind) (l : Loader) (losse
         go (given s) t e = absurd (apart e)
 
     pub driven : {room : ℕ} {y : Next} → room ≡ packetMost → Starts board image m room kind y
-        → (port : Port) (session : Session) (flash : List ℕ) (x : NoisyMoment) → x ≡ begunNoisy board m kind l f
+        → (port : Port) (session : Session) (flash : List ℕ) (x : NoisyMoment)
+        → x ≡ begunNoisy board m kind l f
         → (let w = noisyAt board image m losses z x (total board m (x .session .kind) + 1) in
         (port ≡ w .port) × (session ≡ w .session) × (flash ≡ w .flash))
         → Rehearses (plainAnswer whole) f (given (record { loader = port .loader; session = session })) flash

@@ -1,7 +1,7 @@
 -- What the board's part and the session's make together is an exchange.
 use Prim.Native.Nat.{ℕ, _≤_}
 use mathlib.Core.List.{List, []}
-use mathlib.Core.Path.{_≡_, refl, sym, ap, _∙_}
+use mathlib.Core.Path.{_≡_, ap, _∙_}
 use native.Mathlib.Omega.{arith}
 use lib.ListN.{length, take, length-append}
 use lib.Seq.{take-append-seam}
@@ -11,7 +11,7 @@ use Rattle.basis.specs.Refusals.{Answer, refused, given}
 use Rattle.line.specs.Line.{eventFrom}
 use Rattle.line.specs.declared.exchange.Loss.{Loss}
 use Rattle.noisy.specs.Laws.Heard.{heard-told}
-use Rattle.noisy.specs.Noisy.{NoisyMoment, reaching, boardMakes, heardOf, noisyBetween, noisyStepped, noisyStepsOn, noisyExchangeOf, heardMost, noisyOn, Joins, hearing, nextAfter, NoisyExchanges}
+use Rattle.noisy.specs.Noisy.{NoisyMoment, reaching, boardMakes, heardOf, noisyBetween, noisyStepped, noisyStepsOn, noisyExchangeOf, noisyOn, Joins, hearing, nextAfter, NoisyExchanges}
 use Rattle.noisy.specs.declared.exchange.Link.{Link}
 use Rattle.packet.specs.Packet.{packetMost}
 use Rattle.port.specs.Port.{allOf}
@@ -22,8 +22,9 @@ use Rattle.session.specs.declared.session.Next.{Next}
 module _ (board : ℕ) (image m : List ℕ) (o : Loss) (z : List ℕ) (link : Link) (before old : List ℕ)
     (fits : link .len ≤ length old) (full : length old ≡ packetMost) (port : Port) (heard : ℕ)
     (flash joined packet : List ℕ) (next : Next)
-    (d : Joins (hearing o (allOf board answerMost (link .port) before (reaching o z (take (link .len) old)))) []
-    port heard flash joined) where
+    (d : Joins
+    (hearing o (allOf board answerMost (link .port) before (reaching o z (take (link .len) old))))
+    [] port heard flash joined) where
   abbrev here : NoisyMoment
   here = noisyOn link before old
 
@@ -33,7 +34,8 @@ module _ (board : ℕ) (image m : List ℕ) (o : Loss) (z : List ℕ) (link : Li
   says-is : says ≡ noisyStepped board image m o z here
   says-is =
       ap (λ (n : ℕ). stepOf board image m n (link .session) (eventFrom board (take heard joined))) full
-      ∙ ap (λ (b : List ℕ). stepOf board image m packetMost (link .session) (eventFrom board b)) (d .joined-is)
+      ∙ ap (λ (b : List ℕ). stepOf board image m packetMost (link .session) (eventFrom board b))
+      (d .joined-is)
       ∙ ap (stepOf board image m packetMost (link .session))
       (heard-told board (heardOf o (boardMakes board o z here .answers)))
 

@@ -1,7 +1,7 @@
 -- Answers joined one behind the other, and the bytes that are still to go in.
 use Prim.Native.Nat.{ℕ, _+_, _-_, _≤_, _<_}
-use mathlib.Core.List.{List, [], _∷_, _++_, append-assoc, append-nil}
-use mathlib.Core.Path.{_≡_, refl, sym, ap, subst, _∙_}
+use mathlib.Core.List.{List, [], _++_, append-assoc, append-nil}
+use mathlib.Core.Path.{_≡_, refl, sym, ap, _∙_}
 use native.Mathlib.Omega.{arith}
 use borrow.Author.Tests.{leb-true, leb-false}
 use lib.Dec.{leb}
@@ -40,7 +40,8 @@ module _ (buffer answer : List ℕ) (heard : ℕ) (fits : heard ≤ length buffe
       let n : length kept + (length buffer - heard) ≡ length buffer = omega arith in
       ap (λ (b : List ℕ). take (heard + length more) (copyOf b heard more)) (sym e)
       ∙ ap (take (heard + length more)) (copy-overlay kept buffer more heard l more-fits)
-      ∙ take-at (kept ++ more) _ (heard + length more) (length-append kept more ∙ ap (λ (k : ℕ). k + length more) l)
+      ∙ take-at (kept ++ more) _ (heard + length more)
+      (length-append kept more ∙ ap (λ (k : ℕ). k + length more) l)
       ∙ sym (ap (λ (k : ℕ). take k (kept ++ answer)) (sym n)
       ∙ take-append-add kept answer (length buffer - heard))
 
@@ -122,7 +123,8 @@ module _ {board : ℕ} {a : All} {bytes joined₀ : List ℕ} {p : Port} {f : Li
 -- by the answer that came, and the buffer's size
 pub room-full : (h : List ℕ) {b t w : List ℕ} (n : ℕ) → b ≡ t → n ≡ heardMost → w ≡ take n (h ++ b)
     → w ≡ take heardMost (h ++ t)
-room-full h {b} n e f q = q ∙ ap (λ (k : ℕ). take k (h ++ b)) f ∙ ap (λ (x : List ℕ). take heardMost (h ++ x)) e
+room-full h {b} n e f q =
+    q ∙ ap (λ (k : ℕ). take k (h ++ b)) f ∙ ap (λ (x : List ℕ). take heardMost (h ++ x)) e
 
 -- ---- one call of the port, which has its sizes
 
@@ -148,7 +150,8 @@ rest-taken board p bytes i f k e h =
     let t = turn-takes board answerMost p f (drop i bytes) (omega (arith, length-drop i bytes)) in
     (omega (arith, t .0), omega (arith, t .1, length-drop i bytes))
 
-module _ {t : Turn} {old : List ℕ} {r : Served} {flash answer : List ℕ} (h : Serves t old r flash answer) where
+module _ {t : Turn} {old : List ℕ} {r : Served} {flash answer : List ℕ}
+    (h : Serves t old r flash answer) where
   pub answered-fits : r .answered ≤ length answer
   answered-fits = rw (h .answered-is, h .answer-is) (simp length-append (omega arith))
 

@@ -11,6 +11,10 @@ use Rattle.noisy.proofs.exchange.deliver.Tie as tie
 abbrev entry : tie.After-feed → tie.Start
 entry c = c .before .before .before .before .before .before .before .before .before
 
+-- the first feeding, as what comes behind it looks back to it
+abbrev fed : tie.After-behind → tie.After-feed
+fed c = c .before .before .before .before .before .before .before
+
 feed-requires : tie.Need-feed-requires
 feed-requires c κs =
     let s = c .before .before .before .before .before .before .before .before in
@@ -18,39 +22,40 @@ feed-requires c κs =
 
 feed-requires-2 : tie.Need-feed-requires-2
 feed-requires-2 c κs =
-    let r = c .before .before .before .before .before .before .before .before .before .before .before .before in
-    let s = entry r in
+    let r = fed (c .before .before .before .before .before) in
+    let p = entry r .pre in
     let k = r .feed .kept .1 .1 .1 .1 in (
-      k .0 ∙ s .pre .0,
-      k .1 .0 ∙ s .pre .1,
-      k .1 .1 .0 ∙ s .pre .2,
-      omega (arith, r .feed .ensures .heard-fits, k .1 .1 .0, s .pre .2),
+      k .0 ∙ p .0,
+      k .1 .0 ∙ p .1,
+      k .1 .1 .0 ∙ p .2,
+      omega (arith, r .feed .ensures .heard-fits, k .1 .1 .0, p .2),
     )
 
 feed-requires-3 : tie.Need-feed-requires-3
 feed-requires-3 c κs =
-    let r = c .before .before .before .before .before .before .before .before .before .before .before .before in
-    let s = entry r in
+    let r = fed (c .before .before .before .before .before) in
+    let p = entry r .pre in
     let k = r .feed .kept .1 .1 .1 .1 in (
-      k .0 ∙ s .pre .0,
-      k .1 .0 ∙ s .pre .1,
-      k .1 .1 .0 ∙ s .pre .2,
-      omega (arith, r .feed .ensures .heard-fits, k .1 .1 .0, s .pre .2),
+      k .0 ∙ p .0,
+      k .1 .0 ∙ p .1,
+      k .1 .1 .0 ∙ p .2,
+      omega (arith, r .feed .ensures .heard-fits, k .1 .1 .0, p .2),
     )
 
 returns : tie.Need-returns
 returns c =
     let d = c .before .before .before .before .before .before in
-    let r = d .before .before .before .before .before .before .before .before .before .before .before .before .before in
+    let e = d .before .before .before .before in
+    let r = fed (e .before .before) in
     let a = entry r .args in
     whole (pagesOf (a .board)) (a .port) (a .flash .now) (a .rubbish .now) (a .packet .now)
-    (d .before .before .before .before .enum-told .given .1)
+    (e .enum-told .given .1)
     (joins-both (pagesOf (a .board)) (a .port) (a .flash .now) (a .rubbish .now) (a .packet .now)
     (r .feed .ensures) (d .feed2 .ensures))
 
 returns-2 : tie.Need-returns-2
 returns-2 c =
-    let r = c .before .before .before .before .before .before .before .before .before in
+    let r = fed (c .before .before) in
     let a = entry r .args in
     lost (pagesOf (a .board)) (a .port) (a .flash .now) (a .rubbish .now) (a .packet .now)
     (c .enum-told2 .given .1) (r .feed .ensures)
@@ -58,10 +63,11 @@ returns-2 c =
 returns-3 : tie.Need-returns-3
 returns-3 c =
     let d = c .before .before .before .before .before .before .before in
-    let r = d .before .before .before .before .before .before .before .before .before .before .before .before .before in
+    let e = d .before .before .before .before in
+    let r = fed (e .before .before) in
     let a = entry r .args in
     unanswered (pagesOf (a .board)) (a .port) (a .flash .now) (a .rubbish .now) (a .packet .now)
-    (d .before .before .before .before .enum-told3 .given .1)
+    (e .enum-told3 .given .1)
     (joins-both (pagesOf (a .board)) (a .port) (a .flash .now) (a .rubbish .now) (a .packet .now)
     (r .feed .ensures) (d .feed3 .ensures))
 

@@ -18,7 +18,8 @@ entry c = c .before .before .before .before .before .before .before .before .bef
 
 drive-requires : tie.Need-drive-requires
 drive-requires c κs =
-    let n = c .before .before .before .before .before .before .before .before in
+    let w = c .before .before .before .before in
+    let n = w .before .before .before .before in
     let t = n .before .before .before .before in
     let s = entry t in
     let a = s .args in
@@ -34,8 +35,8 @@ drive-requires c κs =
       s .pre .3,
       b .file .some,
       omega (arith, ap (λ (x : Next). x .len) (b .next-is)),
-      begun-again b (a .loader) _ (c .before .before .before .before .before .reset .ensures) _ (c .before .before .before .before .new .ensures)
-          (a .flash .now) _ _ (t .start .ensures .1),
+      begun-again b (a .loader) _ (w .before .reset .ensures) _ (w .new .ensures) (a .flash .now) _ _
+          (t .start .ensures .1),
     )
 
 returns : tie.Need-returns

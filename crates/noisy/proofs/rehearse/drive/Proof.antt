@@ -20,8 +20,8 @@ use Rattle.noisy.proofs.rehearse.drive.Statement.{statement}
 use Rattle.noisy.proofs.rehearse.drive.Tie as tie
 
 abbrev Inv-loop : tie.InvT-loop
-Inv-loop board losses rubbish each image map flash₀ packet₀ answer₀ joined₀ link₀ i₀ at₀ flash packet answer joined link
-    i at =
+Inv-loop board losses rubbish each image map flash₀ packet₀ answer₀ joined₀ link₀ i₀ at₀
+    flash packet answer joined link i at =
     (Lent (pagesOf board) image map flash packet answer) × (length joined ≡ heardMost)
     × (link .len ≤ packetMost) × (i ≤ total (pagesOf board) map (link₀ .session .kind) + 1)
     × (noisyOn link flash packet ≡ noisyAt (pagesOf board) image map (lossAt losses) (rubbishAt rubbish each)
@@ -29,8 +29,9 @@ Inv-loop board losses rubbish each image map flash₀ packet₀ answer₀ joined
     × (at ≤ length rubbish) × (drop at rubbish ≡ drop (i * each) rubbish)
 
 abbrev μ-loop : tie.MeasureT-loop
-μ-loop board losses rubbish each image map flash₀ packet₀ answer₀ joined₀ link₀ i₀ at₀ flash packet answer joined link
-    i at = total (pagesOf board) map (link₀ .session .kind) + 2 - i
+μ-loop board losses rubbish each image map flash₀ packet₀ answer₀ joined₀ link₀ i₀ at₀
+    flash packet answer joined link i at =
+    total (pagesOf board) map (link₀ .session .kind) + 2 - i
 
 -- the entry, as the loop looks back to it
 abbrev entry : tie.At-loop Inv-loop μ-loop → tie.Start Inv-loop μ-loop
@@ -70,7 +71,8 @@ ends-in : (c : tie.After-end-of Inv-loop μ-loop)
     (l .loop .at ≤ c .end-of .result) × (c .end-of .result ≤ length (entry l .args .rubbish .now)))
 ends-in c =
     let l = c .before .before .before .before in
-    end-in (entry l .args .rubbish .now) (l .loop .at) (entry l .args .each) (l .loop .inv .5) _ (c .end-of .ensures)
+    let a = entry l .args in
+    end-in (a .rubbish .now) (l .loop .at) (a .each) (l .loop .inv .5) _ (c .end-of .ensures)
 
 sub-exchange : tie.Need-sub-exchange Inv-loop μ-loop
 sub-exchange c = let e = ends-in c in omega (arith, e .0, e .1)
@@ -133,7 +135,8 @@ loop-again c =
           ∙ again (pagesOf (a .board)) (a .image .now) (a .map .now) (lossAt (a .losses .now))
           (rubbishAt (a .rubbish .now) (a .each)) _ (l .i) _ _ _ (l .inv .4) (open-yet t)
           (d .before .at .ensures)
-          (end-bytes (a .rubbish .now) (l .at) (a .each) (l .inv .5) _ (d .end-of .ensures) (l .i) (l .inv .6)),
+          (end-bytes (a .rubbish .now) (l .at) (a .each) (l .inv .5) _ (d .end-of .ensures) (l .i)
+          (l .inv .6)),
       ends-in d .1,
       end-rest (a .rubbish .now) (l .at) (a .each) (l .inv .5) _ (d .end-of .ensures) (l .i) (l .inv .6),
     )
