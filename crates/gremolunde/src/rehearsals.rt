@@ -1,4 +1,4 @@
-// A rehearsal for C: a whole load over a line that loses what it is told to.
+// Rehearsals for C: a whole load over a line that loses what it is told to, and one that picks up rubbish too.
 ghost use mathlib.Core.Path.{_≡_};
 ghost use Rattle.basis.specs.Board.{pagesOf, boardOf};
 ghost use Rattle.basis.specs.Refusals.{onBoard};
@@ -8,6 +8,7 @@ ghost use Rattle.gremolunde.specs.Answers.{rehearsedAnswer};
 ghost use Rattle.gremolunde.specs.States.{loaderMeant};
 ghost use Rattle.line.specs.Line.{lossAt, rehearseOf, loaded, leftFlash};
 ghost use Rattle.line.specs.Paper.{paperRehearsed};
+ghost use Rattle.noisy.specs.Noisy.{rubbishAt, noisyRehearseOf, plainAnswer};
 use crate::sessions::no_session;
 use crate::states::LoaderState;
 use crate::states::SessionState;
@@ -51,6 +52,47 @@ pub extern "C" fn gremolunde_rehearse(
     match Board::of(board) {
         Known::Board(known) => {
             let load = rehearse(known, kind, meant, losses, image, map, flash);
+            rehearsed_answer(loader, load)
+        }
+        Known::Unknown => rehearsed_answer(loader, Rehearsed::Refused(Refusal::Board)),
+    }
+}
+
+#[no_mangle]
+pub extern "C" fn gremolunde_rehearse_noisy(
+    board: u32,
+    run: u32,
+    loader: LoaderState,
+    losses: &[u8],
+    rubbish: &[u8],
+    each: usize,
+    image: &[u8],
+    map: &[u8],
+    flash: &mut [u8],
+) -> Rehearsal
+    ensures { λ r. ⌜
+        (let a = onBoard (boardOf board) (λ (b : Board).
+        plainAnswer (noisyRehearseOf (pagesOf b) (now (image .entry)) (now (map .entry)) (kindOf run)
+        (loaderMeant loader) (lossAt (now (losses .entry))) (rubbishAt (now (rubbish .entry)) each)
+        (now (flash .entry)))) in
+        (r ≡ rehearsedAnswer loader (loaded a)) × (now (flash .exit) ≡ leftFlash (now (flash .entry)) a))
+        ⌝ }
+{
+    let kind = RunKind::of(run);
+    let meant = loader_meant(loader);
+    match Board::of(board) {
+        Known::Board(known) => {
+            let load = noisy::rehearse::rehearse(
+                known,
+                kind,
+                meant,
+                losses,
+                rubbish,
+                each,
+                image,
+                map,
+                flash,
+            );
             rehearsed_answer(loader, load)
         }
         Known::Unknown => rehearsed_answer(loader, Rehearsed::Refused(Refusal::Board)),

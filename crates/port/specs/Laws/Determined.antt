@@ -15,8 +15,7 @@ serve-determined r s f g a b p q =
     let v = determined paperVerdict verdict-one (r .verdict) (s .verdict) (p .verdict-is) (q .verdict-is) in
     let o = p .port-is ∙ sym (q .port-is) in
     let n = p .taken-is ∙ sym (q .taken-is) in
-    let k = p .answered-is ∙ sym (q .answered-is) in
-    (
+    let k = p .answered-is ∙ sym (q .answered-is) in (
       λ i. record { port = o i; verdict = v i; taken = n i; answered = k i },
       p .flash-is ∙ sym (q .flash-is),
       p .answer-is ∙ sym (q .answer-is),

@@ -1,30 +1,14 @@
--- `gremolunde_rehearse` meets its contract: it is the rehearsal of the loader that the state stands for, on
--- the
--- board, its answer as C gets it.
-use Prim.Native.Nat.{ℕ}
-use mathlib.Core.List.{List}
-use mathlib.Core.Path.{_≡_, refl, ap, sym, _∙_}
+-- `gremolunde_rehearse` meets its contract: it is the rehearsal of the loader that the state stands for, on the board,
+-- its answer as C gets it.
+use mathlib.Core.Path.{_≡_, refl, sym, _∙_}
 use borrow.Author.Needs.{needs}
-use Rattle.basis.specs.Refusals.{Answer}
+use Rattle.basis.specs.Board.{pagesOf}
 use Rattle.basis.specs.declared.kind.RunKind.{RunKind}
-use Rattle.line.specs.Line.{rehearseOf, loaded, leftFlash, Rehearses}
-use Rattle.line.specs.declared.exchange.Loss.{Loss}
-use Rattle.line.specs.declared.rehearse.Load.{Load}
+use Rattle.line.specs.Line.{lossAt, rehearseOf}
 use Rattle.loader.specs.declared.state.Loader.{Loader}
-use Rattle.gremolunde.specs.Answers.{rehearsedAnswer}
-use Rattle.gremolunde.specs.declared.rehearsals.Rehearsal.{Rehearsal}
-use Rattle.gremolunde.specs.declared.states.LoaderState.{LoaderState}
+use Rattle.gremolunde.proofs.Rehearsing.{told-of}
 use Rattle.gremolunde.proofs.rehearsals.gremolunde_rehearse.Statement.{statement}
 use Rattle.gremolunde.proofs.rehearsals.gremolunde_rehearse.Tie as tie
-
--- what a rehearsal with the kind k and the loader l shows, where they are what the arguments stand for
-told-of : (board : ℕ) (s : LoaderState) (k n : RunKind) (l m : Loader) → k ≡ n → l ≡ m
-    → (image map flash : List ℕ) (losses : ℕ → Loss) {a : Answer Load} {f : List ℕ} (r : Rehearsal)
-    → r ≡ rehearsedAnswer s a → Rehearses (rehearseOf board image map k l losses flash) flash a f
-    → let x = rehearseOf board image map n m losses flash in (r ≡ rehearsedAnswer s (loaded x))
-    × (f ≡ leftFlash flash x)
-told-of board s k n l m d e image map flash losses r p t =
-    rw (sym d) (rw (sym e) (p ∙ ap (rehearsedAnswer s) (t .result-is), t .flash-is))
 
 returns : tie.Need-returns
 returns c =
@@ -32,8 +16,12 @@ returns c =
     let told = call .before .before .before in
     let asked = told .before .before in
     let meant = asked .before in
+    let a = meant .before .before .before .before .before .before .args in
+    let b = told .known .given .0 .0 in
     rw (sym (asked .of2 .ensures) ∙ told .known .given .1)
-    (told-of _ _ _ _ _ _ (meant .before .of .ensures) (meant .loader-meant .ensures) _ _ _ _ _
+    (told-of (λ (k : RunKind) (l : Loader).
+    rehearseOf (pagesOf b) (a .image .now) (a .map .now) k l (lossAt (a .losses .now)) (a .flash .now))
+    (a .loader) _ _ _ _ (meant .before .of .ensures) (meant .loader-meant .ensures) (a .flash .now) _
     (c .rehearsed-answer .ensures) (call .rehearse .ensures))
 
 returns-2 : tie.Need-returns-2

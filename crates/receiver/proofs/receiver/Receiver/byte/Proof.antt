@@ -21,17 +21,19 @@ returns c =
 
 returns-2 : tie.Need-returns-2
 returns-2 c =
-    let a = c .before .before .before .before .before .args in
-    (c .quiet2 .ensures .0 ∙ ap keeping (c .before .hunt2 .ensures)
-    ∙ sym (at-other (a .t1) (a .b) (search needs) (c .before .before .before .if2 .taken) (c .before .before .if3 .taken)),
-    c .quiet2 .ensures .1)
+    let a = c .before .before .before .before .before .args in (
+      c .quiet2 .ensures .0 ∙ ap keeping (c .before .hunt2 .ensures)
+          ∙ sym (at-other (a .t1) (a .b) (search needs) (c .before .before .before .if2 .taken) (c .before .before .if3 .taken)),
+      c .quiet2 .ensures .1,
+    )
 
 returns-3 : tie.Need-returns-3
 returns-3 c =
-    let a = c .before .before .before .before .before .args in
-    (c .quiet3 .ensures .0 ∙ ap keeping (c .before .gather .ensures .0)
-    ∙ sym (at-next (a .t1) (a .b) (search needs) (c .before .before .before .if2 .taken) (c .before .before .if3 .left)),
-    c .quiet3 .ensures .1)
+    let a = c .before .before .before .before .before .args in (
+      c .quiet3 .ensures .0 ∙ ap keeping (c .before .gather .ensures .0)
+          ∙ sym (at-next (a .t1) (a .b) (search needs) (c .before .before .before .if2 .taken) (c .before .before .if3 .left)),
+      c .quiet3 .ensures .1,
+    )
 
 returns-4 : tie.Need-returns-4
 returns-4 c =
