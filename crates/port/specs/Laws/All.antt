@@ -25,9 +25,9 @@ use Rattle.port.specs.Laws.Port.{turn-gathers, turn-passes, through-pack
 use Rattle.port.specs.Port.{serving, still, brings, through, asItComes, Turn, turnOf, All, allOf}
 use Rattle.port.specs.declared.port.Port.{Port}
 use Rattle.receiver.specs.Hearing.{hear, Fed, feed, rubbish}
-use Rattle.receiver.specs.Laws.Bytes.{ending}
+use Rattle.receiver.specs.Laws.Bytes.{ending, first-on, first-found}
 use Rattle.receiver.specs.Laws.Feeding.{nothing, feed-append, rubbish-tail, rubbish-idle, Idle}
-use Rattle.receiver.specs.Laws.Record.{byte-gathered, byte-packet}
+use Rattle.receiver.specs.Laws.Record.{no-bytes, byte-gathered, byte-packet}
 use Rattle.receiver.specs.Receiver.{emptied, gathered, further, byteOf, bytesOf}
 use Rattle.receiver.specs.declared.receiver.Receiver.{Receiver}
 use Rattle.receiver.specs.declared.receiver.Stretch.{Stretch}
@@ -68,18 +68,6 @@ module _ (board room : ℕ) where
       let x = turnOf board room p f (b ∷ []) in
       rw (all-append (x .port) (x .flash) s t, append-assoc)
 
--- ---- the first byte of a stretch
-
-module _ (r : Receiver) (b : ℕ) (s : List ℕ) where
-  one-on : byteOf r b .packet ≡ 0 → bytesOf r (b ∷ s) ≡ further 1 (bytesOf (byteOf r b .receiver) s)
-  unfolding bytesOf
-  one-on e = rw (eq-eqb (byteOf r b .packet) 0 e)
-
-  one-found : (byteOf r b .packet ≡ 0 → ⊥)
-      → bytesOf r (b ∷ s) ≡ ending (byteOf r b .receiver) (byteOf r b .packet) 1
-  unfolding bytesOf
-  one-found e = rw (ne-eqb (byteOf r b .packet) 0 e)
-
 -- ---- the loader serves: what it gets is what the receiver hands on
 
 -- the loader gets nothing: it and flash are as they were, and nothing is answered
@@ -95,11 +83,6 @@ pub record Brings (board room : ℕ) (l : Loader) (f w g : List ℕ) (a : All) :
   pub flash-is : a .flash ≡ effectAfter l f (takeOf board l w f room) .flash
   pub answers-is : a .answers ≡ answerBytes board l (takeOf board l w f room)
   pub gathered-is : gathered (a .port .receiver) ≡ g
-
--- a list has bytes where its length is not 0
-length-none : (s : List ℕ) → length s ≡ 0 → s ≡ []
-length-none [] e = refl
-length-none (x ∷ s) e = absurd (omega arith)
 
 module _ (board room : ℕ) (l : Loader) (c : l .condition ≡ Serving) where
   abbrev portWith : Receiver → Port
@@ -121,9 +104,9 @@ module _ (board room : ℕ) (l : Loader) (c : l .condition ≡ Serving) where
         → turnOf board room (portWith r) f (b ∷ [])
         ≡ brings board room l next f 1 (hear (gathered r) b .packet)
     byte-brings n =
-        let m : byteOf r b .packet ≡ 0 → ⊥ = λ e. n (length-none _ e) in
+        let m : byteOf r b .packet ≡ 0 → ⊥ = λ e. n (no-bytes _ e) in
         turn-gathers board (portWith r) (b ∷ []) f room (ap serving c)
-        ∙ ap (through board room l f) (one-found r b [] m)
+        ∙ ap (through board room l f) (first-found r b [] m)
         ∙ through-packet board room l f (ending next (byteOf r b .packet) 1) m
         ∙ ap (brings board room l next f 1) (byte-packet r b)
 
@@ -308,19 +291,19 @@ module _ (board room : ℕ) where
       (λ t. let e = eqb-true (byteOf r b .packet) 0 t in
       let k = bytesOf (byteOf r b .receiver) s .taken in
       ap (λ (x : Stretch). allOf board room (record { loader = l; receiver = r }) f (take (x .taken) (b ∷ s)))
-      (one-on r b s e)
+      (first-on r b s e)
       ∙ ap (allOf board room (record { loader = l; receiver = r }) f) (take-more k b s)
-      ∙ byte-on board room l c r f b (take k s) (length-none _ e)
+      ∙ byte-on board room l c r f b (take k s) (no-bytes _ e)
       ∙ gathers-all l c f s (byteOf r b .receiver)
-      ∙ sym (ap (λ (x : Stretch). ofTurn (through board room l f x)) (one-on r b s e)
+      ∙ sym (ap (λ (x : Stretch). ofTurn (through board room l f x)) (first-on r b s e)
       ∙ further-same board room l f 1 (bytesOf (byteOf r b .receiver) s)))
       (λ t. let n = eqb-false (byteOf r b .packet) 0 t in
       ap (λ (x : Stretch). allOf board room (record { loader = l; receiver = r }) f (take (x .taken) (b ∷ s)))
-      (one-found r b s n)
+      (first-found r b s n)
       ∙ all-one board room (record { loader = l; receiver = r }) f b
       ∙ ap ofTurn (turn-gathers board (record { loader = l; receiver = r }) (b ∷ []) f room (ap serving c))
-      ∙ ap (λ (x : Stretch). ofTurn (through board room l f x)) (one-found r b [] n)
-      ∙ sym (ap (λ (x : Stretch). ofTurn (through board room l f x)) (one-found r b s n)))
+      ∙ ap (λ (x : Stretch). ofTurn (through board room l f x)) (first-found r b [] n)
+      ∙ sym (ap (λ (x : Stretch). ofTurn (through board room l f x)) (first-found r b s n)))
 
   passes-all : (p : Port) (f s : List ℕ) → serving (p .loader .condition) ≡ false
       → (let t = asItComes board room (p .loader) (p .receiver) f s in

@@ -5,7 +5,6 @@ use Prim.Native.Nat.{ℕ}
 use Rattle.basis.specs.Laws.Refusals.{determined}
 use Rattle.loader.specs.Laws.Determined.{verdict-one}
 use Rattle.loader.specs.Paper.{paperVerdict}
-use Rattle.loader.specs.declared.verdict.Verdict.{Verdict}
 use Rattle.port.specs.Port.{Turn, Serves}
 use Rattle.port.specs.declared.port.Served.{Served}
 

@@ -1,6 +1,6 @@
 -- What a receiver hands on is refused with 3 at least: the loader never says 1 or 2 to it.
-use Prim.Native.Nat.{ℕ, _+_, _≤_, _<_}
-use mathlib.Core.Bool.{true, not}
+use Prim.Native.Nat.{ℕ}
+use mathlib.Core.Bool.{not}
 use mathlib.Core.List.{List, [], _∷_}
 use mathlib.Core.Logic.{_⊎_, inl, inr}
 use mathlib.Core.Path.{_≡_, sym, ap, subst, _∙_}
@@ -8,11 +8,11 @@ use native.Mathlib.Omega.{arith}
 use borrow.Author.Tests.{lt-ltb, le-ltb, lt-leb, eq-eqb}
 use lib.ListN.{length}
 use Rattle.basis.specs.Laws.Refusals.{skip, stop}
-use Rattle.basis.specs.Refusals.{Answer, refused, given}
+use Rattle.basis.specs.Refusals.{refused}
 use Rattle.loader.specs.Laws.Numbers.{From, row-from, end-from, take-from}
 use Rattle.loader.specs.Take.{takeOf}
 use Rattle.loader.specs.declared.state.Loader.{Loader}
-use Rattle.packet.specs.Packet.{Parts, rows, tabledOf, readOf}
+use Rattle.packet.specs.Packet.{rows, tabledOf, readOf}
 use Rattle.receiver.specs.Hearing.{feed, Whole, Short, Handed}
 use Rattle.receiver.specs.Laws.Handed.{Proper, AllProper, new-proper}
 

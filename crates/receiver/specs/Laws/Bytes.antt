@@ -1,7 +1,7 @@
 -- Laws of a stretch of bytes: what one byte more makes of it, and where it ends.
-use Prim.Native.Nat.{ℕ, _+_, _≤_, _<_}
-use mathlib.Core.List.{List, [], _∷_}
-use mathlib.Core.Path.{_≡_, refl, sym, ap, _∙_}
+use Prim.Native.Nat.{ℕ, suc, _+_, _≤_, _<_}
+use mathlib.Core.List.{List, _∷_}
+use mathlib.Core.Path.{_≡_, sym, ap, _∙_}
 use native.Mathlib.Nat.{add-assoc, add-zero, zero-add}
 use native.Mathlib.Numerals.{add-one}
 use borrow.Author.Tests.{eq-eqb, ne-eqb}
@@ -18,6 +18,17 @@ ending r n k = record { receiver = r; packet = n; taken = k }
 pub bytes-first : (r : Receiver) (s : List ℕ) → bytesOf r s ≡ further 0 (bytesOf r (drop 0 s))
 bytes-first r s = rw (zero-add (bytesOf r s .taken))
 
+-- its first byte completes nothing, or a packet
+module _ (r : Receiver) (b : ℕ) (s : List ℕ) where
+  pub first-on : byteOf r b .packet ≡ 0 → bytesOf r (b ∷ s) ≡ further 1 (bytesOf (byteOf r b .receiver) s)
+  unfolding bytesOf
+  first-on e = rw (eq-eqb (byteOf r b .packet) 0 e)
+
+  pub first-found : (byteOf r b .packet ≡ 0 → ⊥)
+      → bytesOf r (b ∷ s) ≡ ending (byteOf r b .receiver) (byteOf r b .packet) 1
+  unfolding bytesOf
+  first-found e = rw (ne-eqb (byteOf r b .packet) 0 e)
+
 -- at byte i of the stretch
 module _ (r : Receiver) (s : List ℕ) (i : ℕ) where
   abbrev pub nextIn : Receiver
@@ -30,12 +41,10 @@ module _ (r : Receiver) (s : List ℕ) (i : ℕ) where
   rest = bytesOf nextIn (drop (i + 1) s)
 
   one-on : i < length s → handedAt ≡ 0 → bytesOf r (drop i s) ≡ further 1 rest
-  unfolding bytesOf
-  one-on h e = rw (drop-cons s i 0 h, add-one i, eq-eqb handedAt 0 e)
+  one-on h e = rw (drop-cons s i 0 h, add-one i) (first-on r (getD s i 0) (drop (suc i) s) e)
 
   one-found : i < length s → (handedAt ≡ 0 → ⊥) → bytesOf r (drop i s) ≡ ending nextIn handedAt 1
-  unfolding bytesOf
-  one-found h e = rw (drop-cons s i 0 h, ne-eqb handedAt 0 e)
+  one-found h e = rw (drop-cons s i 0 h) (first-found r (getD s i 0) (drop (suc i) s) e)
 
   none-left : length s ≤ i → bytesOf r (drop i s) ≡ ending r 0 0
   unfolding bytesOf

@@ -1,19 +1,19 @@
 -- Laws of feeding: cuts change nothing, rubbish hands on nothing, a whole packet is handed on at its last byte.
-use Prim.Native.Nat.{ℕ, zero, suc, _+_, _-_, _≤_, _<_}
+use Prim.Native.Nat.{ℕ, suc, _+_, _-_, _≤_, _<_}
 use mathlib.Core.Bool.{true, false, not}
-use mathlib.Core.List.{List, [], _∷_, _++_, append-assoc, append-nil}
+use mathlib.Core.List.{List, [], _∷_, _++_, append-assoc}
 use mathlib.Core.Logic.{_⊎_, inl, inr}
 use mathlib.Core.Path.{_≡_, refl, sym, ap, subst, _∙_}
 use native.Mathlib.Omega.{arith}
 use borrow.Author.Tests.{eqb-true, eqb-false, not-true, lt-ltb, le-leb}
 use lib.Dec.{eqb, leb}
-use lib.ListN.{length, replicate, length-append, length-replicate}
-use Rattle.basis.specs.Choice.{pick, both}
+use lib.ListN.{length, replicate, length-append}
+use Rattle.basis.specs.Choice.{both}
 use Rattle.basis.specs.Laws.Choice.{decide, both-true, both-second}
-use Rattle.basis.specs.Refusals.{refused, given}
+use Rattle.basis.specs.Refusals.{given}
 use Rattle.packet.specs.Laws.Packet.{packet-length, accepted}
 use Rattle.packet.specs.Packet.{startByte, nextStartByte, count, startsRight, packet, Parts, readOf}
-use Rattle.receiver.specs.Hearing.{Heard, gathering, handing, hunted, hear, Fed, feed, rubbish, Whole}
+use Rattle.receiver.specs.Hearing.{Heard, gathering, hunted, hear, Fed, feed, rubbish, Whole}
 use Rattle.receiver.specs.Laws.Hearing.{hear-none, hear-other, hear-count, hear-on, hear-last}
 
 -- so many bytes at which nothing is handed on

@@ -1,17 +1,16 @@
 -- What one byte does to a receiver's record, which has room for the longest packet: one law for each way.
 use Prim.Native.Nat.{ℕ, _+_, _≤_, _<_}
 use mathlib.Core.List.{List, [], _∷_, _++_, append-nil}
-use mathlib.Core.Path.{_≡_, refl, sym, ap, _∙_}
+use mathlib.Core.Path.{_≡_, sym, ap, _∙_}
 use native.Mathlib.Omega.{arith}
-use lib.ListN.{length, getD, set, take, length-append, length-take, take-append-drop}
+use lib.ListN.{length, set, take, length-append, length-take, take-append-drop}
 use lib.Seq.{getD-take, length-take-le}
 use Rattle.basis.specs.Laws.Lists.{overlay-next}
 use Rattle.basis.specs.Lists.{overlay}
 use Rattle.packet.specs.Packet.{nextStartByte, count, packetMost}
-use Rattle.receiver.specs.Hearing.{gathering, handing, hunted, hear}
+use Rattle.receiver.specs.Hearing.{gathering, handing, hunted}
 use Rattle.receiver.specs.Laws.Hearing.{hear-none, hear-next, hear-other, hear-few, hear-count, hear-on, hear-last, hear-past}
 use Rattle.receiver.specs.Receiver.{gathered, stored, receivedOf, keeping, giving, byteOf}
-use Rattle.receiver.specs.declared.receiver.Received.{Received}
 use Rattle.receiver.specs.declared.receiver.Receiver.{Receiver}
 
 -- one byte more behind what is gathered

@@ -1,6 +1,6 @@
 -- What a new receiver hands on, by any feeding: a whole packet, or 07 0E and a count below 5.
 use Prim.Native.Nat.{ℕ, _≤_}
-use mathlib.Core.Bool.{true, false}
+use mathlib.Core.Bool.{true}
 use mathlib.Core.List.{List, [], _∷_, _++_}
 use mathlib.Core.Logic.{_⊎_, inl, inr}
 use mathlib.Core.Path.{_≡_, refl}
@@ -11,7 +11,7 @@ use lib.ListN.{length, length-append}
 use Rattle.basis.specs.Choice.{pick}
 use Rattle.basis.specs.Laws.Choice.{decide, both-second}
 use Rattle.packet.specs.Packet.{startByte, nextStartByte, startsRight}
-use Rattle.receiver.specs.Hearing.{Heard, gathering, handing, hunted, hear, feed, Whole, Short, Handed}
+use Rattle.receiver.specs.Hearing.{Heard, gathering, handing, hunted, hear, feed, Whole, Handed}
 use Rattle.receiver.specs.Laws.Hearing.{hear-on, hear-last}
 
 -- what a hunt has gathered: the beginning of a packet with a count of at least 5

@@ -4,11 +4,11 @@ use mathlib.Core.Bool.{Bool, true, false}
 use mathlib.Core.List.{List, [], _∷_, _++_, append-assoc}
 use mathlib.Core.Logic.{_⊎_, inl, inr}
 use mathlib.Core.Path.{_≡_, refl, ap, _∙_}
+use native.Mathlib.Omega.{arith}
 use lib.Dec.{eqb, ltb}
 use lib.ListN.{length, take}
 use lib.Seq.{take-at}
 use Rattle.basis.specs.Choice.{pick}
-use Rattle.basis.specs.Lists.{overlay}
 use Rattle.receiver.specs.Hearing.{Heard, gathering, handing, hunted, hear}
 use Rattle.receiver.specs.Receiver.{gathered, stored, packetIn, byteOf}
 use Rattle.receiver.specs.declared.receiver.Receiver.{Receiver}
@@ -35,6 +35,11 @@ hunts-again (x ∷ y ∷ n ∷ s) b =
     go all true u = inl refl
     go all false true = inr refl
     go all false false = inl refl
+
+-- a list of no length has no bytes
+pub no-bytes : (s : List ℕ) → length s ≡ 0 → s ≡ []
+no-bytes [] e = refl
+no-bytes (x ∷ s) e = absurd (omega arith)
 
 -- the packet stands at the start
 pub byte-packet : (r : Receiver) (b : ℕ)

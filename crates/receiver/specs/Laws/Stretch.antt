@@ -1,17 +1,16 @@
 -- A stretch is its bytes, one after another: what it hands on is handed on at its last byte.
-use Prim.Native.Nat.{ℕ, zero, suc, _+_, _≤_}
-use mathlib.Core.Bool.{true, false}
+use Prim.Native.Nat.{ℕ, zero, suc, _+_}
 use mathlib.Core.List.{List, [], _∷_}
 use mathlib.Core.Path.{_≡_, refl, sym, ap, subst, _∙_}
-use native.Mathlib.Numerals.{add-one}
 use native.Mathlib.Omega.{arith}
 use borrow.Author.Tests.{eqb-true, eqb-false}
 use lib.Dec.{eqb}
 use lib.ListN.{length, take}
 use Rattle.basis.specs.Laws.Choice.{decide}
-use Rattle.receiver.specs.Hearing.{Heard, hear, Fed, feed}
+use Rattle.receiver.specs.Hearing.{hear, Fed, feed}
+use Rattle.receiver.specs.Laws.Bytes.{ending, first-on, first-found}
 use Rattle.receiver.specs.Laws.Feeding.{before, feed-cons}
-use Rattle.receiver.specs.Laws.Record.{byte-gathered, byte-packet}
+use Rattle.receiver.specs.Laws.Record.{no-bytes, byte-gathered, byte-packet}
 use Rattle.receiver.specs.Receiver.{gathered, byteOf, packetIn, further, bytesOf}
 use Rattle.receiver.specs.declared.receiver.Receiver.{Receiver}
 use Rattle.receiver.specs.declared.receiver.Stretch.{Stretch}
@@ -38,10 +37,6 @@ last-more : (r : Receiver) (n t : ℕ) → (t ≡ 0 → n ≡ 0)
 last-more r n zero h = rw (h refl)
 last-more r n (suc t) h = refl
 
-no-bytes : (s : List ℕ) → length s ≡ 0 → s ≡ []
-no-bytes [] e = refl
-no-bytes (x ∷ s) e = absurd (omega arith)
-
 module _ (r : Receiver) (b : ℕ) (s : List ℕ) where
   abbrev next : Receiver
   next = byteOf r b .receiver
@@ -51,7 +46,7 @@ module _ (r : Receiver) (b : ℕ) (s : List ℕ) where
 
   -- the byte completes a packet
   found : (byteOf r b .packet ≡ 0 → ⊥)
-      → Took r (b ∷ s) (record { receiver = next; packet = byteOf r b .packet; taken = 1 })
+      → Took r (b ∷ s) (ending next (byteOf r b .packet) 1)
   unfolding feed
   found h =
       record {
@@ -82,15 +77,6 @@ module _ (r : Receiver) (b : ℕ) (s : List ℕ) where
         some = λ q. absurd (omega arith);
       }
 
-  bytes-quiet : eqb (byteOf r b .packet) 0 ≡ true → bytesOf r (b ∷ s) ≡ further 1 rest
-  unfolding bytesOf
-  bytes-quiet t = rw t
-
-  bytes-last : eqb (byteOf r b .packet) 0 ≡ false
-      → bytesOf r (b ∷ s) ≡ record { receiver = next; packet = byteOf r b .packet; taken = 1 }
-  unfolding bytesOf
-  bytes-last t = rw t
-
 nothing-taken : (r : Receiver) → Took r [] (bytesOf r [])
 unfolding bytesOf feed
 nothing-taken r = record { fed = refl; all = λ e. refl; some = λ e. refl }
@@ -100,6 +86,6 @@ pub took : (r : Receiver) (s : List ℕ) → Took r s (bytesOf r s)
 took r [] = nothing-taken r
 took r (b ∷ s) =
     decide (eqb (byteOf r b .packet) 0)
-    (λ t. subst (Took r (b ∷ s)) (sym (bytes-quiet r b s t))
+    (λ t. subst (Took r (b ∷ s)) (sym (first-on r b s (eqb-true _ 0 t)))
     (quiet r b s (eqb-true _ 0 t) (took (byteOf r b .receiver) s)))
-    (λ t. subst (Took r (b ∷ s)) (sym (bytes-last r b s t)) (found r b s (eqb-false _ 0 t)))
+    (λ t. subst (Took r (b ∷ s)) (sym (first-found r b s (eqb-false _ 0 t))) (found r b s (eqb-false _ 0 t)))

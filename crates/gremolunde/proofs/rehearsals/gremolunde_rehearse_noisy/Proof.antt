@@ -1,6 +1,6 @@
 -- `gremolunde_rehearse_noisy` meets its contract: it is the rehearsal with rubbish of the loader that the state stands for, on
 -- the board, its answer as C gets it.
-use mathlib.Core.Path.{_≡_, refl, sym, _∙_}
+use mathlib.Core.Path.{refl, sym, _∙_}
 use borrow.Author.Needs.{needs}
 use Rattle.basis.specs.Board.{pagesOf}
 use Rattle.basis.specs.declared.kind.RunKind.{RunKind}

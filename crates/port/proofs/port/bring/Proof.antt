@@ -1,4 +1,4 @@
-use mathlib.Core.Path.{_≡_, refl, ap}
+use mathlib.Core.Path.{refl, ap}
 use borrow.Author.Needs.{needs}
 use Rattle.loader.specs.declared.state.Loader.{Loader}
 use Rattle.port.specs.declared.port.Port.{Port}
