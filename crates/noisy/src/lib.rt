@@ -1,3 +1,3 @@
 // A whole load with rubbish between its packets: one exchange, and a rehearsal.
-pub mod exchange;
+mod exchange;
 pub mod rehearse;
