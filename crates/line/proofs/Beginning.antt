@@ -1,19 +1,14 @@
 -- How a rehearsal begins: its table is the start's, and what the start gives is a moment that is begun.
 use Prim.Native.Nat.{ℕ, _+_}
-use mathlib.Core.Bool.{false, not}
 use mathlib.Core.List.{List, [], _∷_}
 use mathlib.Core.Path.{_≡_, refl, sym, ap, _∙_}
-use borrow.Author.Tests.{eq-eqb, ne-eqb}
-use lib.Dec.{eqb}
 use lib.ListN.{length, take}
 use Rattle.basis.specs.Board.{openingByte}
-use Rattle.basis.specs.Choice.{both}
-use Rattle.basis.specs.Laws.Choice.{both-false}
-use Rattle.basis.specs.Laws.Refusals.{stop, alike, through, apart, refused-one}
 use Rattle.basis.specs.Lists.{overlay}
 use Rattle.basis.specs.Refusals.{Answer, refused, given}
 use Rattle.basis.specs.Units.{startOf}
 use Rattle.basis.specs.declared.kind.RunKind.{RunKind}
+use Rattle.line.specs.Laws.Rehearsing.{flash-refuses, start-refuses, start-gives}
 use Rattle.line.specs.Line.{Moment, begun, momentAt, loadAt, momentOn, rehearseOf, loaded, leftFlash, Rehearses}
 use Rattle.line.specs.declared.exchange.Link.{Link}
 use Rattle.line.specs.declared.exchange.Loss.{Loss}
@@ -22,7 +17,7 @@ use Rattle.loader.specs.State.{resetOf}
 use Rattle.loader.specs.declared.state.Loader.{Loader}
 use Rattle.order.specs.Plan.{total}
 use Rattle.session.specs.Laws.Steps.{Starts}
-use Rattle.session.specs.Session.{Sent, measured, sentBytes, rightSizes, started}
+use Rattle.session.specs.Session.{Sent, measured, sentBytes, started}
 use Rattle.session.specs.declared.session.Next.{Next}
 use Rattle.packet.specs.Packet.{packetMost}
 
@@ -52,39 +47,29 @@ module _ (board : ℕ) (image m : List ℕ) (kind : RunKind) (l : Loader) (losse
   abbrev whole : Answer Moment
   whole = rehearseOf board image m kind l losses f
 
-  -- 20 for the flash
+  abbrev last : Moment
+  last = loadAt board image m kind l losses f (total board m kind + 1)
+
+  -- what is refused leaves flash as it was
+  refuses : {n : ℕ} → whole ≡ refused n → Rehearses whole f (refused n) f
+  refuses e = rw e (record { result-is = refl; flash-is = refl })
+
   pub flash-refused : (length f ≡ startOf board → ⊥) → Rehearses whole f (refused 20) f
   unfolding rehearseOf
-  flash-refused n =
-      rw (stop 20 _ _ (given (loadAt board image m kind l losses f (total board m kind + 1))) (ap not wrong))
-      (record { result-is = refl; flash-is = refl })
-    where
-      wrong : both (eqb (length f) (startOf board)) (rightSizes board (length image) (length m) packetMost)
-          ≡ false
-      wrong = both-false (eqb (length f) (startOf board)) _ (ne-eqb _ _ n)
+  flash-refused n = refuses (flash-refuses board image m f last n)
 
+  -- what the start refuses is refused, and what it gives is driven to the end
   module _ (size : length f ≡ startOf board) where
-    -- what the start refuses is refused, and what it gives is driven to the end
-    refused-too : {n : ℕ} → started board image m packetMost kind ≡ refused n → whole ≡ refused n
-    unfolding rehearseOf started
-    refused-too e = rw (eq-eqb (length f) (startOf board) size) (alike _ _ _ e)
-
-    given-too : {s : Sent} → started board image m packetMost kind ≡ given s
-        → whole ≡ given (loadAt board image m kind l losses f (total board m kind + 1))
-    unfolding rehearseOf started
-    given-too e = rw (eq-eqb (length f) (startOf board) size) (through _ _ _ e)
-
     pub start-refused : {n room : ℕ} → room ≡ packetMost
         → refused n ≡ measured (started board image m room kind)
         → Rehearses whole f (refused n) f
-    start-refused {n} {room} full e = go (started board image m room kind) refl e
-      where
-        go : (a : Answer Sent) → started board image m room kind ≡ a → refused n ≡ measured a
-            → Rehearses whole f (refused n) f
-        go (refused k) t e =
-            rw (refused-too (ap (λ (r : ℕ). started board image m r kind) (sym full) ∙ t), refused-one e)
-            (record { result-is = refl; flash-is = refl })
-        go (given s) t e = absurd (apart e)
+    unfolding rehearseOf
+    start-refused {n} {room} full e = refuses (start-refuses board image m f last size kind room full e)
+
+    begun-given : {room : ℕ} {y : Next} → room ≡ packetMost → Starts board image m room kind y
+        → whole ≡ given last
+    unfolding rehearseOf
+    begun-given {room} full s = start-gives board image m f last size kind room full (s .started-is)
 
     pub driven : {room : ℕ} {y : Next} → room ≡ packetMost → Starts board image m room kind y
         → (r : Load) (flash : List ℕ) (x : Moment) → x ≡ begun board m kind l f
@@ -92,7 +77,7 @@ module _ (board : ℕ) (image m : List ℕ) (kind : RunKind) (l : Loader) (losse
         (r .loader ≡ z .loader) × (r .session ≡ z .session) × (flash ≡ z .flash))
         → Rehearses whole f (given r) flash
     driven full s r flash x b z =
-        let w = given-too (ap (λ (r : ℕ). started board image m r kind) (sym full) ∙ s .started-is) in
+        let w = begun-given full s in
         let e = ap
         (λ (y : Moment). momentAt board image m losses y (total board m (y .session .kind) + 1)) b in
         record {

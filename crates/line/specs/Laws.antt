@@ -6,6 +6,7 @@ pub mod Liveness
 pub mod Moments
 pub mod Demand
 pub mod Carried
+pub mod Rehearsing
 pub mod Rehearsal
 pub mod Worked
 pub mod Determined

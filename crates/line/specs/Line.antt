@@ -105,15 +105,19 @@ lossOf b = pick (eqb b 0) Loss.Whole (pick (eqb b 1) Loss.Lost Loss.Unanswered)
 abbrev pub lossAt : List ℕ → ℕ → Loss
 lossAt s i = lossOf (getD s i 0)
 
--- a rehearsal: 20, 32 for an empty map, else what stands after one exchange for the opening byte and one for
--- each packet
-unfoldable pub rehearseOf : ℕ → List ℕ → List ℕ → RunKind → Loader → (ℕ → Loss) → List ℕ → Answer Moment
-rehearseOf board image m kind l losses f =
+-- what a load comes to, over a file and a flash: 20, 32 for an empty map, else x
+unfoldable pub rehearsing : {A : Type 0} → ℕ → List ℕ → List ℕ → List ℕ → A → Answer A
+rehearsing board image m f x =
     first
     (20 when
     not (both (eqb (length f) (startOf board)) (rightSizes board (length image) (length m) packetMost))
     ∷ 32 when eqb (namedCount board m) 0 ∷ [])
-    (given (loadAt board image m kind l losses f (total board m kind + 1)))
+    (given x)
+
+-- a rehearsal: what stands after one exchange for the opening byte and one for each packet
+unfoldable pub rehearseOf : ℕ → List ℕ → List ℕ → RunKind → Loader → (ℕ → Loss) → List ℕ → Answer Moment
+rehearseOf board image m kind l losses f =
+    rehearsing board image m f (loadAt board image m kind l losses f (total board m kind + 1))
 
 -- ---- what the functions are lent, and what they show
 

@@ -1,19 +1,14 @@
 -- How a rehearsal begins: its table is the start's, and what the start gives is a moment that is begun.
 use Prim.Native.Nat.{ℕ, _+_}
-use mathlib.Core.Bool.{false, not}
 use mathlib.Core.List.{List, [], _∷_}
 use mathlib.Core.Path.{_≡_, refl, sym, ap, _∙_}
-use borrow.Author.Tests.{eq-eqb, ne-eqb}
-use lib.Dec.{eqb}
 use lib.ListN.{length, take}
 use Rattle.basis.specs.Board.{openingByte}
-use Rattle.basis.specs.Choice.{both}
-use Rattle.basis.specs.Laws.Choice.{both-false}
-use Rattle.basis.specs.Laws.Refusals.{stop, alike, through, apart, refused-one}
 use Rattle.basis.specs.Lists.{overlay}
 use Rattle.basis.specs.Refusals.{Answer, refused, given}
 use Rattle.basis.specs.Units.{startOf}
 use Rattle.basis.specs.declared.kind.RunKind.{RunKind}
+use Rattle.line.specs.Laws.Rehearsing.{flash-refuses, start-refuses, start-gives}
 use Rattle.line.specs.Line.{loaded, leftFlash, Rehearses}
 use Rattle.line.specs.declared.exchange.Loss.{Loss}
 use Rattle.loader.specs.State.{resetOf}
@@ -26,7 +21,7 @@ use Rattle.port.specs.declared.port.Port.{Port}
 use Rattle.receiver.specs.Receiver.{fresh}
 use Rattle.receiver.specs.declared.receiver.Receiver.{Receiver}
 use Rattle.session.specs.Laws.Steps.{Starts}
-use Rattle.session.specs.Session.{Sent, measured, sentBytes, rightSizes, started}
+use Rattle.session.specs.Session.{Sent, measured, sentBytes, started}
 use Rattle.session.specs.declared.session.Next.{Next}
 use Rattle.session.specs.declared.session.Session.{Session}
 
@@ -70,36 +65,22 @@ module _ (board : ℕ) (image m : List ℕ) (kind : RunKind) (l : Loader) (losse
   refuses : {n : ℕ} → whole ≡ refused n → Rehearses (plainAnswer whole) f (refused n) f
   refuses e = rw e (record { result-is = refl; flash-is = refl })
 
-  -- 20 for the flash
   pub flash-refused : (length f ≡ startOf board → ⊥) → Rehearses (plainAnswer whole) f (refused 20) f
   unfolding noisyRehearseOf
-  flash-refused n = refuses (stop 20 _ _ (given last) (ap not wrong))
-    where
-      wrong : both (eqb (length f) (startOf board)) (rightSizes board (length image) (length m) packetMost)
-          ≡ false
-      wrong = both-false (eqb (length f) (startOf board)) _ (ne-eqb _ _ n)
+  flash-refused n = refuses (flash-refuses board image m f last n)
 
+  -- what the start refuses is refused, and what it gives is driven to the end
   module _ (size : length f ≡ startOf board) where
-    -- what the start refuses is refused, and what it gives is driven to the end
-    refused-too : {n : ℕ} → started board image m packetMost kind ≡ refused n → whole ≡ refused n
-    unfolding noisyRehearseOf started
-    refused-too e = rw (eq-eqb (length f) (startOf board) size) (alike _ _ _ e)
-
-    given-too : {s : Sent} → started board image m packetMost kind ≡ given s → whole ≡ given last
-    unfolding noisyRehearseOf started
-    given-too e = rw (eq-eqb (length f) (startOf board) size) (through _ _ _ e)
-
     pub start-refused : {n room : ℕ} → room ≡ packetMost
         → refused n ≡ measured (started board image m room kind)
         → Rehearses (plainAnswer whole) f (refused n) f
-    start-refused {n} {room} full e = go (started board image m room kind) refl e
-      where
-        go : (a : Answer Sent) → started board image m room kind ≡ a → refused n ≡ measured a
-            → Rehearses (plainAnswer whole) f (refused n) f
-        go (refused k) t e =
-            rw (refused-one e)
-            (refuses (refused-too (ap (λ (r : ℕ). started board image m r kind) (sym full) ∙ t)))
-        go (given s) t e = absurd (apart e)
+    unfolding noisyRehearseOf
+    start-refused {n} {room} full e = refuses (start-refuses board image m f last size kind room full e)
+
+    begun-given : {room : ℕ} {y : Next} → room ≡ packetMost → Starts board image m room kind y
+        → whole ≡ given last
+    unfolding noisyRehearseOf
+    begun-given {room} full s = start-gives board image m f last size kind room full (s .started-is)
 
     pub driven : {room : ℕ} {y : Next} → room ≡ packetMost → Starts board image m room kind y
         → (port : Port) (session : Session) (flash : List ℕ) (x : NoisyMoment)
@@ -108,7 +89,7 @@ module _ (board : ℕ) (image m : List ℕ) (kind : RunKind) (l : Loader) (losse
         (port ≡ w .port) × (session ≡ w .session) × (flash ≡ w .flash))
         → Rehearses (plainAnswer whole) f (given (record { loader = port .loader; session = session })) flash
     driven full s port session flash x b w =
-        let t = given-too (ap (λ (r : ℕ). started board image m r kind) (sym full) ∙ s .started-is) in
+        let t = begun-given full s in
         let e = ap
         (λ (y : NoisyMoment). noisyAt board image m losses z y (total board m (y .session .kind) + 1)) b in
         record {

@@ -3,14 +3,13 @@ use Prim.Native.Nat.{ℕ, zero, suc, _+_, _-_, _*_, _≤_}
 use mathlib.Core.Bool.{not}
 use mathlib.Core.List.{List, [], _∷_, _++_}
 use mathlib.Core.Path.{_≡_}
-use lib.Dec.{eqb, ltb}
+use lib.Dec.{ltb}
 use lib.ListN.{length, getD, take, drop}
 use Rattle.basis.specs.Board.{answerMost, openingByte}
 use Rattle.basis.specs.Choice.{pick, both}
-use Rattle.basis.specs.Refusals.{Answer, refused, given, _when_, first}
-use Rattle.basis.specs.Units.{startOf}
+use Rattle.basis.specs.Refusals.{Answer, refused, given, _when_}
 use Rattle.basis.specs.declared.kind.RunKind.{RunKind}
-use Rattle.line.specs.Line.{Moment, eventFrom}
+use Rattle.line.specs.Line.{Moment, eventFrom, rehearsing}
 use Rattle.line.specs.declared.exchange.Loss.{Loss}
 use Rattle.loader.specs.State.{resetOf}
 use Rattle.loader.specs.declared.state.Loader.{Loader}
@@ -20,9 +19,8 @@ use Rattle.packet.specs.Packet.{packetMost}
 use Rattle.port.specs.Port.{All, allOf}
 use Rattle.port.specs.declared.port.Port.{Port}
 use Rattle.receiver.specs.Receiver.{fresh}
-use Rattle.runs.specs.Pieces.{namedCount}
 use Rattle.session.specs.Phases.{ended}
-use Rattle.session.specs.Session.{Sent, rightSizes, atGreeting, stepOf}
+use Rattle.session.specs.Session.{Sent, atGreeting, stepOf}
 use Rattle.session.specs.declared.session.Next.{Next}
 use Rattle.session.specs.declared.session.Session.{Session}
 
@@ -103,16 +101,11 @@ noisyLoadAt board image m kind l losses z before n =
 abbrev pub rubbishAt : List ℕ → ℕ → ℕ → List ℕ
 rubbishAt s each i = take each (drop (i * each) s)
 
--- a rehearsal: 20, 32 for an empty map, else what stands after one exchange for the opening byte and one for
--- each packet
+-- a rehearsal: what stands after one exchange for the opening byte and one for each packet
 unfoldable pub noisyRehearseOf : ℕ → List ℕ → List ℕ → RunKind → Loader → (ℕ → Loss) → (ℕ → List ℕ) → List ℕ
     → Answer NoisyMoment
 noisyRehearseOf board image m kind l losses z f =
-    first
-    (20 when
-    not (both (eqb (length f) (startOf board)) (rightSizes board (length image) (length m) packetMost))
-    ∷ 32 when eqb (namedCount board m) 0 ∷ [])
-    (given (noisyLoadAt board image m kind l losses z f (total board m kind + 1)))
+    rehearsing board image m f (noisyLoadAt board image m kind l losses z f (total board m kind + 1))
 
 -- ---- what the laws speak by
 

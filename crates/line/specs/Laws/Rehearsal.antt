@@ -16,7 +16,7 @@ use Rattle.basis.specs.declared.kind.RunKind.{RunKind}
 use Rattle.events.specs.declared.ending.Outcome.{Outcome}
 use Rattle.line.specs.Demand.{AllProved, Stands, Untouched, Valid, Held, Safe}
 use Rattle.line.specs.Laws.Demand.{safe, finite}
-use Rattle.line.specs.Line.{Moment, loadAt, rehearseOf, loaded, leftFlash, Rehearses}
+use Rattle.line.specs.Line.{Moment, loadAt, rehearsing, rehearseOf, loaded, leftFlash, Rehearses}
 use Rattle.line.specs.declared.exchange.Loss.{Loss}
 use Rattle.line.specs.declared.rehearse.Load.{Load}
 use Rattle.loader.specs.declared.state.Loader.{Loader}
@@ -42,7 +42,7 @@ module _ (board : ℕ) (few : board ≤ 255) (image m : List ℕ) (kind : RunKin
     pub moment-is : x ≡ loadAt board image m kind l losses before (total board m kind + 1)
 
   given-is : (x : Moment) → whole ≡ given x → Given x
-  unfolding rehearseOf
+  unfolding rehearseOf rehearsing
   given-is x e =
       let p = passed 20 _ _ _ e in
       let q = passed 32 _ _ _ (p .1) in

@@ -16,7 +16,7 @@ use Rattle.basis.specs.declared.kind.RunKind.{RunKind}
 use Rattle.events.specs.declared.ending.Outcome.{Outcome}
 use Rattle.line.specs.Demand.{Stands, Valid, Held, AsAsked, Safe, Free}
 use Rattle.line.specs.Laws.Demand as plain
-use Rattle.line.specs.Line.{Moment, between, reply, loadAt, rehearseOf}
+use Rattle.line.specs.Line.{Moment, between, reply, loadAt, rehearsing, rehearseOf}
 use Rattle.line.specs.declared.exchange.Loss.{Loss}
 use Rattle.loader.specs.declared.state.Loader.{Loader}
 use Rattle.noisy.specs.Laws.AsWithout.{as-without, alike-at}
@@ -116,7 +116,7 @@ module _ (board : ℕ) (few : board ≤ 255) (image m : List ℕ) (bytes : Bytes
 
   pub rehearsal-as-without : plainAnswer (noisyRehearseOf board image m kind l losses z f)
       ≡ rehearseOf board image m kind l losses f
-  unfolding noisyRehearseOf rehearseOf first
+  unfolding noisyRehearseOf rehearseOf rehearsing first
   rehearsal-as-without = go (not right) none refl refl
     where
       k : ℕ
