@@ -1,13 +1,12 @@
 -- A load with rubbish between the packets: the loader stands behind a receiver that hunts for packets.
 use Prim.Native.Nat.{ℕ, zero, suc, _+_, _-_, _*_, _≤_}
-use mathlib.Core.Bool.{not}
 use mathlib.Core.List.{List, [], _∷_, _++_}
 use mathlib.Core.Path.{_≡_}
 use lib.Dec.{ltb}
 use lib.ListN.{length, getD, take, drop}
 use Rattle.basis.specs.Board.{answerMost, openingByte}
-use Rattle.basis.specs.Choice.{pick, both}
-use Rattle.basis.specs.Refusals.{Answer, refused, given, _when_}
+use Rattle.basis.specs.Choice.{pick}
+use Rattle.basis.specs.Refusals.{Answer, refused, given}
 use Rattle.basis.specs.declared.kind.RunKind.{RunKind}
 use Rattle.line.specs.Line.{Moment, eventFrom, rehearsing}
 use Rattle.line.specs.declared.exchange.Loss.{Loss}
