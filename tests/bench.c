@@ -5,13 +5,15 @@
  *   w, v                     one packet of 250 bytes taken by the loader
  *   step-full, step-worst    one step of a session, turn after turn at another piece
  *   full, worst              a whole session of the host, every packet acknowledged
+ *   receive                  all W packets of the full file, rubbish before each, byte by byte through the receiver
  *
- * These are for the short board; all but w and v are there for the long one too, with `-long` behind the name. On the
- * long one alone a record can wrap inside its segment: read-wraps-long reads such records, a 02 record before each.
+ * These are for the short board; all but w, v and receive are there for the long one too, with `-long` behind the name.
+ * On the long one alone a record can wrap inside its segment: read-wraps-long reads such records, a 02 record before
+ * each.
  *
- * Each writes one line: the bytes that its turns gave, a sum over all buffers, and the nanoseconds of all turns.
- * `second bench` has the same jobs over the same bytes, but for whole sessions of the long board, and must give the
- * same two numbers. `bench hex 0` and `bench hex-long 0` write the full hex file instead. */
+ * Each writes one line: the bytes that its turns gave, a sum over all buffers or over all that was received, and the
+ * nanoseconds of all turns. `second bench` has the same jobs over the same bytes, but for whole sessions of the long
+ * board, and must give the same two numbers. `bench hex 0` and `bench hex-long 0` write the full hex file instead. */
 #define _POSIX_C_SOURCE 199309L
 #include "gremolunde.h"
 #include <stdio.h>
@@ -24,6 +26,11 @@
 #define WORST_MAP 0x55 /* every second byte */
 #define FULL_MAP 0xFF
 #define ACK 0x06
+#define W 0x57
+
+/* So many bytes of rubbish stand before each packet of the stream. */
+#define RUBBISH 8
+#define PIECES (GREMOLUNDE_SHORT_IMAGE / PIECE + 1)
 
 /* Each record that wraps has so many bytes on either side of its segment's end. */
 #define SEGMENT 65536
@@ -53,6 +60,9 @@ static size_t lengths[MOST_RECORDS];
 static uint64_t data_bytes; /* of all lines */
 static gremolunde_loader loader;
 static gremolunde_session begun;
+static uint8_t stream[PIECES * (RUBBISH + GREMOLUNDE_PACKET)];
+static size_t stream_length;
+static uint64_t received; /* the sum of all bytes that the receiver handed on */
 
 #define FILE_LENT image, board.image, map, board.map
 
@@ -231,11 +241,48 @@ static void prepare_wraps(void) {
     board.records = line;
 }
 
-static void prepare_w(void) { make_loader(0x57); }
+static void prepare_w(void) { make_loader(W); }
 
 static void prepare_v(void) { make_loader(0x56); }
 
 static void prepare_session(void) { begun = start().session; }
+
+/* Rubbish, and behind it the packet that was sent last. */
+static void append_packet(size_t piece, size_t length) {
+    size_t j;
+    for (j = 0; j < RUBBISH; j++) {
+        stream[stream_length++] = (uint8_t)('0' + (piece + j) % 10);
+    }
+    memcpy(stream + stream_length, packet, length);
+    stream_length += length;
+}
+
+static void prepare_stream(void) {
+    static const uint8_t ack[] = {ACK};
+    gremolunde_session_stepped now = start();
+    size_t pieces = 0;
+    now = step(now.session, (const uint8_t *)board.greeting, GREMOLUNDE_ANSWER);
+    while (now.length > 0) {
+        if (packet[3] == W) {
+            append_packet(pieces++, now.length);
+        }
+        now = step(now.session, ack, sizeof ack);
+    }
+    must(pieces == PIECES, "a stream");
+}
+
+static uint64_t receive(uint64_t k) {
+    gremolunde_receiver receiver = gremolunde_receiver_new();
+    size_t i, j, length;
+    (void)k;
+    for (i = 0; i < stream_length; i++) {
+        length = gremolunde_receiver_byte(&receiver, stream[i]);
+        for (j = 0; j < length; j++) {
+            received += receiver.bytes[j];
+        }
+    }
+    return stream_length;
+}
 
 static const struct job {
     const char *name;
@@ -253,6 +300,7 @@ static const struct job {
     {"step-worst", &short_board, WORST_MAP, prepare_session, step_worst},
     {"full", &short_board, FULL_MAP, prepare_session, whole_session},
     {"worst", &short_board, WORST_MAP, prepare_session, whole_session},
+    {"receive", &short_board, FULL_MAP, prepare_stream, receive},
     {"read-long", &long_board, FULL_MAP, prepare_records, read_1},
     {"read-2-long", &long_board, FULL_MAP, prepare_records, read_2},
     {"read-wraps-long", &long_board, FULL_MAP, prepare_wraps, read_2},
@@ -279,6 +327,7 @@ static void repeat(const struct job *job, uint64_t times) {
     }
     took = nanoseconds() - began;
     sum = summed(image, board.image) + summed(flash, board.image) + summed(packet, sizeof packet);
+    sum = stream_length > 0 ? received : sum;
     printf("%llu %llu %llu\n", (unsigned long long)given, (unsigned long long)sum, (unsigned long long)took);
 }
 

@@ -409,13 +409,15 @@ static int broken;
 
 static void hold(int holds) { broken |= !holds; }
 
-/* The first bytes of a part that a call has written. */
-static void give_part(part p, size_t length) {
-    hold(length <= p.length);
-    if (length <= p.length) {
-        give_bytes(p.bytes, length);
+/* The first bytes that a call has written where there is room for so many. */
+static void give_first(const uint8_t *bytes, size_t room, size_t length) {
+    hold(length <= room);
+    if (length <= room) {
+        give_bytes(bytes, length);
     }
 }
+
+static void give_part(part p, size_t length) { give_first(p.bytes, p.length, length); }
 
 /* Structs, field by field. */
 
@@ -454,6 +456,24 @@ static gremolunde_loader loader;
 static gremolunde_hex reader;
 static gremolunde_session session;
 static int started;
+
+/* A call works on the receiver where it stands, so it stands between bytes that no call may change. */
+static struct guarded {
+    uint8_t before[BLOCK];
+    gremolunde_receiver receiver;
+    uint8_t behind[BLOCK];
+} guarded;
+static gremolunde_receiver *const receiver = &guarded.receiver;
+static uint8_t guard[BLOCK];
+
+static void set_guards(void) {
+    memcpy(guarded.before, guard, sizeof guard);
+    memcpy(guarded.behind, guard, sizeof guard);
+}
+
+static int guards_stand(void) {
+    return memcmp(guarded.before, guard, sizeof guard) == 0 && memcmp(guarded.behind, guard, sizeof guard) == 0;
+}
 
 /* Of records whose fields are numbers; the library is for x86-64, so the lowest byte of a field is its first. */
 static void give_fields(int of, const void *from) {
@@ -605,6 +625,34 @@ static int ask_board(const word *words) {
     return 1;
 }
 
+/* The receiver's bytes without the 00s at their end, and its length. */
+static void give_receiver(void) {
+    size_t end = sizeof receiver->bytes;
+    while (end > 0 && receiver->bytes[end - 1] == 0) {
+        end--;
+    }
+    give_bytes(receiver->bytes, end);
+    give_number(receiver->length);
+}
+
+static int ask_receiver(const word *words) {
+    gremolunde_receiver next = {{0}, 0};
+    size_t given;
+    uint64_t length;
+    if (words[0].at == NULL) {
+        give_number(0);
+        give_receiver();
+        return 1;
+    }
+    if (!bytes_of(words[0], sizeof next.bytes, next.bytes, &given) || !number_of(words[1], UINT64_MAX, &length)) {
+        return 0;
+    }
+    next.length = (size_t)length;
+    *receiver = next;
+    give_number(0);
+    return 1;
+}
+
 static int ask_loader(const word *words) { return KEEP(words, gremolunde_loader, loader); }
 
 static int ask_reader(const word *words) { return KEEP(words, gremolunde_hex, reader); }
@@ -705,6 +753,66 @@ static int ask_take(const word *words) {
         loader = taken.loader;
     }
     hold(SAME(gremolunde_loader, taken.loader, loader));
+    return 1;
+}
+
+/* Requests: the receiver. */
+
+static int ask_hunt(const word *words) {
+    (void)words;
+    lend(0, 0);
+    *receiver = gremolunde_receiver_new();
+    give_number(0);
+    return 1;
+}
+
+/* The packet that the receiver has handed on; it stands at the start of its bytes. */
+static void give_packet(size_t length) { give_first(receiver->bytes, sizeof receiver->bytes, length); }
+
+static int ask_byte(const word *words) {
+    uint8_t byte;
+    size_t packet;
+    if (!byte_of(words[0], &byte) || !lend(0, 0)) {
+        return 0;
+    }
+    set_guards();
+    packet = gremolunde_receiver_byte(receiver, byte);
+    hold(guards_stand());
+    give_number(0);
+    give_packet(packet);
+    return 1;
+}
+
+static int ask_bytes(const word *words) {
+    gremolunde_received received;
+    if (!bring_bytes(words[0]) || !lend(BIT(INPUT), 0)) {
+        return 0;
+    }
+    received = gremolunde_receiver_bytes(*receiver, LENT(INPUT));
+    *receiver = received.receiver;
+    give_number(0);
+    give_number(received.taken);
+    give_packet(received.packet);
+    return 1;
+}
+
+/* A refusal hands the loader back; one that took no byte, the receiver too. */
+static int ask_port(const word *words) {
+    gremolunde_port port = {loader, *receiver};
+    gremolunde_port_taken taken;
+    if (!bring_bytes(words[0]) || !lend(BIT(INPUT), BIT(FLASH) | BIT(ANSWER))) {
+        return 0;
+    }
+    taken = gremolunde_port_take(board, port, LENT(INPUT), LENT(FLASH), LENT(ANSWER));
+    give_number(taken.number);
+    give_number(taken.taken);
+    give_part(parts[ANSWER], taken.answered);
+    if (taken.number == 0) {
+        loader = taken.port.loader;
+    }
+    hold(SAME(gremolunde_loader, taken.port.loader, loader));
+    hold(taken.number == 0 || taken.taken > 0 || SAME(gremolunde_receiver, taken.port.receiver, *receiver));
+    *receiver = taken.port.receiver;
     return 1;
 }
 
@@ -845,14 +953,8 @@ static int ask_outcome(const word *words) {
     return 1;
 }
 
-static int ask_rehearse(const word *words) {
-    gremolunde_rehearsal load;
-    uint32_t kind;
-    if (!kind_of(words[0], &kind) || !bring_bytes(words[1]) ||
-        !lend(BIT(INPUT) | BIT(IMAGE) | BIT(MAP), BIT(FLASH))) {
-        return 0;
-    }
-    load = gremolunde_rehearse(board, kind, loader, LENT(INPUT), LENT(IMAGE), LENT(MAP), LENT(FLASH));
+/* Loader and session at the end of a load; a refusal hands the loader back. */
+static int give_load(gremolunde_rehearsal load) {
     give_number(load.number);
     if (load.number != 0) {
         hold(SAME(gremolunde_loader, load.loader, loader) && ZERO(gremolunde_session, load.session));
@@ -865,6 +967,36 @@ static int ask_rehearse(const word *words) {
     give_ending(session);
     give_number(session.acknowledged);
     return 1;
+}
+
+static int ask_rehearse(const word *words) {
+    uint32_t kind;
+    return kind_of(words[0], &kind) && bring_bytes(words[1]) &&
+           lend(BIT(INPUT) | BIT(IMAGE) | BIT(MAP), BIT(FLASH)) &&
+           give_load(gremolunde_rehearse(board, kind, loader, LENT(INPUT), LENT(IMAGE), LENT(MAP), LENT(FLASH)));
+}
+
+/* Two words' bytes, the second's right behind the first's. */
+static int bring_both(word first, word second, size_t *firsts, size_t *seconds) {
+    return bytes_of(first, CAPACITY, brought, firsts) &&
+           bytes_of(second, CAPACITY - *firsts, brought + *firsts, seconds) && bring(*firsts + *seconds);
+}
+
+/* So many of the brought bytes from a place on; none are the null pointer. */
+static const uint8_t *brought_from(size_t place, size_t length) {
+    return length > 0 ? parts[INPUT].bytes + place : NULL;
+}
+
+static int ask_noisy(const word *words) {
+    size_t losses, rubbish;
+    uint32_t kind;
+    uint64_t each;
+    return kind_of(words[0], &kind) && number_of(words[1], UINT64_MAX, &each) &&
+           bring_both(words[2], words[3], &losses, &rubbish) &&
+           lend(BIT(INPUT) | BIT(IMAGE) | BIT(MAP), BIT(FLASH)) &&
+           give_load(gremolunde_rehearse_noisy(board, kind, loader, brought_from(0, losses), losses,
+                                               brought_from(losses, rubbish), rubbish, (size_t)each, LENT(IMAGE),
+                                               LENT(MAP), LENT(FLASH)));
 }
 
 /* Requests: the service log. */
@@ -916,6 +1048,7 @@ static const struct request {
     {"look", 3, 3, ask_look},
     {"changed", 0, 0, ask_changed},
     {"board", 1, 1, ask_board},
+    {"receiver", 0, 2, ask_receiver},
     {"loader", 0, WORDS, ask_loader},
     {"reader", 0, WORDS, ask_reader},
     {"session", 0, WORDS, ask_session},
@@ -926,6 +1059,10 @@ static const struct request {
     {"factory", 1, 1, ask_factory},
     {"reset", 0, 0, ask_reset},
     {"take", 1, 1, ask_take},
+    {"hunt", 0, 0, ask_hunt},
+    {"byte", 1, 1, ask_byte},
+    {"bytes", 1, 1, ask_bytes},
+    {"port", 1, 1, ask_port},
     {"hex", 0, 1, ask_hex},
     {"record", 1, 1, ask_record},
     {"line", 1, 1, ask_line},
@@ -940,6 +1077,7 @@ static const struct request {
     {"log", 0, 0, ask_log},
     {"logread", 1, 1, ask_logread},
     {"rehearse", 2, 2, ask_rehearse},
+    {"noisy", 4, 4, ask_noisy},
 };
 
 /* Splits a word at its first space: what stands before it, and what is left behind it, if there is one. */
@@ -1002,7 +1140,9 @@ static void begin(void) {
         parts[b] = part_at(b, 0, lengths[b]);
     }
     brought_to = part_at(INPUT, 0, 0);
+    memset(guard, 0x5A, sizeof guard);
     loader = gremolunde_loader_new();
+    *receiver = gremolunde_receiver_new();
     reader = gremolunde_hex_start(board, GREMOLUNDE_RULES_1, LENT(IMAGE), LENT(MAP)).reader;
 }
 

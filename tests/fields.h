@@ -11,6 +11,14 @@ FIELD(gremolunde_loader, read, 21, 1)
 FIELD(gremolunde_loader, opened, 22, 1)
 FIELD(gremolunde_loader, added_read, 23, 1)
 
+STRUCT(gremolunde_receiver, 272)
+FIELD(gremolunde_receiver, bytes, 0, 259)
+FIELD(gremolunde_receiver, length, 264, 8)
+
+STRUCT(gremolunde_port, 296)
+FIELD(gremolunde_port, loader, 0, 24)
+FIELD(gremolunde_port, receiver, 24, 272)
+
 STRUCT(gremolunde_hex, 20)
 FIELD(gremolunde_hex, board, 0, 4)
 FIELD(gremolunde_hex, rules, 4, 4)
@@ -46,6 +54,17 @@ STRUCT(gremolunde_taken, 40)
 FIELD(gremolunde_taken, number, 0, 4)
 FIELD(gremolunde_taken, answered, 8, 8)
 FIELD(gremolunde_taken, loader, 16, 24)
+
+STRUCT(gremolunde_received, 288)
+FIELD(gremolunde_received, packet, 0, 8)
+FIELD(gremolunde_received, taken, 8, 8)
+FIELD(gremolunde_received, receiver, 16, 272)
+
+STRUCT(gremolunde_port_taken, 320)
+FIELD(gremolunde_port_taken, number, 0, 4)
+FIELD(gremolunde_port_taken, taken, 8, 8)
+FIELD(gremolunde_port_taken, answered, 16, 8)
+FIELD(gremolunde_port_taken, port, 24, 296)
 
 STRUCT(gremolunde_hex_read, 40)
 FIELD(gremolunde_hex_read, number, 0, 4)

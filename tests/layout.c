@@ -49,12 +49,15 @@ static void packets(void) {
     static const uint8_t input[] = {0x07, 0x0E, 0x05, 0x52, 0, 0, 0, 1, 0xA8};
     HOLD(gremolunde_packet_build(packet, sizeof packet, 'W', 0, plain, sizeof plain).number == 0);
     HOLD(gremolunde_packet_read(input, sizeof input).number == 0);
+    HOLD(gremolunde_receiver_bytes(gremolunde_receiver_new(), input, sizeof input).packet == sizeof input);
 }
 
 static void loaders(sizes s) {
     static const uint8_t hello[] = {0x08};
     gremolunde_loader loader = gremolunde_loader_new();
+    gremolunde_port port = {loader, gremolunde_receiver_new()};
     HOLD(gremolunde_loader_take(s.board, loader, hello, 1, flash, s.flash, answer, sizeof answer).number == 0);
+    HOLD(gremolunde_port_take(s.board, port, hello, 1, flash, s.flash, answer, sizeof answer).number == 0);
 }
 
 static void files(sizes s, uint32_t rules) {
@@ -75,6 +78,9 @@ static void sessions(sizes s) {
     HOLD(gremolunde_session_proved(now.session, both, s.map, 0).number == 0);
     load = gremolunde_rehearse(s.board, GREMOLUNDE_RESET, gremolunde_loader_new(), both, 2, both, s.image, both,
                                s.map, flash, s.flash);
+    HOLD(load.number == 0);
+    load = gremolunde_rehearse_noisy(s.board, GREMOLUNDE_RESET, gremolunde_loader_new(), both, 2, both, 2, 1, both,
+                                     s.image, both, s.map, flash, s.flash);
     HOLD(load.number == 0);
 }
 

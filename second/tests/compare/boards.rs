@@ -7,7 +7,8 @@ use second::cases::{Buffer, Part};
 use crate::files;
 use crate::loaders;
 use crate::maps;
-use crate::pair::Pair;
+use crate::noise;
+use crate::pair::{Noise, Pair, Receiver};
 use crate::random::Random;
 use crate::rules::{self, SETS};
 use crate::sessions::{self, PACKET};
@@ -158,6 +159,12 @@ fn told(pair: &mut Pair, random: &mut Random, site: Site, lent: Lent, board: u32
     let (any, mass_erase) = (random.bytes(9), loaders::built(b'E', 0, &[0]));
     let input = random.pick(&[&[][..], &[0x08], &mass_erase, &any]);
     pair.take(board, loader, input, lent.flash, lent.answer);
+    let receiver = Receiver {
+        bytes: noise::START.to_vec(),
+        length: random.below(3).into(),
+    };
+    let port = (loader, &receiver);
+    pair.port(board, port, input, lent.flash, lent.answer);
     let set = random.pick(&SETS);
     pair.hex(board, rules::told(random, set), lent.image, lent.map);
     let from = writer::any_address(random, site);
@@ -166,6 +173,12 @@ fn told(pair: &mut Pair, random: &mut Random, site: Site, lent: Lent, board: u32
     pair.start(board, run, lent.image, lent.map, lent.packet);
     let losses = random.pick(&[&[][..], &[1], &[0, 2]]);
     pair.rehearse(board, run, loader, losses, file, lent.flash);
+    let noise = Noise {
+        losses: losses.to_vec(),
+        each: 2,
+        rubbish: noise::any(random, 5),
+    };
+    pair.noisy(board, run, loader, &noise, file, lent.flash);
 }
 
 /// The calls that are given a reader.

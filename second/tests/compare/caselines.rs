@@ -11,6 +11,7 @@ use second::units::{Board, GREETING_BYTES};
 use crate::boards;
 use crate::files;
 use crate::loaders::built;
+use crate::noise;
 use crate::random::Random;
 use crate::root;
 use crate::rules;
@@ -50,7 +51,7 @@ const BUFFERS: [&str; 10] = [
 ];
 
 /// Lines that are no case, and a remark or two.
-const JUNK: [&str; 31] = [
+const JUNK: [&str; 45] = [
     "",
     " ",
     "#",
@@ -82,6 +83,20 @@ const JUNK: [&str; 31] = [
     "write 00000000",
     "write 00000000 000",
     "write 00000000 0000 0",
+    "hunt ",
+    "byte",
+    "byte 7",
+    "byte 070E",
+    "bytes",
+    "bytes 7",
+    "port",
+    "port 08 08",
+    "receiver 07",
+    "receiver 07 01",
+    "receiver 07 18446744073709551616",
+    "noisy reset 1 00",
+    "noisy reset 1 00 0",
+    "noisy reset 18446744073709551616  ",
 ];
 
 /// Compares the stored list and gives its number of lines.
@@ -142,6 +157,7 @@ fn script(random: &mut Random) -> Vec<String> {
         let named = file(random, &mut lines, site);
         session(random, &mut lines, site, named);
         loader(random, &mut lines, site);
+        receiver(random, &mut lines, site);
         rehearsals(random, &mut lines, site);
         desk(random, &mut lines);
     }
@@ -353,6 +369,56 @@ fn loader(random: &mut Random, lines: &mut Vec<String>, site: Site) {
     wrongly_lent(random, lines, part, "take 08");
 }
 
+/// Rubbish and packets in stretches, to the receiver alone and through a port.
+fn receiver(random: &mut Random, lines: &mut Vec<String>, site: Site) {
+    lines.push(random.pick(&["hunt", "receiver"]).to_string());
+    lines.push(random.pick(&["reset", "loader"]).to_string());
+    wrongly_told(random, lines, site, "port 08");
+    for line in [
+        "port 08", "port 07", "port ", "bytes ", "byte 07", "receiver",
+    ] {
+        lines.push(line.to_string());
+    }
+    for _ in 0..20 {
+        let packet = packet(random, site);
+        let mut bytes = [noise::before_packet(random), packet].concat();
+        if random.once_in(6) {
+            random.damage(&mut bytes);
+        }
+        let bytes = hex_digits(&bytes);
+        lines.push(match random.below(4) {
+            0 => format!("bytes {bytes}"),
+            1 => format!("byte {}", hex_digits(&noise::any(random, 1))),
+            _ => format!("port {bytes}"),
+        });
+        match random.below(4) {
+            0 => lines.push(random.pick(&["loader", "changed"]).to_string()),
+            1 => lines.push("receiver".to_string()),
+            _ => {}
+        }
+    }
+    let part = random.pick(&[flash(site), ANSWER]);
+    wrongly_lent(random, lines, part, "port 070E04");
+    made_up_receiver(random, lines);
+}
+
+/// A receiver of any values, at times of too many, and a few bytes for it.
+fn made_up_receiver(random: &mut Random, lines: &mut Vec<String>) {
+    let some = random.below(12);
+    let count = random.pick(&[0, 3, 9, some, 258, 259, 260]);
+    let mut bytes = random.bytes(count);
+    for (byte, front) in bytes.iter_mut().zip([0x07, 0x0E, some as u8]) {
+        *byte = random.pick(&[*byte, front, front]);
+    }
+    let any = random.long();
+    let length = random.pick(&[0, 1, 2, 3, u64::from(some) + 3, 259, 260, any]);
+    lines.push(format!("receiver {} {length}", hex_digits(&bytes)));
+    for line in ["byte 07", "bytes 0E04", "port 070E03", "port ", "byte 5A"] {
+        lines.push(line.to_string());
+        lines.push("receiver".to_string());
+    }
+}
+
 /// A packet of the table around the first groups, or around some others.
 fn packet(random: &mut Random, site: Site) -> Vec<u8> {
     let any = random.word();
@@ -378,9 +444,19 @@ fn rehearsals(random: &mut Random, lines: &mut Vec<String>, site: Site) {
         lines.push(random.pick(&["session", "loader", "changed"]).to_string());
         look(random, lines, site, "flash");
     }
-    let line = format!("rehearse {} ", run(random));
-    wrongly_lent(random, lines, flash(site), &line);
-    wrongly_told(random, lines, site, &line);
+    for lost in ["", "01", &any] {
+        let run = run(random);
+        let (whole, each) = (hex_digits(&whole), random.below(12));
+        let rubbish = hex_digits(&noise::any(random, 24));
+        lines.push(format!("noisy {run} {each} {whole}{lost} {rubbish}"));
+        lines.push(random.pick(&["session", "loader", "changed"]).to_string());
+        look(random, lines, site, "flash");
+    }
+    let run = run(random);
+    for line in [format!("rehearse {run} "), format!("noisy {run} 3  0E0808")] {
+        wrongly_lent(random, lines, flash(site), &line);
+        wrongly_told(random, lines, site, &line);
+    }
 }
 
 /// Lines about what is kept, right and wrong.

@@ -61,7 +61,7 @@ fn one_input(
 }
 
 /// Flash and answer buffer, at times side by side or of a wrong size.
-fn lent(pair: &Pair, random: &mut Random, site: Site, input: &[u8]) -> (Part, Part) {
+pub fn lent(pair: &Pair, random: &mut Random, site: Site, input: &[u8]) -> (Part, Part) {
     let flash = match random.below(15) {
         0 => site::wrong(random, site.flash, site.other().flash),
         _ => site.flash,
@@ -118,7 +118,7 @@ fn flag(random: &mut Random) -> u8 {
     random.pick(&[0, 0, 0, 1, any])
 }
 
-fn input(pair: &Pair, random: &mut Random, site: Site, state: LoaderRecord) -> Vec<u8> {
+pub fn input(pair: &Pair, random: &mut Random, site: Site, state: LoaderRecord) -> Vec<u8> {
     if state.condition == 0 && !random.once_in(4) {
         return vec![0x08];
     }

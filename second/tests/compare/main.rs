@@ -11,12 +11,15 @@ mod loaders;
 mod logs;
 mod made;
 mod maps;
+mod noise;
+mod noisy;
 mod packets;
 mod pair;
 mod places;
 mod plans;
 mod programs;
 mod random;
+mod receivers;
 mod rehearsals;
 mod root;
 mod rules;
@@ -46,9 +49,10 @@ const OFTEN_IN_PROGRAMS: u64 = 5;
 /// How often each listed column must be seen that is not the same in every line.
 const OFTEN_IN_COLUMNS: u64 = 2;
 
-const PARTS: [(&str, Compare); 11] = [
+const PARTS: [(&str, Compare); 13] = [
     ("packet", packets::compare),
     ("loader", loaders::compare),
+    ("receiver", receivers::compare),
     ("hex, set 1", |pair| files::compare(pair, RULES_1)),
     ("hex, set 2", |pair| files::compare(pair, RULES_2)),
     ("rule sets", rules::compare),
@@ -56,6 +60,7 @@ const PARTS: [(&str, Compare); 11] = [
     ("session", sessions::compare),
     ("log", logs::compare),
     ("rehearsal", rehearsals::compare),
+    ("noisy line", noisy::compare),
     ("boards", boards::compare),
     ("examples", examples::compare),
 ];

@@ -20,7 +20,35 @@ pub struct Pair {
     brought: u32,
     /// Of the hex reader's last answer, 0 where it has none.
     column: usize,
+    /// Of the last call.
+    number: u8,
+    receiver: Receiver,
     tallies: Tallies,
+}
+
+/// A receiver's bytes, without the 00s at their end, and its length.
+#[derive(Clone, Debug, Default, PartialEq, Eq)]
+pub struct Receiver {
+    pub bytes: Vec<u8>,
+    pub length: u64,
+}
+
+/// What is lost of a load, and so many bytes of rubbish before each packet.
+#[derive(Clone, Debug)]
+pub struct Noise {
+    pub losses: Vec<u8>,
+    pub each: u64,
+    pub rubbish: Vec<u8>,
+}
+
+/// What a port gave, the loader and the receiver that are kept after it.
+#[derive(Clone, Debug, PartialEq, Eq)]
+pub struct Ported {
+    pub number: u8,
+    pub taken: usize,
+    pub answer: Vec<u8>,
+    pub loader: LoaderRecord,
+    pub receiver: Receiver,
 }
 
 /// What the writer wrote without its line end, and what to go on with.
@@ -38,6 +66,8 @@ impl Pair {
             wire: Some(Wire::open()),
             brought: 0,
             column: 0,
+            number: 0,
+            receiver: Receiver::default(),
             tallies: Tallies::default(),
         }
     }
@@ -92,7 +122,13 @@ impl Pair {
         let answer = self.ask(line);
         self.ask("changed");
         self.tallies.on(on).count(function, answer.number);
+        self.number = answer.number;
         answer
+    }
+
+    /// The number of the last call.
+    pub fn number(&self) -> u8 {
+        self.number
     }
 
     /// Shows a record that a call has given.
@@ -144,6 +180,25 @@ impl Pair {
         if self.desk.loader() != record {
             self.ask(setting("loader", &record.fields()));
         }
+    }
+
+    fn set_receiver(&mut self, record: &Receiver) {
+        if self.receiver != *record {
+            let (bytes, length) = (hex_digits(&record.bytes), record.length);
+            self.ask(format!("receiver {bytes} {length}"));
+            self.receiver = record.clone();
+        }
+    }
+
+    /// Shows the receiver that is kept, and keeps it in mind.
+    fn show_receiver(&mut self) -> Receiver {
+        let shown = self.ask("receiver");
+        let (length, bytes) = shown.values.split_last().expect("a length");
+        self.receiver = Receiver {
+            bytes: bytes_in(bytes.first()),
+            length: length.parse().expect("a length"),
+        };
+        self.receiver.clone()
     }
 
     fn set_reader(&mut self, record: ReaderRecord) {
@@ -212,6 +267,53 @@ impl Pair {
         let taken = self.call(On::of(board), "take", line);
         self.given(&taken, "loader");
         (bytes_of(&taken), self.desk.loader())
+    }
+
+    /// A receiver that has gathered nothing.
+    pub fn hunt(&mut self) -> Receiver {
+        self.call(On::Nothing, "hunt", "hunt");
+        self.show_receiver()
+    }
+
+    /// The packet that is handed on, empty where none is, and the next receiver.
+    pub fn byte(&mut self, record: &Receiver, byte: u8) -> (Vec<u8>, Receiver) {
+        self.set_receiver(record);
+        let answer = self.call(On::Nothing, "byte", format!("byte {byte:02X}"));
+        (bytes_in(answer.values.first()), self.show_receiver())
+    }
+
+    /// How many bytes were taken, the packet, and the next receiver.
+    pub fn bytes(&mut self, record: &Receiver, bytes: &[u8]) -> (usize, Vec<u8>, Receiver) {
+        self.set_receiver(record);
+        let line = format!("bytes {}", hex_digits(bytes));
+        let answer = self.call(On::Nothing, "bytes", line);
+        let packet = bytes_in(answer.values.get(1));
+        (taken(&answer), packet, self.show_receiver())
+    }
+
+    pub fn port(
+        &mut self,
+        board: u32,
+        (loader, receiver): (LoaderRecord, &Receiver),
+        bytes: &[u8],
+        flash: Part,
+        answer: Part,
+    ) -> Ported {
+        self.set_board(board);
+        self.set_loader(loader);
+        self.set_receiver(receiver);
+        self.lend(Buffer::Flash, flash);
+        self.lend(Buffer::Answer, answer);
+        let line = format!("port {}", hex_digits(bytes));
+        let given = self.call(On::of(board), "port", line);
+        self.given(&given, "loader");
+        Ported {
+            number: given.number,
+            taken: taken(&given),
+            answer: bytes_in(given.values.get(1)),
+            loader: self.desk.loader(),
+            receiver: self.show_receiver(),
+        }
     }
 
     /// Calls the hex reader for a board and a rule set and gives the number; the
@@ -379,8 +481,13 @@ impl Pair {
         }
     }
 
+    /// Counts what came of bytes that no board was told of.
+    pub fn note_received(&mut self, what: &'static str, value: u8) {
+        self.tallies.on(On::Nothing).note(what, value);
+    }
+
     /// Counts a value that came out on a board.
-    fn note(&mut self, board: u32, what: &'static str, value: u8) {
+    pub fn note(&mut self, board: u32, what: &'static str, value: u8) {
         self.tallies.on(On::of(board)).note(what, value);
     }
 
@@ -456,6 +563,32 @@ impl Pair {
         }
         (answer.number, self.desk.loader(), self.session())
     }
+
+    /// The same with rubbish on the line.
+    pub fn noisy(
+        &mut self,
+        board: u32,
+        told: u32,
+        record: LoaderRecord,
+        noise: &Noise,
+        (image, map): (Part, Part),
+        flash: Part,
+    ) -> (u8, LoaderRecord, SessionRecord) {
+        self.set_board(board);
+        self.set_loader(record);
+        self.lend_file(image, map);
+        self.lend(Buffer::Flash, flash);
+        let (run, each) = (run(told), noise.each);
+        let (losses, rubbish) = (hex_digits(&noise.losses), hex_digits(&noise.rubbish));
+        let line = format!("noisy {run} {each} {losses} {rubbish}");
+        let answer = self.call(On::of(board), "noisy", line);
+        self.given(&answer, "loader");
+        self.given(&answer, "session");
+        if let Some(number) = ending(&answer) {
+            self.note(board, "noisy ending", number);
+        }
+        (answer.number, self.desk.loader(), self.session())
+    }
 }
 
 /// What the numbers of a function under a rule set are counted as; nothing for
@@ -497,6 +630,20 @@ fn bytes_of(answer: &Answer) -> u32 {
         [digits] => digits.len() as u32 / 2,
         _ => 0,
     }
+}
+
+/// The bytes of a value, none where there is none.
+fn bytes_in(digits: Option<&String>) -> Vec<u8> {
+    let digits = digits.map_or("", String::as_str);
+    let pairs = (0..digits.len()).step_by(2);
+    let byte = |at: usize| u8::from_str_radix(&digits[at..at + 2], 16).expect("digits");
+    pairs.map(byte).collect()
+}
+
+/// How many bytes a receiver or a port took: the first value.
+fn taken(answer: &Answer) -> usize {
+    let taken = answer.values.first().expect("how many were taken");
+    taken.parse().expect("a number")
 }
 
 fn ending(answer: &Answer) -> Option<u8> {

@@ -66,7 +66,7 @@ fn compare_on(pair: &mut Pair, random: &mut Random, site: Site) {
 }
 
 /// A file of few packets.
-fn small(random: &mut Random, site: Site) -> Vec<u8> {
+pub fn small(random: &mut Random, site: Site) -> Vec<u8> {
     match random.below(2) {
         0 => maps::few(random, site.board),
         _ => maps::pieces(random, site.board),
@@ -103,7 +103,7 @@ fn each_loss(pair: &mut Pair, random: &mut Random, site: Site, told: u32, loadin
 }
 
 /// The place of the last exchange: 08 comes first, and R last where it is sent.
-fn last_exchange(told: u32, loading: u32) -> u32 {
+pub fn last_exchange(told: u32, loading: u32) -> u32 {
     loading + u32::from(told < 2)
 }
 
@@ -223,7 +223,7 @@ fn look_at(pair: &mut Pair, random: &mut Random, site: Site, session: SessionRec
 }
 
 /// Any loader, at times with protection that refuses some packets.
-fn loader(random: &mut Random, site: Site) -> LoaderRecord {
+pub fn loader(random: &mut Random, site: Site) -> LoaderRecord {
     let some = 1 << random.below(site.board.groups());
     LoaderRecord {
         groups: random.pick(&[0, 0, 0, some]),

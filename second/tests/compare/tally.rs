@@ -48,23 +48,39 @@ impl On {
 }
 
 /// Each function that knows of no board and the numbers that it can give, 0
-/// where it was done; a log that is 50 or 51 is no board's.
-pub const ON_NOTHING: [(&str, &[u8]); 7] = [
+/// where it was done; a log that is 50 or 51 is no board's. What a receiver hands
+/// on: short counts by their count, and packets by what they stand in or hold; and
+/// receivers that were made up.
+pub const ON_NOTHING: [(&str, &[u8]); 18] = [
     ("turned", &[0]),
     ("restored", &[0]),
     ("build", &[0, 5, 6, 20]),
     ("read", &[0, 1, 2, 3, 4, 5, 6]),
     ("factory", &[0]),
     ("reset", &[0]),
+    ("hunt", &[0]),
+    ("byte", &[0]),
+    ("bytes", &[0]),
+    ("handed on", &[0]),
+    ("handed on, the longest", &[0]),
+    ("short count", &[0, 1, 2, 3, 4]),
+    ("start inside a packet", &[0]),
+    ("07 before a packet", &[0]),
+    ("07 at the end, then 0E", &[0]),
+    ("dropped", &[0]),
+    ("longer than there is", &[0]),
     ("logread", &[50, 51]),
 ];
 
 /// The same of the others, on either board; the endings that steps give and
 /// those that are read off; the marks; the run kinds of sessions that were
 /// started, and that ended as asked by steps and in rehearsals; the hex reader
-/// under each rule set too.
-pub const ON_EACH: [(&str, &[u8]); 24] = [
+/// under each rule set too; the conditions that ports lead to; how loads with
+/// rubbish end, and that it did what the session did not.
+pub const ON_EACH: [(&str, &[u8]); 32] = [
     ("take", &[0, 1, 2, 3, 4, 5, 6, 7, 8, 9, 10, 11, 20]),
+    ("port", &[0, 1, 3, 4, 5, 6, 7, 8, 9, 10, 11, 20]),
+    ("led to by a port", &[1, 2]),
     ("hex", &[0, 20, 34]),
     ("hex, set 1", &[0, 20]),
     ("hex, set 2", &[0, 20]),
@@ -91,6 +107,12 @@ pub const ON_EACH: [(&str, &[u8]); 24] = [
     ("logread", &[0, 52, 53]),
     ("rehearse", &[0, 20, 32]),
     ("rehearsed as asked", &[0, 1, 2]),
+    ("noisy", &[0, 20, 32]),
+    ("noisy ending", &[0, 1, 40, 41, 42, 43]),
+    ("ended as without rubbish", &[0, 1, 40, 41]),
+    ("07 before a packet", &[7]),
+    ("opened by rubbish", &[8]),
+    ("R out of rubbish", &[2]),
 ];
 
 const RECORD: &[u8] = &[0, 20, 21, 22, 23, 24, 25, 26, 27, 28, 29, 30];
@@ -109,8 +131,9 @@ pub fn wrapped(board: Board) -> &'static [(&'static str, &'static [u8])] {
 }
 
 /// What each of them gives on a board that is none.
-pub const ON_UNKNOWN: [(&str, &[u8]); 11] = [
+pub const ON_UNKNOWN: [(&str, &[u8]); 13] = [
     ("take", &[65]),
+    ("port", &[65]),
     ("hex", &[65]),
     ("record", &[65]),
     ("close", &[65]),
@@ -121,6 +144,7 @@ pub const ON_UNKNOWN: [(&str, &[u8]); 11] = [
     ("outcome", &[45]),
     ("log", &[65]),
     ("rehearse", &[65]),
+    ("noisy", &[65]),
 ];
 
 /// The numbers that the programs print.
