@@ -24,9 +24,9 @@ handing s = record { gathered = []; packet = s }
 abbrev pub hunted : ℕ → List ℕ
 hunted b = pick (eqb b startByte) (b ∷ []) []
 
--- a byte after what is gathered. After 07 comes 0E, or a second 07 that may itself begin the start; after 07 0E
--- comes N, of which one below 5 is handed on at once as the three bytes gathered; then N + 4 bytes in all.
--- More than these no hunt gathers: it is dropped
+-- a byte after what is gathered. After 07 comes 0E, or a second 07 that may itself begin the start; after
+-- 07 0E comes N, of which one below 5 is handed on at once as the three bytes gathered; then N + 4 bytes in
+-- all. More than these no hunt gathers: it is dropped
 unfoldable pub hear : List ℕ → ℕ → Heard
 hear [] b = gathering (hunted b)
 hear (x ∷ []) b = gathering (pick (eqb b nextStartByte) (x ∷ b ∷ []) (hunted b))

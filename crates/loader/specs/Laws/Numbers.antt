@@ -75,7 +75,8 @@ module _ (board : ℕ) (l : Loader) (a : ℕ) where
   obey-from c d f =
       pick-from 7 (eqb c eraseByte) _ _ (erase-from (getD d 0 0) f)
       (pick-from 7 (eqb c writeByte) _ _ (write-from d f)
-      (pick-from 7 (eqb c verifyByte) _ _ (keeping-from 7 f (first (verifyRows board l a d f) (given l)) (verify-from d f))
+      (pick-from 7 (eqb c verifyByte) _ _ (keeping-from 7 f (first (verifyRows board l a d f) (given l))
+      (verify-from d f))
       (pick-from 7 (eqb c protectByte) _ _
       (keeping-from 7 f (protecting board l a (getD d 0 0)) (protect-from (getD d 0 0)))
       (keeping-from 7 f (running l a) run-from))))

@@ -26,7 +26,8 @@ short-refused : (s : List ℕ) → Short s → readOf s ≡ refused 3
 unfolding readOf rows
 short-refused s h =
     let l = h .three in
-    skip 1 _ _ _ (ap not (h .starts)) ∙ skip 2 _ _ _ (lt-leb (length s) 2 (omega arith)) ∙ stop 3 _ _ _ (lt-ltb _ 5 (h .few))
+    skip 1 _ _ _ (ap not (h .starts)) ∙ skip 2 _ _ _ (lt-leb (length s) 2 (omega arith))
+    ∙ stop 3 _ _ _ (lt-ltb _ 5 (h .few))
 
 whole-from : (s : List ℕ) → Whole s → From 3 (readOf s)
 unfolding readOf rows

@@ -1,4 +1,5 @@
--- Laws of feeding: cuts change nothing, rubbish hands on nothing, a whole packet is handed on at its last byte.
+-- Laws of feeding: cuts change nothing, rubbish hands on nothing, and a whole packet is handed on at its last
+-- byte.
 use Prim.Native.Nat.{ℕ, suc, _+_, _-_, _≤_, _<_}
 use mathlib.Core.Bool.{true, false, not}
 use mathlib.Core.List.{List, [], _∷_, _++_, append-assoc}
@@ -47,7 +48,8 @@ unfolding feed
 feed-cons g b s = refl
 
 -- a byte that hands nothing on
-feed-quiet : (g h : List ℕ) (b : ℕ) (s : List ℕ) → hear g b ≡ gathering h → feed g (b ∷ s) ≡ before [] (feed h s)
+feed-quiet : (g h : List ℕ) (b : ℕ) (s : List ℕ) → hear g b ≡ gathering h
+    → feed g (b ∷ s) ≡ before [] (feed h s)
 feed-quiet g h b s e = feed-cons g b s ∙ ap (λ (x : Heard). before (x .packet) (feed (x .gathered) s)) e
 
 -- ---- rubbish

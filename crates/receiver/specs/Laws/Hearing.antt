@@ -19,7 +19,8 @@ hear-next [] b h e = absurd (omega arith)
 hear-next (x ∷ []) b h e = simp (eq-eqb b nextStartByte e)
 hear-next (x ∷ y ∷ g) b h e = absurd (omega arith)
 
-pub hear-other : (g : List ℕ) (b : ℕ) → length g ≡ 1 → (b ≡ nextStartByte → ⊥) → hear g b ≡ gathering (hunted b)
+pub hear-other : (g : List ℕ) (b : ℕ) → length g ≡ 1 → (b ≡ nextStartByte → ⊥)
+    → hear g b ≡ gathering (hunted b)
 unfolding hear
 hear-other [] b h e = absurd (omega arith)
 hear-other (x ∷ []) b h e = simp (ne-eqb b nextStartByte e)
@@ -39,7 +40,8 @@ hear-count (x ∷ []) b h l = absurd (omega arith)
 hear-count (x ∷ y ∷ []) b h l = simp (le-ltb b 5 l)
 hear-count (x ∷ y ∷ n ∷ g) b h l = absurd (omega arith)
 
-pub hear-on : (g : List ℕ) (b : ℕ) → 3 ≤ length g → length g < count g + 3 → hear g b ≡ gathering (g ++ (b ∷ []))
+pub hear-on : (g : List ℕ) (b : ℕ) → 3 ≤ length g → length g < count g + 3
+    → hear g b ≡ gathering (g ++ (b ∷ []))
 unfolding hear
 hear-on [] b h l = absurd (omega arith)
 hear-on (x ∷ []) b h l = absurd (omega arith)

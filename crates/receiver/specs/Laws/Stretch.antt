@@ -23,7 +23,11 @@ atLast (suc (suc n)) s = [] ∷ atLast (suc n) s
 
 -- what a stretch comes to, as bytes that were fed
 abbrev pub fedBy : Stretch → Fed
-fedBy x = record { gathered = gathered (x .receiver); handed = atLast (x .taken) (packetIn (x .receiver) (x .packet)) }
+fedBy x =
+    record {
+      gathered = gathered (x .receiver);
+      handed = atLast (x .taken) (packetIn (x .receiver) (x .packet));
+    }
 
 -- the taken bytes were fed; and they are all, where nothing is handed on
 pub record Took (r : Receiver) (s : List ℕ) (x : Stretch) : Type 0 where

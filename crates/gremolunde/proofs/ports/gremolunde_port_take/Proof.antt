@@ -1,5 +1,5 @@
--- `gremolunde_port_take` meets its contract: it is the port that the state stands for, on the board, its answer
--- as C gets it.
+-- `gremolunde_port_take` meets its contract: it is the port that the state stands for, on the board, its
+-- answer as C gets it.
 use Prim.Native.Nat.{ℕ}
 use mathlib.Core.List.{List}
 use mathlib.Core.Path.{_≡_, refl, sym, _∙_}

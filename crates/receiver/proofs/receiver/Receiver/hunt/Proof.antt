@@ -12,7 +12,11 @@ returns : tie.Need-returns
 returns c =
     let r = c .before .args .t1 in
     let l : length (c .before .args .t1 .bytes) ≡ 259 = search needs in
-    rw (eq-eqb (c .before .args .b) startByte (c .if1 .taken), gathers (r .bytes) 0 (c .before .args .b) (omega arith))
+    rw (
+      eq-eqb (c .before .args .b) startByte (c .if1 .taken),
+      gathers (r .bytes) 0 (c .before .args .b)
+          (omega arith),
+    )
 
 returns-2 : tie.Need-returns-2
 returns-2 c = simp (ne-eqb (c .before .args .b) startByte (c .if1 .left))
