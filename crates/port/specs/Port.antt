@@ -80,6 +80,7 @@ abbrev pub asItComes : ℕ → ℕ → Loader → Receiver → List ℕ → List
 asItComes board room l r f [] = still l r f 0
 asItComes board room l r f (b ∷ s) = brings board room l (emptied r) f 1 (b ∷ [])
 
+-- one call over some bytes
 unfoldable pub turnOf : ℕ → ℕ → Port → List ℕ → List ℕ → Turn
 turnOf board room p f s =
     pick (serving (p .loader .condition)) (through board room (p .loader) f (bytesOf (p .receiver) s))

@@ -19,6 +19,7 @@ fresh = record { bytes = replicate packetMost 0; len = 0 }
 abbrev pub emptied : Receiver → Receiver
 emptied r = record { bytes = r .bytes; len = 0 }
 
+-- what is gathered: the first `len` bytes, all where there are not so many
 abbrev pub gathered : Receiver → List ℕ
 gathered r = take (r .len) (r .bytes)
 
@@ -26,6 +27,7 @@ gathered r = take (r .len) (r .bytes)
 abbrev pub stored : Receiver → Heard → Receiver
 stored r h = record { bytes = overlay (h .packet ++ h .gathered) (r .bytes); len = length (h .gathered) }
 
+-- the record with the length of the packet that stands in it
 abbrev pub receivedOf : Receiver → Heard → Received
 receivedOf r h = record { receiver = stored r h; packet = length (h .packet) }
 

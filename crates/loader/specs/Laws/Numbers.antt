@@ -38,7 +38,7 @@ keeping-from : (k : ℕ) (f : List ℕ) (x : Answer Loader) → From k x → Fro
 keeping-from k f (refused n) p = p
 keeping-from k f (given l) p = tt
 
--- a command that was read is refused with 7 to 10
+-- a command that was read is accepted, or refused with 7 or more
 module _ (board : ℕ) (l : Loader) (a : ℕ) where
   erase-from : (n : ℕ) (f : List ℕ) → From 7 (erasing board l a n f)
   unfolding erasing eraseRows
