@@ -14,10 +14,10 @@ use Rattle.loader.specs.declared.state.Condition.the-variants.{Waiting, Serving
 use Rattle.loader.specs.declared.state.Loader.{Loader}
 use Rattle.noisy.specs.Noisy.{NoisyMoment, plainly, boardMakes, heardOf, noisyBetween, noisyStepped, noisyStepsOn, noisyExchangeOf, NoOpening}
 use Rattle.packet.specs.Packet.{packetMost}
-use Rattle.port.specs.Laws.All.{Idles, Brings, all-idle, all-brings, all-unheard, all-opens, nothing-joined}
+use Rattle.port.specs.Laws.All.{Idles, Brings, all-idle, all-brings, all-unheard, all-opens}
 use Rattle.port.specs.Port.{allOf}
 use Rattle.receiver.specs.Hearing.{Fed, feed, rubbish, Whole}
-use Rattle.receiver.specs.Laws.Feeding.{nothing, rubbish-idle, rubbish-packet}
+use Rattle.receiver.specs.Laws.Feeding.{handedAfter, rubbish-idle, rubbish-packet}
 use Rattle.receiver.specs.Receiver.{gathered}
 use Rattle.session.specs.Session.{Sent, stepOf}
 
@@ -102,9 +102,7 @@ module _ (board : ℕ) (z : List ℕ) (only : rubbish z ≡ true) (x : NoisyMome
       → Alike board o z x
   packet-alike c g w o =
       let b = all-brings board answerMost l c (z ++ x .wire) (x .port .receiver) (x .flash) (x .wire)
-      (length z + (length (x .wire) - 1)) some
-      (ap (λ (y : Fed). y .handed) fed
-      ∙ nothing-joined (length z) (length (x .wire) - 1) (x .wire ∷ [])) in
+      (length z + (length (x .wire) - 1)) some (ap (λ (y : Fed). y .handed) fed) in
       let i = all-idle board answerMost l c z (x .port .receiver) (x .flash)
       (ap (λ (h : List ℕ). feed h z .handed) g ∙ rubbish-idle z only .0) in
       alike board z x
@@ -114,10 +112,7 @@ module _ (board : ℕ) (z : List ℕ) (only : rubbish z ≡ true) (x : NoisyMome
       o (λ e. (_, i))
     where
       fed : feed (gathered (x .port .receiver)) (z ++ x .wire)
-          ≡ record {
-            gathered = [];
-            handed = nothing (length z) ++ (nothing (length (x .wire) - 1) ++ (x .wire ∷ []));
-          }
+          ≡ handedAfter (length z + (length (x .wire) - 1)) (x .wire)
       fed = ap (λ (h : List ℕ). feed h (z ++ x .wire)) g ∙ rubbish-packet z (x .wire) only w
 
       some : x .wire ≡ [] → ⊥

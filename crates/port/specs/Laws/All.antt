@@ -4,7 +4,6 @@ use mathlib.Core.Bool.{true, false}
 use mathlib.Core.List.{List, [], _∷_, _++_, append-assoc, append-nil}
 use mathlib.Core.Logic.{inl, inr}
 use mathlib.Core.Path.{_≡_, refl, sym, ap, subst, _∙_}
-use native.Mathlib.Nat.{zero-add, suc-add}
 use native.Mathlib.Omega.{arith}
 use borrow.Author.Tests.{eq-eqb, ne-eqb, eqb-true, eqb-false}
 use lib.Dec.{eqb}
@@ -26,7 +25,7 @@ use Rattle.port.specs.Port.{serving, still, brings, through, asItComes, 
 use Rattle.port.specs.declared.port.Port.{Port}
 use Rattle.receiver.specs.Hearing.{hear, Fed, feed, rubbish}
 use Rattle.receiver.specs.Laws.Bytes.{ending, first-on, first-found}
-use Rattle.receiver.specs.Laws.Feeding.{nothing, feed-append, rubbish-tail, rubbish-idle, Idle}
+use Rattle.receiver.specs.Laws.Feeding.{nothing, nothing-joined, feed-append, rubbish-tail, rubbish-idle, Idle}
 use Rattle.receiver.specs.Laws.Record.{no-bytes, byte-gathered, byte-packet}
 use Rattle.receiver.specs.Receiver.{emptied, gathered, further, byteOf, bytesOf}
 use Rattle.receiver.specs.declared.receiver.Receiver.{Receiver}
@@ -163,11 +162,6 @@ module _ (board room : ℕ) (l : Loader) (c : l .condition ≡ Serving) where
       })
 
 -- ---- rubbish and then the opening byte
-
--- bytes at which nothing is handed on, one after another
-pub nothing-joined : (a b : ℕ) (t : List (List ℕ)) → nothing a ++ (nothing b ++ t) ≡ nothing (a + b) ++ t
-nothing-joined zero b t = rw zero-add
-nothing-joined (suc a) b t = rw (suc-add, nothing-joined a b t)
 
 -- nothing is gathered after it, and nothing handed on
 past-opening : (g : List ℕ) → Idle g → feed g (openingByte ∷ []) ≡ record { gathered = []; handed = [] ∷ [] }

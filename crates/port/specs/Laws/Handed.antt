@@ -1,5 +1,5 @@
--- What a receiver hands on is refused with 3 at least: the loader never says 1 or 2 to it.
-use Prim.Native.Nat.{ℕ}
+-- What a receiver hands on is refused with 3 at least: the loader never says 1 or 2 to it, and 3 to a short count.
+use Prim.Native.Nat.{ℕ, _≤_}
 use mathlib.Core.Bool.{not}
 use mathlib.Core.List.{List, [], _∷_}
 use mathlib.Core.Logic.{_⊎_, inl, inr}
@@ -7,10 +7,14 @@ use mathlib.Core.Path.{_≡_, sym, ap, subst, _∙_}
 use native.Mathlib.Omega.{arith}
 use borrow.Author.Tests.{lt-ltb, le-ltb, lt-leb, eq-eqb}
 use lib.ListN.{length}
+use Rattle.basis.specs.Board.{answerMost}
 use Rattle.basis.specs.Laws.Refusals.{skip, stop}
 use Rattle.basis.specs.Refusals.{refused}
+use Rattle.basis.specs.Units.{startOf}
 use Rattle.loader.specs.Laws.Numbers.{From, row-from, end-from, take-from}
+use Rattle.loader.specs.Laws.Take.{take-heard, heard-serving, served-unread}
 use Rattle.loader.specs.Take.{takeOf}
+use Rattle.loader.specs.declared.state.Condition.the-variants.{Serving}
 use Rattle.loader.specs.declared.state.Loader.{Loader}
 use Rattle.packet.specs.Packet.{rows, tabledOf, readOf}
 use Rattle.receiver.specs.Hearing.{feed, Whole, Short, Handed}
@@ -28,6 +32,13 @@ short-refused s h =
     let l = h .three in
     skip 1 _ _ _ (ap not (h .starts)) ∙ skip 2 _ _ _ (lt-leb (length s) 2 (omega arith))
     ∙ stop 3 _ _ _ (lt-ltb _ 5 (h .few))
+
+-- a loader that serves says 3 to it
+pub short-told : (board : ℕ) (l : Loader) (s f : List ℕ) (room : ℕ) → length f ≡ startOf board
+    → answerMost ≤ room → l .condition ≡ Serving → Short s → takeOf board l s f room ≡ refused 3
+short-told board l s f room size fits c h =
+    take-heard board l s f room size fits ∙ heard-serving board l s f c
+    ∙ served-unread board l s f (short-refused s h)
 
 whole-from : (s : List ℕ) → Whole s → From 3 (readOf s)
 unfolding readOf rows

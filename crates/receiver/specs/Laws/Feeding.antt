@@ -1,10 +1,11 @@
 -- Laws of feeding: cuts change nothing, rubbish hands on nothing, and a whole packet is handed on at its last
 -- byte.
-use Prim.Native.Nat.{ℕ, suc, _+_, _-_, _≤_, _<_}
+use Prim.Native.Nat.{ℕ, zero, suc, _+_, _-_, _≤_, _<_}
 use mathlib.Core.Bool.{true, false, not}
 use mathlib.Core.List.{List, [], _∷_, _++_, append-assoc}
 use mathlib.Core.Logic.{_⊎_, inl, inr}
 use mathlib.Core.Path.{_≡_, refl, sym, ap, subst, _∙_}
+use native.Mathlib.Nat.{zero-add, suc-add}
 use native.Mathlib.Omega.{arith}
 use borrow.Author.Tests.{eqb-true, eqb-false, not-true, lt-ltb, le-leb}
 use lib.Dec.{eqb, leb}
@@ -20,6 +21,10 @@ use Rattle.receiver.specs.Laws.Hearing.{hear-none, hear-other, hear-coun
 -- so many bytes at which nothing is handed on
 abbrev pub nothing : ℕ → List (List ℕ)
 nothing n = replicate n []
+
+pub nothing-joined : (a b : ℕ) (t : List (List ℕ)) → nothing a ++ (nothing b ++ t) ≡ nothing (a + b) ++ t
+nothing-joined zero b t = rw zero-add
+nothing-joined (suc a) b t = rw (suc-add, nothing-joined a b t)
 
 -- ---- cuts
 
@@ -191,11 +196,13 @@ idle-packet g s (inr e) w = rw e (restarted s w ∙ packet-handed s w)
 
 -- a packet after rubbish is found, and nothing is handed on before it
 pub rubbish-packet : (z s : List ℕ) → rubbish z ≡ true → Whole s
-    → feed [] (z ++ s)
-    ≡ record { gathered = []; handed = nothing (length z) ++ (nothing (length s - 1) ++ (s ∷ [])) }
+    → feed [] (z ++ s) ≡ handedAfter (length z + (length s - 1)) s
 rubbish-packet z s e w =
     let u = rubbish-idle z e in
-    feed-append [] z s ∙ rw (idle-packet (feed [] z .gathered) s (u .1) w, u .0)
+    feed-append [] z s
+    ∙ rw (idle-packet (feed [] z .gathered) s (u .1) w, u .0)
+    (ap (λ (h : List (List ℕ)). record { gathered = []; handed = h })
+    (nothing-joined (length z) (length s - 1) (s ∷ [])))
 
 -- a count below 5 is handed on at once as the three bytes gathered
 pub short-handed : (n : ℕ) → n < 5 → feed [] (begun n []) ≡ handedAfter 2 (begun n [])
