@@ -1,4 +1,5 @@
--- What a receiver hands on is refused with 3 at least: the loader never says 1 or 2 to it, and 3 to a short count.
+-- What a receiver hands on is refused with 3 at least: the loader never says 1 or 2 to it, and to a short
+-- count it says 3.
 use Prim.Native.Nat.{ℕ, _≤_}
 use mathlib.Core.Bool.{not}
 use mathlib.Core.List.{List, [], _∷_}
