@@ -62,13 +62,14 @@ typedef struct gremolunde_loader {
 } gremolunde_loader;
 
 /* A receiver: fed one byte at a time, it hunts for 07 0E, gathers N + 4 bytes and hands the packet on. It is fed only
- * while a loader is serving. It has no clock: what was begun waits for its last byte, so noise that looks like a start
- * swallows what follows until its count is full. Noise that is a whole packet with a right checksum it cannot tell from
- * the host's: the loader obeys it, an R too. The first `length` bytes are gathered, all of them where `length` is
- * larger than there are; those behind them count for nothing, and a packet that is handed on stands at the start, with
- * a `length` of 0. Where a caller made one up, what stands third in it is N, and what stands first and second is taken
- * for the start, whatever it is; where more is gathered than N + 3 bytes it is dropped with the next byte, which is
- * hunted. */
+ * while a loader is serving, and has gathered nothing when that begins: gremolunde_port_take sees to both, and who
+ * feeds it without a port begins with a new one when the board is opened. It has no clock: what was begun waits for its
+ * last byte, so noise that looks like a start swallows what follows until its count is full. Noise that is a whole
+ * packet with a right checksum it cannot tell from the host's: the loader obeys it, an R too. The first `length` bytes
+ * are gathered, all of them where `length` is larger than there are; those behind them count for nothing, and a packet
+ * that is handed on stands at the start, with a `length` of 0. Where a caller made one up, what stands third in it is
+ * N, and what stands first and second is taken for the start, whatever it is; where more is gathered than N + 3 bytes
+ * it is dropped with the next byte, which is hunted. */
 typedef struct gremolunde_receiver {
     uint8_t bytes[GREMOLUNDE_PACKET];
     size_t length;
