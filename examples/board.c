@@ -1,9 +1,11 @@
 /* A board at the end of a line that picks up rubbish: board [short | long]. Bytes come in on standard input as a serial
- * port reads them, answers go out on standard output; the loader stands behind a receiver, which is fed only while the
- * loader serves. Ends with the input, or when a packet has started the controller. */
+ * port reads them, each answer goes out on standard output at once; the loader stands behind a receiver, which is fed
+ * only while the loader serves. Ends with the input, or when a packet has started the controller. */
+#define _POSIX_C_SOURCE 200112L
 #include "gremolunde.h"
 #include <stdio.h>
 #include <string.h>
+#include <unistd.h>
 
 static uint8_t flash[GREMOLUNDE_LONG_FLASH], answer[GREMOLUNDE_ANSWER];
 
@@ -19,7 +21,9 @@ static int take(uint32_t board, size_t size, gremolunde_port *port, const uint8_
             fprintf(stderr, "refused: %lu\n", (unsigned long)taken.number);
             return 0;
         }
+        /* the host sends no more until it has this */
         fwrite(answer, 1, taken.answered, stdout);
+        fflush(stdout);
         *port = taken.port;
         bytes += taken.taken;
         count -= taken.taken;
@@ -33,14 +37,15 @@ int main(int count, char **words) {
     size_t size = is_long ? GREMOLUNDE_LONG_FLASH : GREMOLUNDE_SHORT_FLASH;
     gremolunde_port port = {gremolunde_loader_new(), gremolunde_receiver_new()};
     uint8_t bytes[READ];
-    size_t came;
+    ssize_t came;
     if (count > 2 || (count == 2 && !is_long && strcmp(words[1], "short") != 0)) {
         fprintf(stderr, "usage: board [short | long]\n");
         return 2;
     }
     memset(flash, 0xFF, sizeof flash);
+    /* a read gives what has come, and does not wait for more */
     do {
-        came = fread(bytes, 1, sizeof bytes, stdin);
-    } while (came > 0 && take(board, size, &port, bytes, came));
-    return 0;
+        came = read(STDIN_FILENO, bytes, sizeof bytes);
+    } while (came > 0 && take(board, size, &port, bytes, (size_t)came));
+    return came < 0;
 }
