@@ -8,7 +8,7 @@ ghost use Rattle.gremolunde.specs.Answers.{rehearsedAnswer};
 ghost use Rattle.gremolunde.specs.States.{loaderMeant};
 ghost use Rattle.line.specs.Line.{lossAt, rehearseOf, loaded, leftFlash};
 ghost use Rattle.line.specs.Paper.{paperRehearsed};
-ghost use Rattle.noisy.specs.Noisy.{rubbishAt, noisyRehearseOf, plainAnswer};
+ghost use Rattle.noisy.specs.Noisy.{rubbishAt, noisyRehearseOf};
 use crate::sessions::no_session;
 use crate::states::LoaderState;
 use crate::states::SessionState;
@@ -72,9 +72,8 @@ pub extern "C" fn gremolunde_rehearse_noisy(
 ) -> Rehearsal
     ensures { λ r. ⌜
         (let a = onBoard (boardOf board) (λ (b : Board).
-        plainAnswer (noisyRehearseOf (pagesOf b) (now (image .entry)) (now (map .entry)) (kindOf run)
-        (loaderMeant loader) (lossAt (now (losses .entry))) (rubbishAt (now (rubbish .entry)) each)
-        (now (flash .entry)))) in
+        noisyRehearseOf (pagesOf b) (now (image .entry)) (now (map .entry)) (kindOf run) (loaderMeant loader)
+        (lossAt (now (losses .entry))) (rubbishAt (now (rubbish .entry)) each) (now (flash .entry))) in
         (r ≡ rehearsedAnswer loader (loaded a)) × (now (flash .exit) ≡ leftFlash (now (flash .entry)) a))
         ⌝ }
 {

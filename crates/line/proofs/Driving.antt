@@ -1,9 +1,8 @@
 -- One turn of a load: an exchange leads from the moment after i exchanges to that after i + 1; the load ends.
-use Prim.Native.Nat.{ℕ, _+_, _≤_}
-use mathlib.Core.Bool.{true, false}
+use Prim.Native.Nat.{ℕ, _≤_}
+use mathlib.Core.Bool.{false}
 use mathlib.Core.List.{List}
 use mathlib.Core.Path.{_≡_, sym, ap, _∙_}
-use native.Mathlib.Numerals.{add-one}
 use native.Mathlib.Omega.{arith}
 use lib.ListN.{length, take}
 use lib.Seq.{length-take-le}
@@ -12,7 +11,7 @@ use Rattle.basis.specs.Refusals.{Answer, refused, given}
 use Rattle.basis.specs.Units.{startOf}
 use Rattle.line.proofs.Delivering.{Begins, overlay-begins}
 use Rattle.basis.specs.declared.kind.RunKind.{RunKind}
-use Rattle.line.specs.Laws.Moments.{going, stays, follows}
+use Rattle.line.specs.Laws.Moments.{going}
 use Rattle.line.specs.Line.{Moment, begun, between, stepped, stepsOn, exchangeOf, momentAt, loadAt, momentOn, Exchanges}
 use Rattle.line.specs.declared.exchange.Link.{Link}
 use Rattle.line.specs.declared.exchange.Loss.{Loss}
@@ -49,24 +48,6 @@ module _ (board : ℕ) (image m : List ℕ) (o : Loss) (link : Link) (before old
         record { loader = x .loader-is i; flash = x .flash-is i; session = x .session-is i; wire = wire i }
 
 -- ---- turns
-
-module _ (board : ℕ) (image m : List ℕ) (losses : ℕ → Loss) (start : Moment) where
-  pub done : (kind : RunKind) (i : ℕ) (x : Moment) → x ≡ momentAt board image m losses start i
-      → i ≤ total board m kind + 1
-      → ended (x .session .phase) ≡ true → momentAt board image m losses start (total board m kind + 1) ≡ x
-  done kind i x e b t =
-      stays board image m losses start i (total board m kind + 1) b
-      (sym (ap (λ (y : Moment). ended (y .session .phase)) e) ∙ t) ∙ sym e
-
-  pub again : (i : ℕ) (x : Moment) (o : Loss) → x ≡ momentAt board image m losses start i
-      → ended (x .session .phase) ≡ false → o ≡ losses i
-      → exchangeOf board image m o x ≡ momentAt board image m losses start (i + 1)
-  again i x o e t q =
-      rw add-one
-      (ap (λ (y : Loss). exchangeOf board image m y x) q
-      ∙ ap (exchangeOf board image m (losses i)) e
-      ∙ sym (follows board image m losses start i
-      (sym (ap (λ (y : Moment). ended (y .session .phase)) e) ∙ t)))
 
 module _ (board : ℕ) (few : board ≤ 255) (image m before : List ℕ) (file : Loadable board image m)
     (bytes : Bytes image) (kind : RunKind) (l : Loader) (size : length before ≡ startOf board)

@@ -3,6 +3,7 @@ pub mod Exchange
 pub mod Safety
 pub mod Stages
 pub mod Liveness
+pub mod Turns
 pub mod Moments
 pub mod Demand
 pub mod Carried

@@ -105,8 +105,8 @@ lossOf b = pick (eqb b 0) Loss.Whole (pick (eqb b 1) Loss.Lost Loss.Unanswered)
 abbrev pub lossAt : List ℕ → ℕ → Loss
 lossAt s i = lossOf (getD s i 0)
 
--- what a load comes to, over a file and a flash: 20, 32 for an empty map, else x
-unfoldable pub rehearsing : {A : Type 0} → ℕ → List ℕ → List ℕ → List ℕ → A → Answer A
+-- what a load comes to, over a file and a flash: 20, 32 for an empty map, else the moment at its end
+unfoldable pub rehearsing : ℕ → List ℕ → List ℕ → List ℕ → Moment → Answer Moment
 rehearsing board image m f x =
     first
     (20 when

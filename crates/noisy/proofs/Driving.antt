@@ -1,10 +1,9 @@
 -- One turn of a load: its rubbish, and the exchange that leads from the moment after i to that after i + 1.
 use Prim.Native.Nat.{ℕ, _+_, _-_, _*_, _≤_}
-use mathlib.Core.Bool.{true, false}
+use mathlib.Core.Bool.{false}
 use mathlib.Core.List.{List}
 use mathlib.Core.Path.{_≡_, sym, ap, _∙_}
 use native.Mathlib.Nat.{add-mul, one-mul}
-use native.Mathlib.Numerals.{add-one}
 use native.Mathlib.Omega.{arith}
 use borrow.Author.Tests.{ltb-true, ltb-false}
 use lib.Dec.{ltb}
@@ -15,8 +14,7 @@ use Rattle.basis.specs.declared.kind.RunKind.{RunKind}
 use Rattle.line.specs.declared.exchange.Loss.{Loss}
 use Rattle.loader.specs.declared.state.Loader.{Loader}
 use Rattle.noisy.specs.Laws.Ending.{noisy-going}
-use Rattle.noisy.specs.Laws.Moments.{noisy-stays, noisy-follows}
-use Rattle.noisy.specs.Noisy.{NoisyMoment, begunNoisy, noisyExchangeOf, noisyAt, noisyLoadAt, rubbishAt, endOf}
+use Rattle.noisy.specs.Noisy.{NoisyMoment, begunNoisy, noisyAt, noisyLoadAt, rubbishAt, endOf}
 use Rattle.order.specs.Plan.{total}
 use Rattle.session.specs.Phases.{ended}
 use Rattle.session.specs.Session.{Loadable}
@@ -76,24 +74,6 @@ module _ (s : List ℕ) (at each : ℕ) (from : at ≤ length s) where
 -- ---- turns
 
 module _ (board : ℕ) (image m : List ℕ) (losses : ℕ → Loss) (z : ℕ → List ℕ) (start : NoisyMoment) where
-  pub done : (kind : RunKind) (i : ℕ) (x : NoisyMoment) → x ≡ noisyAt board image m losses z start i
-      → i ≤ total board m kind + 1 → ended (x .session .phase) ≡ true
-      → noisyAt board image m losses z start (total board m kind + 1) ≡ x
-  done kind i x e b t =
-      noisy-stays board image m losses z start i (total board m kind + 1) b
-      (sym (ap (λ (y : NoisyMoment). ended (y .session .phase)) e) ∙ t) ∙ sym e
-
-  pub again : (i : ℕ) (x : NoisyMoment) (o : Loss) (w : List ℕ) → x ≡ noisyAt board image m losses z start i
-      → ended (x .session .phase) ≡ false → o ≡ losses i → w ≡ z i
-      → noisyExchangeOf board image m o w x ≡ noisyAt board image m losses z start (i + 1)
-  again i x o w e t q r =
-      rw add-one
-      (ap (λ (y : Loss). noisyExchangeOf board image m y w x) q
-      ∙ ap (λ (y : List ℕ). noisyExchangeOf board image m (losses i) y x) r
-      ∙ ap (noisyExchangeOf board image m (losses i) (z i)) e
-      ∙ sym (noisy-follows board image m losses z start i
-      (sym (ap (λ (y : NoisyMoment). ended (y .session .phase)) e) ∙ t)))
-
   pub not-past : Loadable board image m → (kind : RunKind) (l : Loader) (before : List ℕ)
       → start ≡ begunNoisy board m kind l before → (i : ℕ) (x : NoisyMoment)
       → x ≡ noisyAt board image m losses z start i → ended (x .session .phase) ≡ false

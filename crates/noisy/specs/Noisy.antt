@@ -100,18 +100,15 @@ noisyLoadAt board image m kind l losses z before n =
 abbrev pub rubbishAt : List ℕ → ℕ → ℕ → List ℕ
 rubbishAt s each i = take each (drop (i * each) s)
 
--- a rehearsal: what stands after one exchange for the opening byte and one for each packet
+-- a rehearsal: what stands after one exchange for the opening byte and one for each packet, without the
+-- receiver
 unfoldable pub noisyRehearseOf : ℕ → List ℕ → List ℕ → RunKind → Loader → (ℕ → Loss) → (ℕ → List ℕ) → List ℕ
-    → Answer NoisyMoment
+    → Answer Moment
 noisyRehearseOf board image m kind l losses z f =
-    rehearsing board image m f (noisyLoadAt board image m kind l losses z f (total board m kind + 1))
+    rehearsing board image m f
+    (plainly (noisyLoadAt board image m kind l losses z f (total board m kind + 1)))
 
 -- ---- what the laws speak by
-
--- an answer without the receiver
-abbrev pub plainAnswer : Answer NoisyMoment → Answer Moment
-plainAnswer (refused n) = refused n
-plainAnswer (given x) = given (plainly x)
 
 -- no byte that opens the board
 abbrev pub NoOpening : List ℕ → Type 0

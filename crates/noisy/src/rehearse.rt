@@ -7,7 +7,7 @@ ghost use Rattle.basis.specs.Board.{answerMost, pagesOf};
 ghost use Rattle.basis.specs.Units.{startOf};
 ghost use Rattle.line.specs.Line.{lossAt, Lent, Rehearses};
 ghost use Rattle.line.specs.Paper.{paperRehearsed};
-ghost use Rattle.noisy.specs.Noisy.{begunNoisy, noisyAt, rubbishAt, noisyRehearseOf, plainAnswer, heardMost, endOf, noisyOn};
+ghost use Rattle.noisy.specs.Noisy.{begunNoisy, noisyAt, rubbishAt, noisyRehearseOf, heardMost, endOf, noisyOn};
 ghost use Rattle.order.specs.Plan.{total};
 ghost use Rattle.packet.specs.Packet.{packetMost};
 ghost use Rattle.runs.specs.Pieces.{namedCount};
@@ -45,7 +45,7 @@ pub fn rehearse(
     ensures { λ r. ⌜
         (let x = noisyRehearseOf (pagesOf board) (now (image .entry)) (now (map .entry)) kind loader
         (lossAt (now (losses .entry))) (rubbishAt (now (rubbish .entry)) each) (now (flash .entry)) in
-        Rehearses (plainAnswer x) (now (flash .entry)) (paperRehearsed r) (now (flash .exit)))
+        Rehearses x (now (flash .entry)) (paperRehearsed r) (now (flash .exit)))
         ⌝ }
 {
     let size = board.size();
@@ -95,7 +95,7 @@ fn begin(
     ensures { λ r. ⌜
         (let x = noisyRehearseOf (pagesOf board) (now (image .entry)) (now (map .entry)) kind loader
         (lossAt (now (losses .entry))) (rubbishAt (now (rubbish .entry)) each) (now (flash .entry)) in
-        Rehearses (plainAnswer x) (now (flash .entry)) (paperRehearsed r) (now (flash .exit)))
+        Rehearses x (now (flash .entry)) (paperRehearsed r) (now (flash .exit)))
         ⌝ }
 {
     match Session::start(board, kind, image, map, packet) {

@@ -5,8 +5,8 @@ use mathlib.Core.Bool.{Bool, true, false}
 use mathlib.Core.List.{List, [], _∷_}
 use mathlib.Core.Path.{_≡_, refl, sym, ap, subst, _∙_}
 use native.Mathlib.Omega.{arith}
-use borrow.Author.Tests.{eqb-true, eqb-false, ltb-true, ltb-false}
-use lib.Dec.{eqb, ltb}
+use borrow.Author.Tests.{ltb-true, ltb-false}
+use lib.Dec.{ltb}
 use lib.ListN.{length}
 use Rattle.basis.specs.Board.{openingByte}
 use Rattle.basis.specs.Choice.{pick}
@@ -26,6 +26,7 @@ use Rattle.line.specs.Laws.Exchange.{silence-is, let-acked, opened, stan
 use Rattle.line.specs.Laws.Liveness.{Grows, Lets, lets}
 use Rattle.line.specs.Laws.Safety.{serving, serving-serves, board-greets}
 use Rattle.line.specs.Laws.Stages.{Holds, Stage, starts, stands, ends, stage, served-holds, opening-holds, first-flash}
+use Rattle.line.specs.Laws.Turns.{turns-stay, turn-follows, turns-done, turns-again}
 use Rattle.line.specs.Line.{Moment, momentWith, begun, loaderTakes, between, reply, eventFrom, exchangeOf, momentAt, loadAt}
 use Rattle.line.specs.declared.exchange.Loss.{Loss}
 use Rattle.loader.specs.Commands.{Effect, effectAfter}
@@ -61,22 +62,33 @@ module _ (board : ℕ) (image m : List ℕ) (losses : ℕ → Loss) (x : Moment)
   abbrev at : ℕ → Moment
   at = momentAt board image m losses x
 
+  abbrev over : Moment → Bool
+  over y = ended (y .session .phase)
+
+  abbrev turn : ℕ → Moment → Moment
+  turn n = exchangeOf board image m (losses n)
+
+  next : (n : ℕ) → at (suc n) ≡ pick (over (at n)) (at n) (turn n (at n))
+  unfolding momentAt
+  next n = refl
+
   -- after the end nothing changes
   pub stays : (i n : ℕ) → i ≤ n → ended (at i .session .phase) ≡ true → at n ≡ at i
-  unfolding momentAt
-  stays i zero b h = let z : 0 ≡ i = omega arith in ap at z
-  stays i (suc n) b h =
-      decide (eqb i (suc n))
-      (λ t. ap at (sym (eqb-true i (suc n) t)))
-      (λ t. let e = stays i n (omega (arith, eqb-false i (suc n) t)) h in
-      ap (λ (y : Bool). pick y (at n) (exchangeOf board image m (losses n) (at n)))
-      (ap (λ (y : Moment). ended (y .session .phase)) e ∙ h) ∙ e)
+  stays = turns-stay over turn at next
 
   -- while the session goes on the next exchange takes place
   pub follows : (n : ℕ) → ended (at n .session .phase) ≡ false
       → at (suc n) ≡ exchangeOf board image m (losses n) (at n)
-  unfolding momentAt
-  follows n h = ap (λ (y : Bool). pick y (at n) (exchangeOf board image m (losses n) (at n))) h
+  follows = turn-follows over turn at next
+
+  -- both of a moment that stands after i exchanges
+  pub done : (k i : ℕ) (y : Moment) → y ≡ at i → i ≤ k → ended (y .session .phase) ≡ true → at k ≡ y
+  done = turns-done over turn at next
+
+  pub again : (i : ℕ) (y : Moment) (o : Loss) → y ≡ at i → ended (y .session .phase) ≡ false → o ≡ losses i
+      → exchangeOf board image m o y ≡ at (i + 1)
+  again i y o e t q =
+      ap (λ (w : Loss). exchangeOf board image m w y) q ∙ turns-again over turn at next i y e t
 
 -- ---- what flash holds makes a moment safe, if R and the verdict come late enough, and as was asked
 

@@ -21,7 +21,7 @@ use Rattle.line.specs.declared.exchange.Loss.{Loss}
 use Rattle.loader.specs.declared.state.Loader.{Loader}
 use Rattle.noisy.specs.Laws.AsWithout.{as-without, alike-at}
 use Rattle.noisy.specs.Laws.Board.{amid-alike}
-use Rattle.noisy.specs.Noisy.{NoisyMoment, plainly, boardMakes, heardOf, noisyBetween, noisyLoadAt, noisyRehearseOf, NoOpening, plainAnswer}
+use Rattle.noisy.specs.Noisy.{NoisyMoment, plainly, boardMakes, heardOf, noisyBetween, noisyLoadAt, noisyRehearseOf, NoOpening}
 use Rattle.order.specs.Plan.{total}
 use Rattle.packet.specs.Packet.{packetMost}
 use Rattle.receiver.specs.Hearing.{rubbish}
@@ -114,7 +114,7 @@ module _ (board : ℕ) (few : board ≤ 255) (image m : List ℕ) (bytes : Bytes
   abbrev none : Bool
   none = eqb (namedCount board m) 0
 
-  pub rehearsal-as-without : plainAnswer (noisyRehearseOf board image m kind l losses z f)
+  pub rehearsal-as-without : noisyRehearseOf board image m kind l losses z f
       ≡ rehearseOf board image m kind l losses f
   unfolding noisyRehearseOf rehearseOf rehearsing first
   rehearsal-as-without = go (not right) none refl refl
@@ -123,8 +123,8 @@ module _ (board : ℕ) (few : board ≤ 255) (image m : List ℕ) (bytes : Bytes
       k = total board m kind + 1
 
       go : (a b : Bool) → not right ≡ a → none ≡ b
-          → plainAnswer (pick a (refused 20) (pick b (refused 32)
-          (given (noisyLoadAt board image m kind l losses z f k))))
+          → pick a (refused 20) (pick b (refused 32)
+          (given (plainly (noisyLoadAt board image m kind l losses z f k))))
           ≡ pick a (refused 20) (pick b (refused 32) (given (loadAt board image m kind l losses f k)))
       go true b e n = refl
       go false true e n = refl

@@ -14,7 +14,7 @@ use Rattle.basis.specs.Choice.{both}
 use Rattle.basis.specs.Laws.Choice.{decide, both-true, both-second}
 use Rattle.basis.specs.Refusals.{given}
 use Rattle.packet.specs.Laws.Packet.{packet-length, accepted}
-use Rattle.packet.specs.Packet.{startByte, nextStartByte, count, startsRight, packet, Parts, readOf}
+use Rattle.packet.specs.Packet.{startByte, nextStartByte, startsRight, packet, Parts, readOf}
 use Rattle.receiver.specs.Hearing.{Heard, gathering, hunted, hear, Fed, feed, rubbish, Whole}
 use Rattle.receiver.specs.Laws.Hearing.{hear-none, hear-other, hear-count, hear-on, hear-last}
 

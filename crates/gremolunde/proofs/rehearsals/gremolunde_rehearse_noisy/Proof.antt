@@ -6,7 +6,7 @@ use Rattle.basis.specs.Board.{pagesOf}
 use Rattle.basis.specs.declared.kind.RunKind.{RunKind}
 use Rattle.line.specs.Line.{lossAt}
 use Rattle.loader.specs.declared.state.Loader.{Loader}
-use Rattle.noisy.specs.Noisy.{rubbishAt, noisyRehearseOf, plainAnswer}
+use Rattle.noisy.specs.Noisy.{rubbishAt, noisyRehearseOf}
 use Rattle.gremolunde.proofs.Rehearsing.{told-of}
 use Rattle.gremolunde.proofs.rehearsals.gremolunde_rehearse_noisy.Statement.{statement}
 use Rattle.gremolunde.proofs.rehearsals.gremolunde_rehearse_noisy.Tie as tie
@@ -21,8 +21,8 @@ returns c =
     let b = told .known .given .0 .0 in
     rw (sym (asked .of2 .ensures) ∙ told .known .given .1)
     (told-of (λ (k : RunKind) (l : Loader).
-    plainAnswer (noisyRehearseOf (pagesOf b) (a .image .now) (a .map .now) k l (lossAt (a .losses .now))
-    (rubbishAt (a .rubbish .now) (a .each)) (a .flash .now)))
+    noisyRehearseOf (pagesOf b) (a .image .now) (a .map .now) k l (lossAt (a .losses .now))
+    (rubbishAt (a .rubbish .now) (a .each)) (a .flash .now))
     (a .loader) _ _ _ _ (meant .before .of .ensures) (meant .loader-meant .ensures) (a .flash .now) _
     (c .rehearsed-answer .ensures) (call .rehearse .ensures))
 

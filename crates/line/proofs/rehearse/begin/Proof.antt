@@ -2,9 +2,10 @@
 use mathlib.Core.Path.{sym, ap, _∙_}
 use native.Mathlib.Omega.{arith}
 use borrow.Author.Needs.{needs}
-use Rattle.line.proofs.Beginning.{begun-moment, begun-again, start-refused, driven}
+use Rattle.line.proofs.Beginning.{begun-again, begun-load}
 use Rattle.basis.specs.Board.{pagesOf}
-use Rattle.line.specs.Line.{lossAt}
+use Rattle.line.specs.Laws.Rehearsing.{start-refused, start-driven}
+use Rattle.line.specs.Line.{lossAt, rehearseOf}
 use Rattle.session.specs.Laws.Steps.{starting}
 use Rattle.session.specs.Paper.{paperStepped}
 use Rattle.session.specs.declared.session.Next.{Next}
@@ -37,15 +38,17 @@ drive-requires c κs =
     )
 
 returns : tie.Need-returns
+unfolding rehearseOf
 returns c =
     let t = c .before .before .before .before .before in
     let s = entry t in
     let a = s .args in
-    start-refused (pagesOf (a .board)) (a .image .now) (a .map .now) (a .kind) (a .loader)
-    (lossAt (a .losses .now)) (a .flash .now) (s .pre .0) (s .pre .1)
+    start-refused (pagesOf (a .board)) (a .image .now) (a .map .now) (a .flash .now) _ (s .pre .0) (a .kind) _
+    (s .pre .1)
     (ap paperStepped (sym (c .before .why .given .1)) ∙ t .start .ensures .0)
 
 returns-2 : tie.Need-returns-2
+unfolding rehearseOf
 returns-2 c =
     let d = c .before .before .before .before .before .before .before .before in
     let r = d .before .before .before .before in
@@ -55,9 +58,10 @@ returns-2 c =
     let a = s .args in
     let b = starting (pagesOf (a .board)) (a .image .now) (a .map .now) _ (a .kind) _
     (ap paperStepped (sym (n .next .given .1)) ∙ t .start .ensures .0) in
-    driven (pagesOf (a .board)) (a .image .now) (a .map .now) (a .kind) (a .loader) (lossAt (a .losses .now))
-    (a .flash .now) (s .pre .0) (s .pre .1) b _ _ _
-    (begun-moment b (a .loader) _ (r .reset .ensures) (a .flash .now) _ _ (t .start .ensures .1))
+    start-driven (pagesOf (a .board)) (a .image .now) (a .map .now) (a .flash .now) _ (s .pre .0) (a .kind) _
+    (s .pre .1) (b .started-is) _ _ _
+    (begun-load b (a .loader) _ (r .reset .ensures) (a .flash .now) _ _ (t .start .ensures .1)
+    (lossAt (a .losses .now)))
     (d .drive .ensures)
 
 pub begin-spec : {M : Type 1} → statement M

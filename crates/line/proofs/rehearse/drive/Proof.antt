@@ -8,7 +8,8 @@ use borrow.Author.Tests.{not-true, not-false}
 use lib.ListN.{length}
 use Rattle.basis.specs.Board.{pagesOf}
 use Rattle.basis.specs.Laws.Boards.{pages-few}
-use Rattle.line.proofs.Driving.{len-fits, exchanged, not-past, done, again}
+use Rattle.line.proofs.Driving.{len-fits, exchanged, not-past}
+use Rattle.line.specs.Laws.Moments.{done, again}
 use Rattle.line.specs.Line.{Moment, Lent, lossAt, momentAt, momentOn}
 use Rattle.order.specs.Laws.Totals.{total-most}
 use Rattle.order.specs.Plan.{total}
@@ -123,7 +124,7 @@ returns c =
     let l = c .before .before .loop in
     let t = not-false _ (sym (c .before .is-open .ensures) ∙ c .if1 .left) in
     let e = done (pagesOf (a .board)) (a .image .now) (a .map .now) (lossAt (a .losses .now)) _
-    (a .first .session .kind) (l .i) _
+    (total (pagesOf (a .board)) (a .map .now) (a .first .session .kind) + 1) (l .i) _
     (l .inv .3) (l .inv .2) t in (
       sym (ap (λ (x : Moment). x .loader) e),
       sym (ap (λ (x : Moment). x .session) e),

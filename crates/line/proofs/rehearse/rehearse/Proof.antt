@@ -1,15 +1,16 @@
 -- `rehearse` meets its contract: the size of flash, then the rest.
 use borrow.Author.Needs.{needs}
-use Rattle.line.proofs.Beginning.{flash-refused}
-use Rattle.line.specs.Line.{lossAt}
+use Rattle.line.specs.Laws.Rehearsing.{flash-refused}
+use Rattle.line.specs.Line.{rehearseOf}
 use Rattle.line.proofs.rehearse.rehearse.Statement.{statement}
 use Rattle.line.proofs.rehearse.rehearse.Tie as tie
 
 returns : tie.Need-returns
+unfolding rehearseOf
 returns c =
     let a = c .before .before .before .before .before .before .args in
-    flash-refused _ (a .image .now) (a .map .now) (a .kind) (a .loader) (lossAt (a .losses .now))
-    (a .flash .now) (rw (c .before .size .ensures .0) at (c .if1 .taken))
+    flash-refused _ (a .image .now) (a .map .now) (a .flash .now) _
+    (rw (c .before .size .ensures .0) at (c .if1 .taken))
 
 pub rehearse-spec : {M : Type 1} → statement M
 rehearse-spec =

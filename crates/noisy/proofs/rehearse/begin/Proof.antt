@@ -3,9 +3,11 @@ use mathlib.Core.Path.{sym, ap, _∙_}
 use native.Mathlib.Omega.{arith}
 use borrow.Author.Needs.{needs}
 use Rattle.basis.specs.Board.{pagesOf}
+use Rattle.line.specs.Laws.Rehearsing.{start-refused, start-driven}
 use Rattle.line.specs.Line.{lossAt}
-use Rattle.noisy.proofs.Beginning.{begun-moment, begun-again, start-refused, driven}
-use Rattle.noisy.specs.Noisy.{rubbishAt}
+use Rattle.noisy.proofs.Beginning.{begun-again, begun-load}
+use Rattle.noisy.specs.Noisy.{rubbishAt, noisyRehearseOf}
+use Rattle.port.specs.declared.port.Port.{Port}
 use Rattle.session.specs.Laws.Steps.{starting}
 use Rattle.session.specs.Paper.{paperStepped}
 use Rattle.session.specs.declared.session.Next.{Next}
@@ -40,12 +42,13 @@ drive-requires c κs =
     )
 
 returns : tie.Need-returns
+unfolding noisyRehearseOf
 returns c =
     let t = c .before .before .before .before .before in
     let s = entry t in
     let a = s .args in
-    start-refused (pagesOf (a .board)) (a .image .now) (a .map .now) (a .kind) (a .loader)
-    (lossAt (a .losses .now)) (rubbishAt (a .rubbish .now) (a .each)) (a .flash .now) (s .pre .0) (s .pre .1)
+    start-refused (pagesOf (a .board)) (a .image .now) (a .map .now) (a .flash .now) _ (s .pre .0) (a .kind) _
+    (s .pre .1)
     (ap paperStepped (sym (c .before .why .given .1)) ∙ t .start .ensures .0)
 
 -- the driving, and the start before it, seen from the end
@@ -61,6 +64,7 @@ same-length-3 c =
     ∙ next-at c .before .before .before .before .start .kept .1 .1 .1 .1 .0
 
 returns-2 : tie.Need-returns-2
+unfolding noisyRehearseOf
 returns-2 c =
     let d = drive-at c in
     let w = d .before .before .before .before .before in
@@ -70,11 +74,12 @@ returns-2 c =
     let a = s .args in
     let b = starting (pagesOf (a .board)) (a .image .now) (a .map .now) _ (a .kind) _
     (ap paperStepped (sym (n .next .given .1)) ∙ t .start .ensures .0) in
-    driven (pagesOf (a .board)) (a .image .now) (a .map .now) (a .kind) (a .loader) (lossAt (a .losses .now))
-    (rubbishAt (a .rubbish .now) (a .each)) (a .flash .now) (s .pre .0) (s .pre .1) b _ _ _ _
-    (begun-moment b (a .loader) _ (w .before .reset .ensures) _ (w .new .ensures) (a .flash .now) _ _
-    (t .start .ensures .1))
-    (d .drive .ensures)
+    let e = d .drive .ensures in
+    start-driven (pagesOf (a .board)) (a .image .now) (a .map .now) (a .flash .now) _ (s .pre .0) (a .kind) _
+    (s .pre .1) (b .started-is) _ _ _
+    (begun-load b (a .loader) _ (w .before .reset .ensures) _ (w .new .ensures) (a .flash .now) _ _
+    (t .start .ensures .1) (lossAt (a .losses .now)) (rubbishAt (a .rubbish .now) (a .each)))
+    (ap (λ (p : Port). p .loader) (e .0), e .1, e .2)
 
 pub begin-spec : {M : Type 1} → statement M
 begin-spec =

@@ -10,7 +10,8 @@ use lib.ListN.{length, drop}
 use Rattle.basis.specs.Board.{pagesOf}
 use Rattle.basis.specs.Laws.Boards.{pages-few}
 use Rattle.line.specs.Line.{Lent, lossAt}
-use Rattle.noisy.proofs.Driving.{end-in, end-bytes, end-rest, done, again, not-past}
+use Rattle.noisy.proofs.Driving.{end-in, end-bytes, end-rest, not-past}
+use Rattle.noisy.specs.Laws.Moments.{noisy-done, noisy-again}
 use Rattle.noisy.specs.Noisy.{NoisyMoment, noisyAt, rubbishAt, heardMost, noisyOn}
 use Rattle.order.specs.Laws.Totals.{total-most}
 use Rattle.order.specs.Plan.{total}
@@ -132,7 +133,7 @@ loop-again c =
       omega (arith, e .exchange .ensures .len-fits, k .1 .0, n .packet-size),
       omega arith,
       e .exchange .ensures .moment-is
-          ∙ again (pagesOf (a .board)) (a .image .now) (a .map .now) (lossAt (a .losses .now))
+          ∙ noisy-again (pagesOf (a .board)) (a .image .now) (a .map .now) (lossAt (a .losses .now))
           (rubbishAt (a .rubbish .now) (a .each)) _ (l .i) _ _ _ (l .inv .4) (open-yet t)
           (d .before .at .ensures)
           (end-bytes (a .rubbish .now) (l .at) (a .each) (l .inv .5) _ (d .end-of .ensures) (l .i)
@@ -146,8 +147,9 @@ returns c =
     let a = entry (c .before .before) .args in
     let l = c .before .before .loop in
     let t = not-false _ (sym (c .before .is-open .ensures) ∙ c .if1 .left) in
-    let e = done (pagesOf (a .board)) (a .image .now) (a .map .now) (lossAt (a .losses .now))
-    (rubbishAt (a .rubbish .now) (a .each)) _ (a .start .session .kind) (l .i) _
+    let e = noisy-done (pagesOf (a .board)) (a .image .now) (a .map .now) (lossAt (a .losses .now))
+    (rubbishAt (a .rubbish .now) (a .each)) _
+    (total (pagesOf (a .board)) (a .map .now) (a .start .session .kind) + 1) (l .i) _
     (l .inv .4) (l .inv .3) t in (
       sym (ap (λ (x : NoisyMoment). x .port) e),
       sym (ap (λ (x : NoisyMoment). x .session) e),

@@ -1,16 +1,15 @@
 -- `rehearse` meets its contract: the size of flash, then the rest.
 use borrow.Author.Needs.{needs}
-use Rattle.line.specs.Line.{lossAt}
-use Rattle.noisy.proofs.Beginning.{flash-refused}
-use Rattle.noisy.specs.Noisy.{rubbishAt}
+use Rattle.line.specs.Laws.Rehearsing.{flash-refused}
+use Rattle.noisy.specs.Noisy.{noisyRehearseOf}
 use Rattle.noisy.proofs.rehearse.rehearse.Statement.{statement}
 use Rattle.noisy.proofs.rehearse.rehearse.Tie as tie
 
 returns : tie.Need-returns
+unfolding noisyRehearseOf
 returns c =
     let a = c .before .before .before .before .before .before .before .args in
-    flash-refused _ (a .image .now) (a .map .now) (a .kind) (a .loader) (lossAt (a .losses .now))
-    (rubbishAt (a .rubbish .now) (a .each)) (a .flash .now)
+    flash-refused _ (a .image .now) (a .map .now) (a .flash .now) _
     (rw (c .before .size .ensures .0) at (c .if1 .taken))
 
 pub rehearse-spec : {M : Type 1} → statement M
