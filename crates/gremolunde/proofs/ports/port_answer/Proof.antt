@@ -1,3 +1,4 @@
+-- `port_answer` meets its contract: the loader as after an input, the receiver as it moved on.
 use mathlib.Core.Path.{ap}
 use borrow.Author.Needs.{needs}
 use Rattle.gremolunde.specs.Answers.{portShownAs}

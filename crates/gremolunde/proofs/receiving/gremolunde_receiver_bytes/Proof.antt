@@ -1,3 +1,4 @@
+-- `gremolunde_receiver_bytes` meets its contract: it is the stretch, its answer as C gets it.
 use mathlib.Core.Path.{ap}
 use borrow.Author.Needs.{needs}
 use Rattle.gremolunde.specs.Answers.{receivedAnswer}

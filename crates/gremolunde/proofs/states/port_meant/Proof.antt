@@ -1,3 +1,4 @@
+-- `port_meant` meets its contract: the loader as it is meant, the receiver as it is.
 use borrow.Author.Needs.{needs}
 use Rattle.gremolunde.proofs.states.port_meant.Statement.{statement}
 use Rattle.gremolunde.proofs.states.port_meant.Tie as tie

@@ -1,9 +1,13 @@
 -- `deliver` meets its contract: the rubbish goes in, then the packet unless it is lost.
-use mathlib.Core.Path.{_∙_}
+use Prim.Native.Nat.{_≤_}
+use mathlib.Core.Path.{_≡_, _∙_}
 use native.Mathlib.Omega.{arith}
 use borrow.Author.Needs.{needs}
-use Rattle.basis.specs.Board.{pagesOf}
+use lib.ListN.{length}
+use Rattle.basis.specs.Board.{answerMost, pagesOf}
+use Rattle.basis.specs.Units.{startOf}
 use Rattle.noisy.proofs.Joining.{joins-both, whole, lost, unanswered}
+use Rattle.noisy.specs.Noisy.{heardMost}
 use Rattle.noisy.proofs.exchange.deliver.Statement.{statement}
 use Rattle.noisy.proofs.exchange.deliver.Tie as tie
 
@@ -20,9 +24,14 @@ feed-requires c κs =
     let s = c .before .before .before .before .before .before .before .before in
     (s .pre .0, s .pre .1, s .pre .2, omega arith)
 
-feed-requires-2 : tie.Need-feed-requires-2
-feed-requires-2 c κs =
-    let r = fed (c .before .before .before .before .before) in
+-- after it all buffers have their sizes still
+lent : (c : tie.After-behind)
+    → (let r = fed c in
+    let x = r .feed .last .1 .1 .1 .1 in
+    (length (x .0) ≡ startOf (pagesOf (entry r .args .board))) × (length (x .1 .0) ≡ answerMost)
+    × (length (x .1 .1 .0) ≡ heardMost) × (r .feed .result .heard ≤ heardMost))
+lent c =
+    let r = fed c in
     let p = entry r .pre in
     let k = r .feed .kept .1 .1 .1 .1 in (
       k .0 ∙ p .0,
@@ -31,16 +40,11 @@ feed-requires-2 c κs =
       omega (arith, r .feed .ensures .heard-fits, k .1 .1 .0, p .2),
     )
 
+feed-requires-2 : tie.Need-feed-requires-2
+feed-requires-2 c κs = lent (c .before .before .before .before .before)
+
 feed-requires-3 : tie.Need-feed-requires-3
-feed-requires-3 c κs =
-    let r = fed (c .before .before .before .before .before) in
-    let p = entry r .pre in
-    let k = r .feed .kept .1 .1 .1 .1 in (
-      k .0 ∙ p .0,
-      k .1 .0 ∙ p .1,
-      k .1 .1 .0 ∙ p .2,
-      omega (arith, r .feed .ensures .heard-fits, k .1 .1 .0, p .2),
-    )
+feed-requires-3 c κs = lent (c .before .before .before .before .before)
 
 returns : tie.Need-returns
 returns c =

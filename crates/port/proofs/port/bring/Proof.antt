@@ -1,3 +1,4 @@
+-- `bring` meets its contract: what the loader takes and answers is the port's.
 use mathlib.Core.Path.{refl, ap}
 use borrow.Author.Needs.{needs}
 use Rattle.loader.specs.declared.state.Loader.{Loader}

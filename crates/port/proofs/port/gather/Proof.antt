@@ -1,3 +1,4 @@
+-- `gather` meets its contract: what the bytes come to is what the receiver made of them.
 use Prim.Native.Nat.{_≤_}
 use mathlib.Core.Path.{_≡_, sym, ap, _∙_}
 use native.Mathlib.Omega.{arith}
@@ -12,7 +13,7 @@ use Rattle.receiver.specs.declared.receiver.Stretch.{Stretch}
 use Rattle.port.proofs.port.gather.Statement.{statement}
 use Rattle.port.proofs.port.gather.Tie as tie
 
--- what the bytes come to is what the receiver made of them
+-- the entry, as the receiver's stretch looks back to it
 abbrev entry : tie.After-bytes → tie.Start
 entry c = c .before .before .before .before
 
@@ -22,6 +23,7 @@ turn c x =
     let a = c .args in
     through (pagesOf (a .board)) (length (a .answer .now)) (a .loader) (a .flash .now) x
 
+-- it is the turn of what the receiver made of the bytes
 came : (c : tie.After-bytes) → let s = entry c in
     turn s (bytesOf (s .args .receiver) (s .args .bytes .now)) ≡ turn s (c .bytes .result)
 came c = ap (turn (entry c)) (sym (c .bytes .ensures .0))

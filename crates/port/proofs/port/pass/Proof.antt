@@ -1,3 +1,4 @@
+-- `pass` meets its contract: no byte came, or the first goes to the loader as it comes.
 use mathlib.Core.Path.{sym, ap, _∙_}
 use native.Mathlib.Omega.{arith}
 use borrow.Author.Needs.{needs}

@@ -1,3 +1,4 @@
+-- `serve` meets its contract: the two sizes, then the bytes go to the receiver or to the loader.
 use mathlib.Core.Path.{_≡_, sym, ap, _∙_}
 use borrow.Author.Needs.{needs}
 use lib.ListN.{length}
@@ -9,6 +10,7 @@ use Rattle.port.specs.Port.{Turn, turnOf, portOf, turnAfter}
 use Rattle.port.proofs.port.Port.serve.Statement.{statement}
 use Rattle.port.proofs.port.Port.serve.Tie as tie
 
+-- the entry, as the copy of the receiver looks back to it
 abbrev entry : tie.After-receiver → tie.Start
 entry c = c .before .before .before .before .before .before
 

@@ -1,3 +1,4 @@
+-- `gather` meets its contract: one byte is stored behind what is gathered.
 use mathlib.Core.Path.{_≡_}
 use borrow.Author.Needs.{needs}
 use lib.ListN.{length}

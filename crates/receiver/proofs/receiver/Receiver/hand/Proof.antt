@@ -1,3 +1,4 @@
+-- `hand` meets its contract: all that is gathered, and then nothing is.
 use borrow.Author.Needs.{needs}
 use Rattle.receiver.proofs.receiver.Receiver.hand.Statement.{statement}
 use Rattle.receiver.proofs.receiver.Receiver.hand.Tie as tie

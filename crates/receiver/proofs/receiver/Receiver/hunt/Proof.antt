@@ -1,3 +1,4 @@
+-- `hunt` meets its contract: a start byte is stored first, any other leaves every byte.
 use mathlib.Core.Path.{_≡_}
 use native.Mathlib.Omega.{arith}
 use borrow.Author.Needs.{needs}
@@ -14,8 +15,7 @@ returns c =
     let l : length (c .before .args .t1 .bytes) ≡ 259 = search needs in
     rw (
       eq-eqb (c .before .args .b) startByte (c .if1 .taken),
-      gathers (r .bytes) 0 (c .before .args .b)
-          (omega arith),
+      gathers (r .bytes) 0 (c .before .args .b) (omega arith),
     )
 
 returns-2 : tie.Need-returns-2
