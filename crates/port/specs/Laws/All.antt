@@ -69,19 +69,23 @@ module _ (board room : ℕ) where
 
 -- ---- the loader serves: what it gets is what the receiver hands on
 
--- the loader gets nothing: it and flash are as they were, and nothing is answered
-pub record Idles (l : Loader) (f g : List ℕ) (a : All) : Type 0 where
+-- loader and flash, the answers, and what is gathered then
+pub record Leaves (l : Loader) (f answers g : List ℕ) (a : All) : Type 0 where
   pub loader-is : a .port .loader ≡ l
   pub flash-is : a .flash ≡ f
-  pub answers-is : a .answers ≡ []
+  pub answers-is : a .answers ≡ answers
   pub gathered-is : gathered (a .port .receiver) ≡ g
 
+-- the loader gets nothing: it and flash are as they were, and nothing is answered
+abbrev pub Idles : Loader → List ℕ → List ℕ → All → Type 0
+Idles l f g a = Leaves l f [] g a
+
 -- the loader gets one input
-pub record Brings (board room : ℕ) (l : Loader) (f w g : List ℕ) (a : All) : Type 0 where
-  pub loader-is : a .port .loader ≡ effectAfter l f (takeOf board l w f room) .loader
-  pub flash-is : a .flash ≡ effectAfter l f (takeOf board l w f room) .flash
-  pub answers-is : a .answers ≡ answerBytes board l (takeOf board l w f room)
-  pub gathered-is : gathered (a .port .receiver) ≡ g
+abbrev pub Brings : ℕ → ℕ → Loader → List ℕ → List ℕ → List ℕ → All → Type 0
+Brings board room l f w g a =
+    let x = takeOf board l w f room in
+    let e = effectAfter l f x in
+    Leaves (e .loader) (e .flash) (answerBytes board l x) g a
 
 module _ (board room : ℕ) (l : Loader) (c : l .condition ≡ Serving) where
   abbrev portWith : Receiver → Port
@@ -115,6 +119,13 @@ module _ (board room : ℕ) (l : Loader) (c : l .condition ≡ Serving) where
         all-first board room (portWith r) f b s
         ∙ ap (λ (t : Turn). andThen board room (ofTurn t) s) (byte-still e)
 
+    -- what the bytes behind it leave, all leave
+    on-leaves : (s : List ℕ) {k : Loader} {h answers : List ℕ} → hear (gathered r) b .packet ≡ []
+        → Leaves k h answers (feed (gathered next) s .gathered) (allOf board room (portWith next) f s)
+        → Leaves k h answers (feed (gathered r) (b ∷ s) .gathered) (allOf board room (portWith r) f (b ∷ s))
+    unfolding feed
+    on-leaves s e i = rw (byte-on s e) (rw (byte-gathered r b) at i)
+
   -- nothing is handed on
   pub all-idle : (s : List ℕ) (r : Receiver) (f : List ℕ) → feed (gathered r) s .handed ≡ nothing (length s)
       → Idles l f (feed (gathered r) s .gathered) (allOf board room (portWith r) f s)
@@ -123,14 +134,7 @@ module _ (board room : ℕ) (l : Loader) (c : l .condition ≡ Serving) where
   all-idle (b ∷ s) r f e =
       let q : hear (gathered r) b .packet ≡ [] = cc in
       let t : feed (hear (gathered r) b .gathered) s .handed ≡ nothing (length s) = cc in
-      let i = all-idle s (next r f b) f (rw (byte-gathered r b) t) in
-      rw (byte-still r f b q)
-      (record {
-        loader-is = i .loader-is;
-        flash-is = i .flash-is;
-        answers-is = i .answers-is;
-        gathered-is = rw (byte-gathered r b) at (i .gathered-is);
-      })
+      on-leaves r f b s q (all-idle s (next r f b) f (rw (byte-gathered r b) t))
 
   -- one packet is handed on, at the last byte
   pub all-brings : (s : List ℕ) (r : Receiver) (f w : List ℕ) (k : ℕ) → (w ≡ [] → ⊥)
@@ -152,14 +156,7 @@ module _ (board room : ℕ) (l : Loader) (c : l .condition ≡ Serving) where
   all-brings (b ∷ s) r f w (suc k) n e =
       let q : hear (gathered r) b .packet ≡ [] = cc in
       let t : feed (hear (gathered r) b .gathered) s .handed ≡ nothing k ++ (w ∷ []) = cc in
-      let i = all-brings s (next r f b) f w k n (rw (byte-gathered r b) t) in
-      rw (byte-still r f b q)
-      (record {
-        loader-is = i .loader-is;
-        flash-is = i .flash-is;
-        answers-is = i .answers-is;
-        gathered-is = rw (byte-gathered r b) at (i .gathered-is);
-      })
+      on-leaves r f b s q (all-brings s (next r f b) f w k n (rw (byte-gathered r b) t))
 
 -- ---- rubbish and then the opening byte
 
