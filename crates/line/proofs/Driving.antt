@@ -1,4 +1,4 @@
--- One turn of a load: an exchange leads from the moment after i exchanges to that after i + 1; the load ends.
+-- One turn of a load: after an exchange the buffer holds what is on the wire; and turns are not too many.
 use Prim.Native.Nat.{ℕ, _≤_}
 use mathlib.Core.Bool.{false}
 use mathlib.Core.List.{List}
@@ -47,7 +47,7 @@ module _ (board : ℕ) (image m : List ℕ) (o : Loss) (link : Link) (before old
     exchanged = λ i.
         record { loader = x .loader-is i; flash = x .flash-is i; session = x .session-is i; wire = wire i }
 
--- ---- turns
+-- ---- a session that goes on has not had its last turn
 
 module _ (board : ℕ) (few : board ≤ 255) (image m before : List ℕ) (file : Loadable board image m)
     (bytes : Bytes image) (kind : RunKind) (l : Loader) (size : length before ≡ startOf board)

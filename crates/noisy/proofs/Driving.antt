@@ -1,4 +1,4 @@
--- One turn of a load: its rubbish, and the exchange that leads from the moment after i to that after i + 1.
+-- One turn of a load: where its rubbish ends, and which bytes it has; and turns are not too many.
 use Prim.Native.Nat.{ℕ, _+_, _-_, _*_, _≤_}
 use mathlib.Core.Bool.{false}
 use mathlib.Core.List.{List}
@@ -71,7 +71,7 @@ module _ (s : List ℕ) (at each : ℕ) (from : at ≤ length s) where
           rw is (ends .rest) ∙ ap (drop each) same ∙ drop-drop each (i * each) s
           ∙ ap (λ (k : ℕ). drop k s) (sym n)
 
--- ---- turns
+-- ---- a session that goes on has not had its last turn
 
 module _ (board : ℕ) (image m : List ℕ) (losses : ℕ → Loss) (z : ℕ → List ℕ) (start : NoisyMoment) where
   pub not-past : Loadable board image m → (kind : RunKind) (l : Loader) (before : List ℕ)
