@@ -28,6 +28,10 @@ asked RunKind.Hold = Outcome.Held
 abbrev pub endingFor : RunKind → Outcome → Bool
 endingFor kind o = either (eqb (paperOutcome o) (paperOutcome (asked kind))) (leb 40 (paperOutcome o))
 
+-- its number; 45, which no ending has, for one that is not its run kind's
+abbrev pub ownNumber : RunKind → Outcome → ℕ
+ownNumber kind o = pick (endingFor kind o) (paperOutcome o) 45
+
 -- the event is the one awaited
 abbrev pub goesOn : Awaited → Event → Bool
 goesOn Awaited.Greeting e = isGreeting e

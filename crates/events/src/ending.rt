@@ -1,6 +1,6 @@
 // How a session goes on and how it ends: any event but the one that it awaits is an end.
 ghost use mathlib.Core.Path.{_≡_};
-ghost use Rattle.events.specs.Endings.{paperOutcome, asked, endingFor, endingOf, failing, endsAt};
+ghost use Rattle.events.specs.Endings.{paperOutcome, asked, endingFor, ownNumber, endingOf, failing, endsAt};
 use crate::event::Event;
 use basis::kind::RunKind;
 
@@ -77,6 +77,16 @@ impl Outcome {
             return true;
         }
         40 <= self.number()
+    }
+
+    // The number that a session of the run kind tells; 45, which no ending has, for another kind's.
+    pub fn own_number(self, kind: RunKind) -> u8
+        ensures { λ r. ⌜ r ≡ ownNumber kind self ⌝ }
+    {
+        if self.suits(kind) {
+            return self.number();
+        }
+        45
     }
 
     // Whether events lead to this ending with `k` of `total` packets acknowledged.

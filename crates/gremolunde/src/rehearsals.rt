@@ -18,9 +18,9 @@ use crate::states::session_shown;
 use basis::board::Board;
 use basis::board::Known;
 use basis::kind::RunKind;
+use events::refusal::Refusal;
 use line::rehearse::Rehearsed;
 use line::rehearse::rehearse;
-use session::session::Refusal;
 
 // Loader and session at the end; a refusal hands the loader back as it came.
 #[repr(C)]

@@ -21,9 +21,10 @@ use Rattle.loader.specs.State.{resetOf}
 use Rattle.loader.specs.Take.{takeOf, answerBytes}
 use Rattle.loader.specs.declared.state.Loader.{Loader}
 use Rattle.order.specs.Plan.{total}
+use Rattle.order.specs.Sizes.{rightSizes}
 use Rattle.runs.specs.Pieces.{namedCount}
 use Rattle.session.specs.Phases.{ended}
-use Rattle.session.specs.Session.{Sent, sentBytes, rightSizes, atGreeting, stepOf}
+use Rattle.session.specs.Session.{Sent, sentBytes, atGreeting, stepOf}
 use Rattle.session.specs.declared.session.Session.{Session}
 use Rattle.packet.specs.Packet.{packetMost}
 

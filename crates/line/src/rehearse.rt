@@ -17,9 +17,9 @@ use crate::exchange::exchange;
 use basis::board::ANSWER;
 use basis::board::Board;
 use basis::kind::RunKind;
+use events::refusal::Refusal;
 use loader::state::Loader;
 use packet::build::PACKET;
-use session::session::Refusal;
 use session::session::Session;
 use session::session::Stepped;
 

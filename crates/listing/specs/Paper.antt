@@ -1,7 +1,7 @@
 -- The paper's numbers and values for each case of the code's answers.
 use Rattle.basis.specs.Refusals.{Answer, refused, given}
+use Rattle.events.specs.Paper.{paperRefusal as sessionRefusal}
 use Rattle.image.specs.Paper.{paperRefusal}
-use Rattle.session.specs.Paper.{paperRefusal as sessionRefusal}
 use Rattle.listing.specs.Feed.{Progress}
 use Rattle.listing.specs.Text.{Blame, stopped, going}
 use Rattle.listing.specs.declared.plan.Begun.{Begun}

@@ -19,6 +19,7 @@ use crate::numbers::last_field;
 use basis::board::Board;
 use basis::buffers::write;
 use basis::kind::RunKind;
+use events::refusal::Refusal;
 use image::writer::spell;
 use order::cursor::Following;
 use order::cursor::first;
@@ -26,7 +27,6 @@ use order::cursor::follow;
 use order::sending::send;
 use order::step::Step;
 use packet::build::PACKET;
-use session::session::Refusal;
 use session::session::Session;
 use session::session::Stepped;
 

@@ -18,6 +18,7 @@ use crate::exchange::exchange;
 use basis::board::ANSWER;
 use basis::board::Board;
 use basis::kind::RunKind;
+use events::refusal::Refusal;
 use line::exchange::Loss;
 use line::rehearse::Load;
 use line::rehearse::Rehearsed;
@@ -25,7 +26,6 @@ use loader::state::Loader;
 use packet::build::PACKET;
 use port::port::Port;
 use receiver::receiver::Receiver;
-use session::session::Refusal;
 use session::session::Session;
 use session::session::Stepped;
 

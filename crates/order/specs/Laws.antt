@@ -1,3 +1,4 @@
+pub mod Sizes
 pub mod Kinds
 pub mod Starts
 pub mod Steps
@@ -5,3 +6,4 @@ pub mod Plan
 pub mod Out
 pub mod Totals
 pub mod Surveys
+pub mod Marks

@@ -2,4 +2,5 @@
 pub mod counts;
 pub mod cursor;
 pub mod sending;
+pub mod sizes;
 pub mod step;

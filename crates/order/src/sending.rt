@@ -1,14 +1,15 @@
 // The packet of a step, built into the caller's buffer.
 ghost use mathlib.Core.Path.{_≡_};
 ghost use mathlib.Core.Bool.{true};
-ghost use Prim.Native.Nat.{_+_, _*_, _%_, _≤_};
-ghost use lib.ListN.{length, getD};
+ghost use Prim.Native.Nat.{_+_, _*_, _%_, _<_, _≤_};
+ghost use mathlib.Core.List.{_∷_, []};
+ghost use lib.ListN.{length, getD, take, drop};
 ghost use Rattle.basis.specs.Board.{pagesOf, pagesMost};
 ghost use Rattle.basis.specs.Lists.{overlay};
 ghost use Rattle.basis.specs.Units.{startOf, mapBytes};
 ghost use Rattle.packet.specs.Packet.{packet, packetMost};
-ghost use Rattle.packet.specs.Table.{listed, inShape};
-ghost use Rattle.runs.specs.Pieces.{pieceStarts, runStarts};
+ghost use Rattle.packet.specs.Table.{eraseByte, listed, inShape};
+ghost use Rattle.runs.specs.Pieces.{pieceMost, pieceStarts, runStarts};
 ghost use Rattle.order.specs.Steps.{atStart, packetOf};
 ghost use Rattle.order.specs.Plan.{carriesPiece, pieceBytes, erasePacket, runPacket};
 use crate::step::Step;
@@ -48,7 +49,7 @@ pub fn send(
         Step::Erase(page) => send_erase(board, map, page, buffer),
         Step::Write(address) => send_piece(image, map, WRITE, address, buffer),
         Step::Verify(address) => send_piece(image, map, VERIFY, address, buffer),
-        Step::Run => send_run(kind, buffer),
+        Step::Run => put_run(kind, buffer),
     }
 }
 
@@ -63,8 +64,7 @@ fn send_erase(board: Board, map: &[u8], page: Page, buffer: &mut [u8]) -> usize
         ⌝ }
 {
     let pages = board.pages();
-    let count = [page_row_len(map, page, pages) as u8];
-    put(buffer, ERASE, page.start(), &count)
+    put_erase(page, page_row_len(map, page, pages), buffer)
 }
 
 // W or V.
@@ -80,12 +80,52 @@ fn send_piece(image: &[u8], map: &[u8], command: u8, address: Address, buffer: &
         (r ≡ length p) × (now (buffer .exit) ≡ overlay p (now (buffer .entry))))
         ⌝ }
 {
+    put_piece(
+        image,
+        command,
+        address,
+        row_len(map, address, PIECE),
+        buffer,
+    )
+}
+
+// E for `count` pages from `page` on.
+pub fn put_erase(page: Page, count: u32, buffer: &mut [u8]) -> usize
+    requires { ⌜ (page .0 < pagesMost) × (count ≤ pagesMost) × (packetMost ≤ length (now buffer)) ⌝ }
+    ensures { λ r. ⌜
+        (let p = packet eraseByte (startOf (page .0)) (count ∷ []) in
+        (r ≡ length p) × (now (buffer .exit) ≡ overlay p (now (buffer .entry))))
+        ⌝ }
+{
+    let pages = [count as u8];
+    put(buffer, ERASE, page.start(), &pages)
+}
+
+// W or V of `count` bytes of the image from `address` on.
+pub fn put_piece(
+    image: &[u8],
+    command: u8,
+    address: Address,
+    count: u32,
+    buffer: &mut [u8],
+) -> usize
+    requires { ⌜
+        (carriesPiece command ≡ true) × (0 < count) × (count ≤ pieceMost)
+        × (address .0 + count ≤ length (now image)) × (length (now image) ≤ startOf pagesMost)
+        × (packetMost ≤ length (now buffer))
+        ⌝ }
+    ensures { λ r. ⌜
+        (let p = packet command (address .0) (take count (drop (address .0) (now (image .entry)))) in
+        (r ≡ length p) × (now (buffer .exit) ≡ overlay p (now (buffer .entry))))
+        ⌝ }
+{
     let from = address.0 as usize;
-    let end = from + row_len(map, address, PIECE) as usize;
+    let end = from + (count as usize);
     put(buffer, command, address, &image[from..end])
 }
 
-fn send_run(kind: RunKind, buffer: &mut [u8]) -> usize
+// R, or to hold nothing.
+pub fn put_run(kind: RunKind, buffer: &mut [u8]) -> usize
     requires { ⌜ packetMost ≤ length (now buffer) ⌝ }
     ensures { λ r. ⌜
         (r ≡ length (runPacket kind)) × (now (buffer .exit) ≡ overlay (runPacket kind) (now (buffer .entry)))

@@ -13,7 +13,7 @@ use Rattle.basis.specs.Units.{startOf}
 use Rattle.basis.specs.declared.board.Board.{Board}
 use Rattle.basis.specs.declared.board.Known.{Known}
 use Rattle.basis.specs.declared.kind.RunKind.{RunKind}
-use Rattle.events.specs.Endings.{paperOutcome, endingFor}
+use Rattle.events.specs.Endings.{ownNumber}
 use Rattle.session.specs.Phases.{ended}
 use Rattle.session.specs.declared.phase.Phase.{Phase}
 use Rattle.session.specs.declared.session.Session.{Session}
@@ -62,7 +62,7 @@ isFalseOf board o k t n =
 abbrev pub outcomeOf : RunKind → Phase → ℕ
 outcomeOf kind Phase.Greeting = 45
 outcomeOf kind (Phase.Out s) = 45
-outcomeOf kind (Phase.Ended o) = pick (endingFor kind o) (paperOutcome o) 45
+outcomeOf kind (Phase.Ended o) = ownNumber kind o
 
 -- and 45 where there is no such board
 abbrev pub outcomeOn : Known → RunKind → Phase → ℕ
@@ -82,18 +82,26 @@ recordBytes b o k t n =
     let w = countBytes b in
     bigOf 2 (logLength b) ++ (versionOf b ∷ o ∷ []) ++ bigOf w k ++ bigOf w t ++ bigOf w n
 
--- writing a session of a board into a buffer of so many bytes: 45 for one that is
--- unfinished, or whose counts do not fit, or would read as 53, as does an ending that no session of its run
--- kind has; then 20
+-- writing an outcome and counts of a board into a buffer of so many bytes: 45 where the counts do not fit, or
+-- would read as 53, as does an outcome that no record has; then 20
+unfoldable pub countsOn : Board → ℕ → ℕ → ℕ → ℕ → ℕ → Answer (List ℕ)
+countsOn b room o k t n =
+    first
+    (45 when not (countsFit (countBytes b) k t n)
+    ∷ 45 when isFalseOf (pagesOf b) o k t n
+    ∷ 20 when ltb room (recordSize b) ∷ [])
+    (given (recordBytes b o k t n))
+
+-- by a board's number: 65 where there is no such board
+abbrev pub countsBy : ℕ → ℕ → ℕ → ℕ → ℕ → ℕ → Answer (List ℕ)
+countsBy board room o k t n = onBoard (boardOf board) (λ (b : Board). countsOn b room o k t n)
+
+-- writing a session of a board: 45 for one that is unfinished; else as its outcome, which is 45 where its
+-- ending is not its run kind's, and its counts
 unfoldable pub writeOn : Board → ℕ → Session → Answer (List ℕ)
 writeOn b room s =
-    let o = outcomeOf (s .kind) (s .phase) in
-    first
-    (45 when not (ended (s .phase))
-    ∷ 45 when not (countsFit (countBytes b) (s .acknowledged) (s .total) (s .named))
-    ∷ 45 when isFalseOf (pagesOf b) o (s .acknowledged) (s .total) (s .named)
-    ∷ 20 when ltb room (recordSize b) ∷ [])
-    (given (recordBytes b o (s .acknowledged) (s .total) (s .named)))
+    first (45 when not (ended (s .phase)) ∷ [])
+    (countsOn b room (outcomeOf (s .kind) (s .phase)) (s .acknowledged) (s .total) (s .named))
 
 -- a session carries its board: 65 where there is no such board
 abbrev pub writeOf : ℕ → Session → Answer (List ℕ)

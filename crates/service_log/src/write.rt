@@ -1,11 +1,10 @@
-// The writer: a session that has ended, as its board's record in the caller's buffer.
+// The writer: a session that has ended, or an outcome and counts, as the board's record in the caller's buffer.
 ghost use mathlib.Core.Path.{_≡_};
 ghost use Prim.Native.Nat.{_≤_};
 ghost use lib.ListN.{length};
 ghost use Rattle.basis.specs.Lists.{overlay};
 ghost use Rattle.basis.specs.Refusals.{counted, written};
-ghost use Rattle.service_log.specs.Log.{recordSize, outcomeOf, loggedOutcomeOf, countsFit, recordBytes, writeOn, writeOf};
-ghost use Rattle.session.specs.declared.phase.Phase.{Phase};
+ghost use Rattle.service_log.specs.Log.{recordSize, outcomeOf, loggedOutcomeOf, countsFit, recordBytes, countsOn, countsBy, writeOn, writeOf};
 ghost use Rattle.service_log.specs.Paper.{paperUnwritten, paperWritten};
 use crate::big::fits_in;
 use crate::big::put_big;
@@ -15,7 +14,6 @@ use basis::board::Board;
 use basis::board::Known;
 use basis::buffers::write as put;
 use basis::kind::RunKind;
-use events::ending::Outcome;
 use session::phase::Phase;
 use session::session::Session;
 
@@ -25,11 +23,11 @@ pub enum Written {
     Refused(Unwritten),
 }
 
-// Why a session is not written.
+// Why nothing is written.
 pub enum Unwritten {
     // There is no such board.
     Board,
-    // The session is unfinished or its ending not its run kind's, or its counts make no record.
+    // The session is unfinished, or no record says such an outcome and such counts.
     Unfit,
     // The buffer is shorter than a record.
     NoRoom,
@@ -65,8 +63,6 @@ fn write_on(board: Board, session: Session, buffer: &mut [u8]) -> Written
         (paperWritten r ≡ counted b) × (now (buffer .exit) ≡ overlay (written b) (now (buffer .entry))))
         ⌝ }
 {
-    let size = record_size(board);
-    let width = board.count_bytes();
     let phase = session.phase;
     if !phase.ended() {
         return Written::Refused(Unwritten::Unfit);
@@ -76,6 +72,44 @@ fn write_on(board: Board, session: Session, buffer: &mut [u8]) -> Written
     let acknowledged = session.acknowledged;
     let total = session.total;
     let bytes = session.named;
+    counts_on(board, outcome, acknowledged, total, bytes, buffer)
+}
+
+// For a session that keeps no phase.
+pub fn write_counts(
+    board: u32,
+    outcome: u8,
+    acknowledged: u32,
+    total: u32,
+    bytes: u32,
+    buffer: &mut [u8],
+) -> Written
+    ensures { λ r. ⌜
+        (let b = countsBy board (length (now (buffer .entry))) outcome acknowledged total bytes in
+        (paperWritten r ≡ counted b) × (now (buffer .exit) ≡ overlay (written b) (now (buffer .entry))))
+        ⌝ }
+{
+    match Board::of(board) {
+        Known::Board(known) => counts_on(known, outcome, acknowledged, total, bytes, buffer),
+        Known::Unknown => Written::Refused(Unwritten::Board),
+    }
+}
+
+fn counts_on(
+    board: Board,
+    outcome: u8,
+    acknowledged: u32,
+    total: u32,
+    bytes: u32,
+    buffer: &mut [u8],
+) -> Written
+    ensures { λ r. ⌜
+        (let b = countsOn board (length (now (buffer .entry))) outcome acknowledged total bytes in
+        (paperWritten r ≡ counted b) × (now (buffer .exit) ≡ overlay (written b) (now (buffer .entry))))
+        ⌝ }
+{
+    let size = record_size(board);
+    let width = board.count_bytes();
     if !counts_fit(width, acknowledged, total, bytes) {
         return Written::Refused(Unwritten::Unfit);
     }
@@ -136,17 +170,8 @@ fn outcome_of(kind: RunKind, phase: Phase) -> u8
     match phase {
         Phase::Greeting => 45,
         Phase::Out(_) => 45,
-        Phase::Ended(outcome) => own_number(kind, outcome),
+        Phase::Ended(outcome) => outcome.own_number(kind),
     }
-}
-
-fn own_number(kind: RunKind, outcome: Outcome) -> u8
-    ensures { λ r. ⌜ r ≡ outcomeOf kind (Phase.Ended outcome) ⌝ }
-{
-    if outcome.suits(kind) {
-        return outcome.number();
-    }
-    45
 }
 
 // Whether the counts fit `width` bytes each.

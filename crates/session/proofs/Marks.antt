@@ -10,11 +10,11 @@ use lib.Dec.{leb}
 use lib.ListN.{length}
 use Rattle.basis.specs.Board.{pagesMost}
 use Rattle.basis.specs.Choice.{pick}
-use Rattle.basis.specs.Laws.Choice.{decide, both-second, both-false}
+use Rattle.basis.specs.Laws.Choice.{decide}
 use Rattle.basis.specs.Laws.Refusals.{skip, stop}
 use Rattle.basis.specs.Refusals.{refused, given}
 use Rattle.basis.specs.Units.{startOf, mapBytes}
-use Rattle.runs.specs.Laws.Files.{bytes-past}
+use Rattle.order.specs.Marks.{marked}
 use Rattle.runs.specs.Laws.Runs.{count-yes, count-no}
 use Rattle.runs.specs.Map.{named}
 use Rattle.runs.specs.Pieces.{pieceStarts}
@@ -22,8 +22,9 @@ use Rattle.runs.specs.Runs.{count}
 use Rattle.runs.specs.Survey.{surveyOf}
 use Rattle.runs.specs.declared.survey.Surveyed.{Surveyed}
 use Rattle.session.specs.Laws.Marks.{proved-is}
-use Rattle.session.specs.Session.{fitsOf, marked, provedOf, markedFrom}
+use Rattle.session.specs.Session.{fitsOf, provedOf}
 use Rattle.session.specs.declared.session.Session.{Session}
+use Rattle.order.specs.Laws.Marks.{mark-by}
 use Rattle.order.specs.Laws.Surveys.{told}
 
 -- `proved_on`: its two refusals, and the mark
@@ -42,15 +43,8 @@ module _ (board : ℕ) (m : List ℕ) (s : Session) (a : ℕ) where
         → given b ≡ provedOf board m s a
     mark-given f e = ap given e ∙ sym (proved-is board m long s a f)
 
--- `marked`: each test decides what the definition decides
-module _ (board : ℕ) (m : List ℕ) (long : length m ≡ mapBytes board) (k a : ℕ) where
-  pub mark-unnamed : named m a ≡ false → false ≡ marked board m k a
-  unfolding marked
-  mark-unnamed e = sym (both-false _ _ e)
-
-  pub mark-past : startOf board ≤ a → false ≡ marked board m k a
-  mark-past l = mark-unnamed (bytes-past board m long a l)
-
+-- `marked`: the survey decides what the definition decides
+module _ (board : ℕ) (m : List ℕ) (k a : ℕ) where
   module _ (few : board ≤ pagesMost) {f : Surveyed} {n : ℕ} (e : f ≡ surveyOf board m a)
       (g : n ≡ pick (f .piece) 1 0) where
     rank : f .below .pieces + n ≡ count (pieceStarts m) (a + 1)
@@ -73,11 +67,9 @@ module _ (board : ℕ) (m : List ℕ) (long : length m ≡ mapBytes board) (k a 
 
     pub mark-ranked : {b : ℕ} → b ≡ f .all .runs + f .all .pieces → named m a ≡ true
         → leb (b + (f .below .pieces + n)) k ≡ marked board m k a
-    unfolding marked
     mark-ranked {b} q h =
         let t = told board few m a e in
-        let u : b + (f .below .pieces + n) ≡ markedFrom board m a = omega (arith, t .runs, t .pieces, rank) in
-        ap (λ (x : ℕ). leb x k) u ∙ sym (both-second _ _ h)
+        mark-by board m k a h (omega (arith, t .runs, t .pieces, rank))
 
 -- the counts fit
 pub rank-few : (board : ℕ) → board ≤ pagesMost → (m : List ℕ) (a : ℕ) {f : Surveyed} {n : ℕ}

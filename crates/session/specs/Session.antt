@@ -3,12 +3,12 @@ use Prim.Native.Nat.{ℕ, _+_, _≤_, _<_}
 use mathlib.Core.Bool.{Bool, not, true}
 use mathlib.Core.List.{List, [], _∷_, _++_}
 use mathlib.Core.Path.{_≡_}
-use lib.Dec.{eqb, leb, ltb}
+use lib.Dec.{eqb, ltb}
 use lib.ListN.{length}
 use Rattle.basis.specs.Board.{openingByte, pagesOf, boardOf}
 use Rattle.basis.specs.Choice.{pick, both}
 use Rattle.basis.specs.Refusals.{Answer, refused, given, _when_, first, onBoard}
-use Rattle.basis.specs.Units.{startOf, mapBytes, rightSizesIn}
+use Rattle.basis.specs.Units.{startOf, mapBytes}
 use Rattle.basis.specs.declared.board.Board.{Board}
 use Rattle.basis.specs.declared.kind.RunKind.{RunKind}
 use Rattle.events.specs.Endings.{goesOn, acknowledges, endingOf, failing, endsAt, asked}
@@ -16,12 +16,12 @@ use Rattle.events.specs.Events.{classifyOf}
 use Rattle.events.specs.declared.ending.Awaited.{Awaited}
 use Rattle.events.specs.declared.ending.Outcome.{Outcome}
 use Rattle.events.specs.declared.event.Event.{Event}
-use Rattle.order.specs.Plan.{beforeVerify, beforeR, total}
+use Rattle.order.specs.Marks.{marked}
+use Rattle.order.specs.Plan.{beforeR, total}
+use Rattle.order.specs.Sizes.{rightSizes}
 use Rattle.order.specs.Steps.{stepAt, standsAt, verifyAt}
-use Rattle.packet.specs.Packet.{packetMost}
 use Rattle.runs.specs.Map.{named}
-use Rattle.runs.specs.Pieces.{pieceStarts, namedCount, pieceLen}
-use Rattle.runs.specs.Runs.{count}
+use Rattle.runs.specs.Pieces.{namedCount, pieceLen}
 use Rattle.session.specs.Phases.{ended, packetOut, afterOf, awaitsOf}
 use Rattle.session.specs.declared.phase.Phase.{Phase}
 use Rattle.session.specs.declared.session.Next.{Next}
@@ -62,10 +62,6 @@ measured (given x) = given (record { session = x .session; len = length (x .pack
 abbrev pub sentBytes : Answer Sent → List ℕ
 sentBytes (refused n) = []
 sentBytes (given x) = x .packet
-
--- an image of the board's size, a map of one bit for each byte, a packet buffer of at least 259
-abbrev pub rightSizes : ℕ → ℕ → ℕ → ℕ → Bool
-rightSizes board image m packet = both (rightSizesIn (startOf board) image m) (leb packetMost packet)
 
 -- start: 20, 32 for an empty map, else the single byte 08 and the session that waits for the greeting
 unfoldable pub started : ℕ → List ℕ → List ℕ → ℕ → RunKind → Answer Sent
@@ -147,14 +143,6 @@ stepBy image m room s silent answer =
 unfoldable pub series : ℕ → List ℕ → Session → List Event → Session
 series board m s [] = s
 series board m s (e ∷ es) = series board m (pick (ended (s .phase)) s (tookOf board m s e)) es
-
--- the packets up to the V of the byte's piece
-abbrev pub markedFrom : ℕ → List ℕ → ℕ → ℕ
-markedFrom board m a = beforeVerify board m + count (pieceStarts m) (a + 1)
-
--- after k acknowledgements a byte is marked: it is named, and the V of its piece is among those acknowledged
-unfoldable pub marked : ℕ → List ℕ → ℕ → ℕ → Bool
-marked board m k a = both (named m a) (leb (markedFrom board m a) k)
 
 -- asking for a mark: 20 for a map of another size, 46 for a file that is not the session's
 unfoldable pub provedOf : ℕ → List ℕ → Session → ℕ → Answer Bool

@@ -9,11 +9,13 @@ ghost use Rattle.basis.specs.Lists.{overlay};
 ghost use Rattle.basis.specs.Units.{startOf, mapBytes};
 ghost use Rattle.events.specs.Endings.{endsAt, asked};
 ghost use Rattle.events.specs.Events.{classifyOf};
+ghost use Rattle.events.specs.Paper.{paperMark};
 ghost use Rattle.events.specs.declared.ending.Awaited.{Awaited};
+ghost use Rattle.order.specs.Marks.{marked};
 ghost use Rattle.packet.specs.Packet.{packetMost};
-ghost use Rattle.session.specs.Paper.{paperRefusal, paperStepped, paperMark};
+ghost use Rattle.session.specs.Paper.{paperStepped};
 ghost use Rattle.session.specs.Phases.{onStart};
-ghost use Rattle.session.specs.Session.{measured, sentBytes, rightSizes, started, movedOf, overOf, heardBy, tookOf, sentOf, cameOf, fitsOf, stepOf, stepBy, marked, provedOf, provedBy};
+ghost use Rattle.session.specs.Session.{measured, sentBytes, started, movedOf, overOf, heardBy, tookOf, sentOf, cameOf, fitsOf, stepOf, stepBy, provedOf, provedBy};
 use crate::phase::Phase;
 use basis::board::Board;
 use basis::board::Known;
@@ -25,10 +27,12 @@ use events::ending::Outcome;
 use events::ending::ending;
 use events::event::Event;
 use events::event::classify;
+use events::refusal::Mark;
+use events::refusal::Refusal;
 use order::counts::before_verify;
 use order::counts::stands;
 use order::counts::total;
-use packet::build::PACKET;
+use order::sizes::right_sizes;
 use runs::map::named;
 use runs::survey::survey;
 
@@ -48,40 +52,8 @@ pub struct Next {
     pub len: usize,
 }
 
-pub enum Refusal {
-    // There is no such board.
-    Board,
-    // The image, the map or the packet buffer has the wrong size.
-    Size,
-    // The map names nothing.
-    Empty,
-    Ended,
-    // No start and events over the file lead to such a session.
-    Foreign,
-}
-
-impl Refusal {
-    pub fn number(self) -> u32
-        ensures { λ r. ⌜ r ≡ paperRefusal self ⌝ }
-    {
-        match self {
-            Refusal::Board => 65,
-            Refusal::Size => 20,
-            Refusal::Empty => 32,
-            Refusal::Ended => 44,
-            Refusal::Foreign => 46,
-        }
-    }
-}
-
 pub enum Stepped {
     Next(Next),
-    Refused(Refusal),
-}
-
-pub enum Mark {
-    Proved,
-    Unproved,
     Refused(Refusal),
 }
 
@@ -355,12 +327,6 @@ fn marked(board: Board, map: &[u8], k: u32, address: Address) -> bool
     let below = found.below;
     let pieces = below.pieces + one(found.piece);
     before_verify(all) + pieces <= k
-}
-
-fn right_sizes(board: Board, image: usize, map: usize, packet: usize) -> bool
-    ensures { λ r. ⌜ r ≡ rightSizes (pagesOf board) image map packet ⌝ }
-{
-    board.right_sizes(image, map) && PACKET <= packet
 }
 
 fn one(counts: bool) -> u32

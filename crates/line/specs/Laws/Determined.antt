@@ -4,10 +4,10 @@ use mathlib.Core.List.{List}
 use mathlib.Core.Path.{_≡_, sym, ap, _∙_}
 use Rattle.basis.specs.Laws.Refusals.{apart, given-one, refused-one, determined}
 use Rattle.basis.specs.Refusals.{Answer}
+use Rattle.events.specs.Laws.Determined.{refusal-one}
 use Rattle.line.specs.Line.{Moment, Rehearses}
 use Rattle.line.specs.Paper.{paperRehearsed}
 use Rattle.line.specs.declared.rehearse.Rehearsed.{Rehearsed}
-use Rattle.session.specs.Laws.Determined.{refusal-one}
 
 rehearsed-one : (r s : Rehearsed) → paperRehearsed r ≡ paperRehearsed s → r ≡ s
 rehearsed-one (Rehearsed.Ended x) (Rehearsed.Ended y) e = ap Rehearsed.Ended (given-one e)

@@ -23,12 +23,13 @@ use Rattle.loader.specs.Take.{waiting, quiet, tellOf, answerBytes}
 use Rattle.loader.specs.declared.state.Condition.the-variants.{Serving}
 use Rattle.loader.specs.declared.state.Loader.{Loader}
 use Rattle.order.specs.Plan.{total}
+use Rattle.order.specs.Sizes.{rightSizes}
 use Rattle.order.specs.Steps.{packetAt}
 use Rattle.session.specs.Laws.Series.{not-ack, not-greeting}
 use Rattle.session.specs.Laws.States.{greeting-state, ack-next, ack-last, step-state, waiting-fits}
 use Rattle.session.specs.Laws.Steps.{step-taken}
 use Rattle.session.specs.Phases.{packetOut}
-use Rattle.session.specs.Session.{sessionWith, atGreeting, stateAt, rightSizes, tookOf, Loadable}
+use Rattle.session.specs.Session.{sessionWith, atGreeting, stateAt, tookOf, Loadable}
 use Rattle.session.specs.declared.phase.Phase.{Phase}
 use Rattle.session.specs.declared.session.Session.{Session}
 use Rattle.packet.specs.Packet.{packetMost}

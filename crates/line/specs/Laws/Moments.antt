@@ -37,6 +37,7 @@ use Rattle.order.specs.Laws.Kinds.{r-most}
 use Rattle.order.specs.Laws.Out.{Out, erases, writes, verifies, runs, out-after}
 use Rattle.order.specs.Laws.Starts.{some-page}
 use Rattle.order.specs.Laws.Totals.{total-some}
+use Rattle.order.specs.Marks.{marked}
 use Rattle.order.specs.Plan.{sendsR, pieceBytes, total, beforeR}
 use Rattle.order.specs.Steps.{packetAt}
 use Rattle.packet.specs.Laws.Packet.{packet-command}
@@ -52,7 +53,7 @@ use Rattle.session.specs.Laws.Marks.{proved-is, all-marked}
 use Rattle.session.specs.Laws.Series.{silence-ends, isGood, fails-good}
 use Rattle.session.specs.Laws.States.{waiting-fits, state-fits}
 use Rattle.session.specs.Phases.{ended}
-use Rattle.session.specs.Session.{atGreeting, stateAt, fitsOf, marked, tookOf, Loadable}
+use Rattle.session.specs.Session.{atGreeting, stateAt, fitsOf, tookOf, Loadable}
 use Rattle.session.specs.declared.phase.Phase.{Phase}
 use Rattle.session.specs.declared.session.Session.{Session}
 

@@ -20,11 +20,11 @@ use Rattle.line.specs.Line.{Moment, loadAt, rehearsing, rehearseOf, load
 use Rattle.line.specs.declared.exchange.Loss.{Loss}
 use Rattle.line.specs.declared.rehearse.Load.{Load}
 use Rattle.loader.specs.declared.state.Loader.{Loader}
+use Rattle.order.specs.Laws.Sizes.{sizes-right}
 use Rattle.order.specs.Plan.{total}
 use Rattle.packet.specs.Packet.{packetMost}
 use Rattle.runs.specs.Map.{named}
 use Rattle.runs.specs.Pieces.{namedCount}
-use Rattle.session.specs.Laws.Steps.{sizes-right}
 use Rattle.session.specs.Phases.{ended}
 use Rattle.session.specs.Session.{Loadable}
 use Rattle.session.specs.declared.phase.Phase.{Phase}

@@ -15,8 +15,9 @@ use Rattle.basis.specs.Units.{startOf}
 use Rattle.basis.specs.declared.kind.RunKind.{RunKind}
 use Rattle.line.specs.Line.{Moment, rehearsing, loaded, leftFlash, Rehearses}
 use Rattle.line.specs.declared.rehearse.Load.{Load}
+use Rattle.order.specs.Sizes.{rightSizes}
 use Rattle.packet.specs.Packet.{packetMost}
-use Rattle.session.specs.Session.{Sent, measured, rightSizes, started}
+use Rattle.session.specs.Session.{Sent, measured, started}
 
 module _ (board : ℕ) (image m f : List ℕ) (x : Moment) where
   abbrev whole : Answer Moment

@@ -36,13 +36,14 @@ use Rattle.order.specs.Laws.Kinds.{r-most}
 use Rattle.order.specs.Laws.Out.{Out, erases, writes, verifies, runs, out-after}
 use Rattle.order.specs.Laws.Starts.{piece-carried}
 use Rattle.order.specs.Laws.Totals.{total-some}
+use Rattle.order.specs.Marks.{marked}
 use Rattle.order.specs.Plan.{total, pieceBytes, verifyPacket, beforeVerify, beforeR}
 use Rattle.order.specs.Steps.{packetOf, verifyAt, placeOf, packetAt}
 use Rattle.packet.specs.Turn.{turnedOf}
 use Rattle.runs.specs.Pieces.{runLen}
 use Rattle.session.specs.Laws.Marks.{marked-late, marked-more, all-marked}
 use Rattle.session.specs.Phases.{ended}
-use Rattle.session.specs.Session.{marked, Loadable}
+use Rattle.session.specs.Session.{Loadable}
 use Rattle.order.specs.declared.step.Step.{Step}
 
 module _ (board : ℕ) (image m before : List ℕ) where

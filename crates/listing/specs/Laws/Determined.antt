@@ -5,8 +5,8 @@ use mathlib.Core.Path.{_≡_, sym, ap, _∙_}
 use native.Mathlib.Omega.{arith}
 use Rattle.basis.specs.Laws.Refusals.{apart, given-one, refused-one, determined}
 use Rattle.basis.specs.Refusals.{Answer}
+use Rattle.events.specs.Laws.Determined.{refusal-one as session-one}
 use Rattle.image.specs.Laws.Determined.{refusal-one}
-use Rattle.session.specs.Laws.Determined.{refusal-one as session-one}
 use Rattle.listing.specs.Feed.{Fed, state}
 use Rattle.listing.specs.Paper.{paperBlame, paperReading, paperBegun}
 use Rattle.listing.specs.Text.{Blame, stopped, going}

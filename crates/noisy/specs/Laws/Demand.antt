@@ -22,14 +22,15 @@ use Rattle.loader.specs.declared.state.Loader.{Loader}
 use Rattle.noisy.specs.Laws.AsWithout.{as-without, alike-at}
 use Rattle.noisy.specs.Laws.Board.{amid-alike}
 use Rattle.noisy.specs.Noisy.{NoisyMoment, plainly, boardMakes, heardOf, noisyBetween, noisyLoadAt, noisyRehearseOf, NoOpening}
+use Rattle.order.specs.Laws.Sizes.{sizes-right}
 use Rattle.order.specs.Plan.{total}
+use Rattle.order.specs.Sizes.{rightSizes}
 use Rattle.packet.specs.Packet.{packetMost}
 use Rattle.receiver.specs.Hearing.{rubbish}
 use Rattle.runs.specs.Map.{named}
 use Rattle.runs.specs.Pieces.{namedCount}
-use Rattle.session.specs.Laws.Steps.{sizes-right}
 use Rattle.session.specs.Phases.{ended}
-use Rattle.session.specs.Session.{rightSizes, Loadable}
+use Rattle.session.specs.Session.{Loadable}
 use Rattle.session.specs.declared.phase.Phase.{Phase}
 
 module _ (board : ℕ) (few : board ≤ 255) (image m before : List ℕ) (file : Loadable board image m)

@@ -19,12 +19,13 @@ use Rattle.noisy.specs.Laws.Moments.{noisy-stays, noisy-follows}
 use Rattle.noisy.specs.Noisy.{NoisyMoment, boardMakes, heardOf, noisyBetween, noisyStepsOn, noisyExchangeOf, noisyAt, noisyLoadAt}
 use Rattle.order.specs.Laws.Totals.{total-some}
 use Rattle.order.specs.Plan.{total}
+use Rattle.order.specs.Sizes.{rightSizes}
 use Rattle.packet.specs.Packet.{packetMost}
 use Rattle.session.specs.Laws.Series.{not-ack, not-greeting}
 use Rattle.session.specs.Laws.States.{greeting-state, ack-next, ack-last, step-state, waiting-fits}
 use Rattle.session.specs.Laws.Steps.{step-taken}
 use Rattle.session.specs.Phases.{ended}
-use Rattle.session.specs.Session.{Sent, rightSizes, atGreeting, stateAt, tookOf, sentOf, stepOf, Loadable}
+use Rattle.session.specs.Session.{Sent, atGreeting, stateAt, tookOf, sentOf, stepOf, Loadable}
 use Rattle.session.specs.declared.session.Session.{Session}
 
 -- after n exchanges: the greeting is awaited; or n - 1 packets are acknowledged and the next is out; or the

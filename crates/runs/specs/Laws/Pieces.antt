@@ -15,15 +15,15 @@ use Rattle.runs.specs.Laws.Runs.{count-zero, count-yes, count-skip, rank
 module _ (p : ℕ → Bool) (cap : ℕ) where
   -- ---- the place in the piece
 
-  off-zero : off p cap 0 ≡ 0
+  pub off-zero : off p cap 0 ≡ 0
   unfolding off
   off-zero = refl
 
-  off-false : (a : ℕ) → p a ≡ false → off p cap (suc a) ≡ 0
+  pub off-false : (a : ℕ) → p a ≡ false → off p cap (suc a) ≡ 0
   unfolding off
   off-false a h = rw h
 
-  off-wrap : (a : ℕ) → p a ≡ true → suc (off p cap a) ≡ cap → off p cap (suc a) ≡ 0
+  pub off-wrap : (a : ℕ) → p a ≡ true → suc (off p cap a) ≡ cap → off p cap (suc a) ≡ 0
   unfolding off
   off-wrap a h e = rw (h, eq-eqb _ _ e)
 
@@ -53,7 +53,7 @@ module _ (p : ℕ → Bool) (cap : ℕ) where
 
   -- ---- starts
 
-  starts-at : (a : ℕ) → p a ≡ true → off p cap a ≡ 0 → starts p cap a ≡ true
+  pub starts-at : (a : ℕ) → p a ≡ true → off p cap a ≡ 0 → starts p cap a ≡ true
   unfolding starts
   starts-at a h e = rw (h, eq-eqb _ _ e)
 

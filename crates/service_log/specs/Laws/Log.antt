@@ -1,4 +1,4 @@
--- Laws of the log: each row of its two tables, and what is given where no row holds.
+-- Laws of the log: each row of its tables, and what is given where no row holds.
 use Prim.Native.Nat.{ℕ, _+_, _*_, _≤_, _<_}
 use mathlib.Core.Bool.{true, false, not}
 use mathlib.Core.List.{List}
@@ -20,7 +20,7 @@ use Rattle.session.specs.Phases.{ended}
 use Rattle.session.specs.declared.session.Session.{Session}
 use Rattle.service_log.specs.Big.{bigOf, bigAt}
 use Rattle.service_log.specs.Laws.Big.{big-length}
-use Rattle.service_log.specs.Log.{recordSize, recordLeast, recordMost, isFalseOf, outcomeOf, countsFit, recordBytes, writeOn, readOn, readBy, readOf}
+use Rattle.service_log.specs.Log.{recordSize, recordLeast, recordMost, isFalseOf, outcomeOf, countsFit, recordBytes, countsOn, writeOn, readOn, readBy, readOf}
 
 -- ---- writing
 
@@ -30,38 +30,36 @@ record-length b o k t n =
     let w = countBytes b in
     simp length-append (omega (arith, big-length w k, big-length w t, big-length w n))
 
+module _ (b : Board) (room o k t n : ℕ) where
+  pub counts-wide : countsFit (countBytes b) k t n ≡ false → countsOn b room o k t n ≡ refused 45
+  unfolding countsOn
+  counts-wide e = stop 45 _ _ _ (ap not e)
+
+  module _ (e₁ : countsFit (countBytes b) k t n ≡ true) where
+    pub counts-false : isFalseOf (pagesOf b) o k t n ≡ true → countsOn b room o k t n ≡ refused 45
+    unfolding countsOn
+    counts-false e = skip 45 _ _ _ (ap not e₁) ∙ stop 45 _ _ _ e
+
+    module _ (e₂ : isFalseOf (pagesOf b) o k t n ≡ false) where
+      pub counts-small : room < recordSize b → countsOn b room o k t n ≡ refused 20
+      unfolding countsOn
+      counts-small l = skip 45 _ _ _ (ap not e₁) ∙ skip 45 _ _ _ e₂ ∙ stop 20 _ _ _ (lt-ltb _ _ l)
+
+      pub counts-given : recordSize b ≤ room → countsOn b room o k t n ≡ given (recordBytes b o k t n)
+      unfolding countsOn
+      counts-given l =
+          skip 45 _ _ _ (ap not e₁) ∙ skip 45 _ _ _ e₂ ∙ skip 20 _ _ _ (le-ltb _ _ l) ∙ done _
+
 module _ (b : Board) (room : ℕ) (s : Session) where
   pub write-unfinished : ended (s .phase) ≡ false → writeOn b room s ≡ refused 45
   unfolding writeOn
   write-unfinished e = stop 45 _ _ _ (ap not e)
 
-  module _ (e₁ : ended (s .phase) ≡ true) where
-    pub write-wide : countsFit (countBytes b) (s .acknowledged) (s .total) (s .named) ≡ false
-        → writeOn b room s ≡ refused 45
-    unfolding writeOn
-    write-wide e = skip 45 _ _ _ (ap not e₁) ∙ stop 45 _ _ _ (ap not e)
-
-    module _ (e₂ : countsFit (countBytes b) (s .acknowledged) (s .total) (s .named) ≡ true) (o : ℕ)
-        (is : o ≡ outcomeOf (s .kind) (s .phase)) where
-      pub write-false : isFalseOf (pagesOf b) o (s .acknowledged) (s .total) (s .named) ≡ true
-          → writeOn b room s ≡ refused 45
-      unfolding writeOn
-      write-false e = skip 45 _ _ _ (ap not e₁) ∙ skip 45 _ _ _ (ap not e₂) ∙ stop 45 _ _ _ (rw is at e)
-
-      module _ (e₃ : isFalseOf (pagesOf b) o (s .acknowledged) (s .total) (s .named) ≡ false) where
-        pub write-small : room < recordSize b → writeOn b room s ≡ refused 20
-        unfolding writeOn
-        write-small l =
-            skip 45 _ _ _ (ap not e₁) ∙ skip 45 _ _ _ (ap not e₂) ∙ skip 45 _ _ _ (rw is at e₃)
-            ∙ stop 20 _ _ _ (lt-ltb _ _ l)
-
-        pub write-given : recordSize b ≤ room
-            → writeOn b room s ≡ given (recordBytes b o (s .acknowledged) (s .total) (s .named))
-        unfolding writeOn
-        write-given l =
-            skip 45 _ _ _ (ap not e₁) ∙ skip 45 _ _ _ (ap not e₂) ∙ skip 45 _ _ _ (rw is at e₃)
-            ∙ skip 20 _ _ _ (le-ltb _ _ l) ∙ done _
-            ∙ ap (λ (x : ℕ). given (recordBytes b x (s .acknowledged) (s .total) (s .named))) (sym is)
+  pub write-counts : ended (s .phase) ≡ true
+      → writeOn b room s
+      ≡ countsOn b room (outcomeOf (s .kind) (s .phase)) (s .acknowledged) (s .total) (s .named)
+  unfolding writeOn
+  write-counts e = skip 45 _ _ _ (ap not e) ∙ done _
 
 -- ---- reading
 

@@ -1,5 +1,5 @@
--- What is written reads back, a record that reads as valid or held says that all is acknowledged, and the log
--- of a session tells its file's own counts.
+-- A session is written as its outcome and counts are, what is written reads back, a record that reads as
+-- valid or held says that all is acknowledged, and the log of a session tells its file's own counts.
 use Prim.Native.Nat.{ℕ, _+_, _*_, _^_, _≤_, _<_}
 use mathlib.Core.Bool.{true, false, not}
 use mathlib.Core.List.{List, [], _∷_, _++_, append-assoc, append-nil}
@@ -14,7 +14,7 @@ use Rattle.basis.specs.Laws.Boards.{board-by, board-back, logged-back, counts-f
 use Rattle.basis.specs.Laws.Choice.{decide, both-true, both-second, either-none, true-false}
 use Rattle.basis.specs.Laws.Refusals.{passed, done, given-one, apart}
 use Rattle.basis.specs.Lists.{pairAt}
-use Rattle.basis.specs.Refusals.{Answer, refused, given, onBoard}
+use Rattle.basis.specs.Refusals.{refused, given, onBoard}
 use Rattle.basis.specs.Units.{startOf, mapBytes}
 use Rattle.basis.specs.declared.board.Board.{Board}
 use Rattle.basis.specs.declared.board.Known.{Known}
@@ -34,10 +34,41 @@ use Rattle.session.specs.declared.phase.Phase.{Phase}
 use Rattle.session.specs.declared.session.Session.{Session}
 use Rattle.service_log.specs.Big.{bigOf, bigAt, fitsIn}
 use Rattle.service_log.specs.Laws.Big.{big-length, big-back}
-use Rattle.service_log.specs.Laws.FalseRecords.{false-good, true-greeted, false-ungreeted}
-use Rattle.service_log.specs.Laws.Log.{record-length, write-given, read-by, read-given}
-use Rattle.service_log.specs.Log.{recordSize, good, known, few, isFalseOf, outcomeOf, outcomeOn, loggedOutcomeOf, countsFit, recordBytes, writeOn, writeOf, recordAt, readOn, readBy, readOf}
+use Rattle.service_log.specs.Laws.FalseRecords.{false-unknown, false-good, true-greeted, false-ungreeted}
+use Rattle.service_log.specs.Laws.Log.{record-length, counts-wide, counts-false, counts-given, write-unfinished, write-counts, read-by, read-given}
+use Rattle.service_log.specs.Log.{recordSize, good, known, few, isFalseOf, outcomeOf, outcomeOn, loggedOutcomeOf, countsFit, recordBytes, countsOn, countsBy, writeOn, writeOf, recordAt, readOn, readBy, readOf}
 use Rattle.service_log.specs.declared.read.Record.{Record}
+
+-- ---- a session is written as its outcome and counts are
+
+-- an outcome that no record has is refused, whatever the counts
+counts-unknown : (b : Board) (room o k t n : ℕ) → known o ≡ false → countsOn b room o k t n ≡ refused 45
+counts-unknown b room o k t n e =
+    decide (countsFit (countBytes b) k t n)
+    (λ f. counts-false b room o k t n f (sym (false-unknown (pagesOf b) o k t n e)))
+    (counts-wide b room o k t n)
+
+-- and an unfinished session has none that a record has
+unfinished-unknown : (kind : RunKind) (p : Phase) → ended p ≡ false → known (outcomeOf kind p) ≡ false
+unfinished-unknown kind Phase.Greeting e = refl
+unfinished-unknown kind (Phase.Out s) e = refl
+unfinished-unknown kind (Phase.Ended o) e = absurd (true-false e)
+
+-- whatever its phase and its board
+pub write-alike : (room : ℕ) (s : Session)
+    → writeOf room s
+    ≡ countsBy (s .board) room (loggedOutcomeOf s) (s .acknowledged) (s .total) (s .named)
+write-alike room s = go (boardOf (s .board))
+  where
+    go : (x : Known)
+        → onBoard x (λ (b : Board). writeOn b room s)
+        ≡ onBoard x (λ (b : Board). countsOn b room (outcomeOn x (s .kind) (s .phase)) (s .acknowledged)
+        (s .total) (s .named))
+    go Known.Unknown = refl
+    go (Known.Board b) =
+        decide (ended (s .phase)) (write-counts b room s)
+        (λ e. write-unfinished b room s e
+        ∙ sym (counts-unknown b room _ _ _ _ (unfinished-unknown (s .kind) (s .phase) e)))
 
 -- ---- what is written reads back
 
@@ -96,38 +127,33 @@ module _ (b : Board) (o k t n : ℕ) where
       (bytes-back (ltb-true n (256 ^ w) (q .1))) e
 
 -- on a board
-on-reads : (b : Board) (room : ℕ) (s : Session) (w : List ℕ) → writeOn b room s ≡ given w
-    → readOf w
-    ≡ given (said b (outcomeOf (s .kind) (s .phase)) (s .acknowledged) (s .total) (s .named))
-unfolding writeOn
-on-reads b room s w e =
+on-reads : (b : Board) (room o k t n : ℕ) (w : List ℕ) → countsOn b room o k t n ≡ given w
+    → readOf w ≡ given (said b o k t n)
+unfolding countsOn
+on-reads b room o k t n w e =
     let p₁ = passed _ _ _ _ e in
     let p₂ = passed _ _ _ _ (p₁ .1) in
     let p₃ = passed _ _ _ _ (p₂ .1) in
-    let p₄ = passed _ _ _ _ (p₃ .1) in
-    let g = given-one (sym (done _) ∙ p₄ .1) in
-    ap readOf (sym g)
-    ∙ read-back b (outcomeOf (s .kind) (s .phase)) (s .acknowledged) (s .total) (s .named)
-    (not-false _ (p₂ .0))
-    (p₃ .0)
+    let g = given-one (sym (done _) ∙ p₃ .1) in
+    ap readOf (sym g) ∙ read-back b o k t n (not-false _ (p₁ .0)) (p₂ .0)
 
--- a session that is written has a board, and reads back with its version, its outcome and its counts
+-- counts that are written have a board, and read back with its version and their own outcome
+pub counts-read : (board room o k t n : ℕ) (w : List ℕ) → countsBy board room o k t n ≡ given w
+    → (b : Board) × (board ≡ pagesOf b) × (readOf w ≡ given (said b o k t n))
+counts-read board room o k t n w e = go (boardOf board) refl e
+  where
+    go : (x : Known) → boardOf board ≡ x → onBoard x (λ (b : Board). countsOn b room o k t n) ≡ given w
+        → (b : Board) × (board ≡ pagesOf b) × (readOf w ≡ given (said b o k t n))
+    go Known.Unknown q e = absurd (apart e)
+    go (Known.Board b) q e = (b, sym (board-by pagesOf board b q), on-reads b room o k t n w e)
+
+-- so a session that is written reads back with its board's version, its outcome and its counts
 pub written-reads : (room : ℕ) (s : Session) (w : List ℕ) → writeOf room s ≡ given w
     → (b : Board) × (s .board ≡ pagesOf b)
     × (readOf w ≡ given (said b (loggedOutcomeOf s) (s .acknowledged) (s .total) (s .named)))
-written-reads room s w e = go (boardOf (s .board)) refl e
-  where
-    go : (x : Known) → boardOf (s .board) ≡ x → onBoard x (λ (b : Board). writeOn b room s) ≡ given w
-        → (b : Board) × (s .board ≡ pagesOf b)
-        × (readOf w ≡ given (said b (loggedOutcomeOf s) (s .acknowledged) (s .total) (s .named)))
-    go Known.Unknown q e = absurd (apart e)
-    go (Known.Board b) q e = (
-      b,
-      sym (board-by pagesOf (s .board) b q),
-      on-reads b room s w e
-          ∙ ap (λ (x : Known). given (said b (outcomeOn x (s .kind) (s .phase)) (s .acknowledged) (s .total)
-          (s .named))) (sym q),
-    )
+written-reads room s w e =
+    counts-read (s .board) room (loggedOutcomeOf s) (s .acknowledged) (s .total) (s .named) w
+    (sym (write-alike room s) ∙ e)
 
 -- ---- a record that reads as valid or held says that all is acknowledged, and no other does
 
@@ -231,16 +257,6 @@ module _ (board : ℕ) (m : List ℕ) (long : length m ≡ mapBytes board) (some
       (asked-good kind))
       ∙ ap not (eq-eqb (total board m kind) (total board m kind) refl)
 
--- a session of a board is written as on it, and its outcome is its ending's
-write-on : (b : Board) (room : ℕ) (s : Session) → s .board ≡ pagesOf b → writeOf room s ≡ writeOn b room s
-write-on b room s on =
-    ap (λ (x : Known). onBoard x (λ (y : Board). writeOn y room s)) (ap boardOf on ∙ board-back b)
-
-outcome-on : (b : Board) (s : Session) → s .board ≡ pagesOf b
-    → outcomeOf (s .kind) (s .phase) ≡ loggedOutcomeOf s
-outcome-on b s on =
-    ap (λ (x : Known). outcomeOn x (s .kind) (s .phase)) (sym (ap boardOf on ∙ board-back b))
-
 -- once ended it is never refused 45: its total is e + 2w + 1, or e + 2w to hold, its bytes the named count
 module _ (b : Board) (m : List ℕ) (long : length m ≡ mapBytes (pagesOf b))
     (some : 0 < namedCount (pagesOf b) m) (kind : RunKind) (room : ℕ) (l : recordSize b ≤ room) where
@@ -258,28 +274,19 @@ module _ (b : Board) (m : List ℕ) (long : length m ≡ mapBytes (pagesOf b))
       ∙ both-second _ _ (lt-ltb (total board m kind) _ (omega arith))
       ∙ lt-ltb (namedCount board m) _ (omega arith)
 
-  -- the record's bytes by its outcome, which is the ending's own number
-  told : ℕ → ℕ → Answer (List ℕ)
-  told k o = given (recordBytes b o k (total board m kind) (namedCount board m))
-
-  own : (o : Outcome) → endingFor kind o ≡ true → paperOutcome o ≡ outcomeOf kind (Phase.Ended o)
-  own o t = rw t
-
   ended-logged : (o : Outcome) (k : ℕ) → k ≤ total board m kind → endingFor kind o ≡ true
       → isFalseOf board (paperOutcome o) k (total board m kind) (namedCount board m) ≡ false
       → (let s = sessionWith board m kind (Phase.Ended o) k in
-      writeOf room s ≡ told k (loggedOutcomeOf s))
-  unfolding told
+      writeOf room s ≡ given (recordBytes b (loggedOutcomeOf s) k (total board m kind) (namedCount board m)))
   ended-logged o k q t e =
       let s = sessionWith board m kind (Phase.Ended o) k in
-      write-on b room s refl
-      ∙ write-given b room s refl (file-fits k q) (paperOutcome o) (own o t) e l
-      ∙ ap (told k) (own o t ∙ outcome-on b s refl)
+      write-alike room s
+      ∙ rw (board-back b, t) (counts-given b room (paperOutcome o) k (total board m kind) (namedCount board m)
+      (file-fits k q) e l)
 
   pub came-logged : (s : Session) → Came board m kind s → ended (s .phase) ≡ true
       → writeOf room s
       ≡ given (recordBytes b (loggedOutcomeOf s) (s .acknowledged) (total board m kind) (namedCount board m))
-  unfolding told
   came-logged s (waits e) h = absurd (true-false (sym h ∙ ap (λ (x : Session). ended (x .phase)) e))
   came-logged s (stands k b e) h =
       absurd (true-false (sym h ∙ ap (λ (x : Session). ended (x .phase)) e))

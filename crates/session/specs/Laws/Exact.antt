@@ -21,7 +21,9 @@ use Rattle.events.specs.declared.ending.Outcome.{Outcome}
 use Rattle.events.specs.declared.event.Event.{Event}
 use Rattle.order.specs.Laws.Steps.{stands-below, stands-at}
 use Rattle.order.specs.Laws.Totals.{total-some}
+use Rattle.order.specs.Marks.{marked}
 use Rattle.order.specs.Plan.{total}
+use Rattle.order.specs.Sizes.{rightSizes}
 use Rattle.order.specs.Steps.{stepAt}
 use Rattle.runs.specs.Pieces.{namedCount}
 use Rattle.session.specs.Laws.Fits.{Fitting, fitting, fits-by}
@@ -30,7 +32,7 @@ use Rattle.session.specs.Laws.Series.{came, acks-state, acks-asked, even
 use Rattle.session.specs.Laws.States.{ack-next, greeting-state, waiting-fits, state-fits}
 use Rattle.session.specs.Laws.Steps.{step-taken}
 use Rattle.session.specs.Phases.{ended}
-use Rattle.session.specs.Session.{sessionWith, atGreeting, stateAt, rightSizes, tookOf, sentOf, cameAt, fitsOf, stepOf, series, marked, provedOf, Came, waits, stands, fails, ends, Acknowledged, Shown}
+use Rattle.session.specs.Session.{sessionWith, atGreeting, stateAt, tookOf, sentOf, cameAt, fitsOf, stepOf, series, provedOf, Came, waits, stands, fails, ends, Acknowledged, Shown}
 use Rattle.session.specs.declared.phase.Phase.{Phase}
 use Rattle.session.specs.declared.session.Session.{Session}
 

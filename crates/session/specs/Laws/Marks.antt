@@ -15,6 +15,7 @@ use Rattle.basis.specs.Units.{startOf, mapBytes}
 use Rattle.basis.specs.declared.kind.RunKind.{RunKind}
 use Rattle.order.specs.Laws.Plan.{plan-at}
 use Rattle.order.specs.Laws.Steps.{ranked-is, ranked-by, stands-below, stands-at, at-stands, stands-r}
+use Rattle.order.specs.Marks.{markedFrom, marked}
 use Rattle.order.specs.Plan.{sendsR, verifyPacket, plan, total, beforeR, beforeVerify}
 use Rattle.order.specs.Steps.{verifyAt, standsAt, packetOf}
 use Rattle.order.specs.declared.step.Step.{Step}
@@ -25,7 +26,7 @@ use Rattle.runs.specs.Map.{named}
 use Rattle.runs.specs.Pieces.{pieceMost, pieceStarts, pieceLen}
 use Rattle.runs.specs.Runs.{count, home}
 use Rattle.session.specs.Laws.Fits.{fitting}
-use Rattle.session.specs.Session.{cameAt, fitsOf, marked, provedOf, Carried, markedFrom}
+use Rattle.session.specs.Session.{cameAt, fitsOf, provedOf, Carried}
 use Rattle.session.specs.declared.phase.Phase.{Phase}
 use Rattle.session.specs.declared.session.Session.{Session}
 

@@ -17,16 +17,18 @@ use Rattle.events.specs.Laws.Events.{other-board}
 use Rattle.events.specs.declared.ending.Outcome.{Outcome}
 use Rattle.events.specs.declared.event.Event.{Event}
 use Rattle.order.specs.Laws.Plan.{plan-at}
+use Rattle.order.specs.Laws.Sizes.{sizes-right}
 use Rattle.order.specs.Laws.Steps.{at-stands, first-at, follow-next, follow-end}
 use Rattle.order.specs.Laws.Totals.{total-some}
 use Rattle.order.specs.Plan.{plan, total}
+use Rattle.order.specs.Sizes.{rightSizes}
 use Rattle.order.specs.declared.cursor.Following.{Following}
 use Rattle.order.specs.declared.step.Step.{Step}
 use Rattle.runs.specs.Pieces.{namedCount}
 use Rattle.session.specs.Laws.Fits.{fits-by}
-use Rattle.session.specs.Laws.Steps.{sizes-right, step-taken}
+use Rattle.session.specs.Laws.Steps.{step-taken}
 use Rattle.session.specs.Phases.{packetOut, reachedOf}
-use Rattle.session.specs.Session.{sessionWith, atGreeting, stateAt, asAsked, Sent, rightSizes, tookOf, sentOf, fitsOf, stepOf, stepBy}
+use Rattle.session.specs.Session.{sessionWith, atGreeting, stateAt, asAsked, Sent, tookOf, sentOf, fitsOf, stepOf, stepBy}
 use Rattle.session.specs.declared.phase.Phase.{Phase}
 use Rattle.session.specs.declared.session.Session.{Session}
 

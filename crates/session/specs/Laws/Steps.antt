@@ -1,39 +1,30 @@
 -- Laws of the start and of a step: each row of their tables, and what is given where no row holds.
-use Prim.Native.Nat.{ℕ, _≤_}
+use Prim.Native.Nat.{ℕ}
 use mathlib.Core.Bool.{Bool, true, false, not}
 use mathlib.Core.List.{List, [], _∷_}
 use mathlib.Core.Path.{_≡_, sym, ap, _∙_}
 use native.Mathlib.Omega.{arith}
-use borrow.Author.Tests.{eq-eqb, ne-eqb, eqb-true, eqb-false, leb-true}
+use borrow.Author.Tests.{eq-eqb, ne-eqb, eqb-true, eqb-false}
 use lib.ListN.{length}
-use lib.Dec.{eqb, leb}
+use lib.Dec.{eqb}
 use Rattle.basis.specs.Board.{openingByte, pagesOf}
 use Rattle.basis.specs.Laws.Boards.{board-back}
-use Rattle.basis.specs.Laws.Choice.{decide, both-true}
+use Rattle.basis.specs.Laws.Choice.{decide}
 use Rattle.basis.specs.Laws.Refusals.{skip, stop, done, passed, apart, given-one}
 use Rattle.basis.specs.Refusals.{refused, given}
-use Rattle.basis.specs.Laws.Units.{sizes-right as file-right}
-use Rattle.basis.specs.Units.{startOf, mapBytes, rightSizesIn}
 use Rattle.basis.specs.declared.board.Board.{Board}
 use Rattle.basis.specs.declared.kind.RunKind.{RunKind}
 use Rattle.events.specs.Endings.{goesOn}
 use Rattle.events.specs.Events.{classifyOf}
 use Rattle.events.specs.declared.ending.Awaited.{Awaited}
 use Rattle.events.specs.declared.event.Event.{Event}
-use Rattle.packet.specs.Packet.{packetMost}
+use Rattle.order.specs.Laws.Sizes.{sizes-right}
+use Rattle.order.specs.Sizes.{rightSizes}
 use Rattle.runs.specs.Pieces.{namedCount}
 use Rattle.session.specs.Phases.{ended, awaitsOf}
-use Rattle.session.specs.Session.{atGreeting, Sent, measured, rightSizes, started, overOf, heardBy, tookOf, sentOf, fitsOf, stepOf, stepBy, provedOf, provedBy, Loadable}
+use Rattle.session.specs.Session.{atGreeting, Sent, measured, started, overOf, heardBy, tookOf, sentOf, fitsOf, stepOf, stepBy, provedOf, provedBy, Loadable}
 use Rattle.session.specs.declared.session.Next.{Next}
 use Rattle.session.specs.declared.session.Session.{Session}
-
--- what right sizes are
-pub sizes-right : (board : ℕ) (i m p : ℕ) → rightSizes board i m p ≡ true
-    → (i ≡ startOf board) × (m ≡ mapBytes board) × (packetMost ≤ p)
-sizes-right board i m p e =
-    let a = both-true (rightSizesIn (startOf board) i m) (leb packetMost p) e in
-    let b = file-right (startOf board) i m (a .0) in
-    (b .0, b .1, leb-true packetMost p (a .1))
 
 module _ (board : ℕ) (image m : List ℕ) (room : ℕ) (kind : RunKind) where
   pub start-size : rightSizes board (length image) (length m) room ≡ false

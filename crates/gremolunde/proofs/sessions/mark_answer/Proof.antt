@@ -1,8 +1,8 @@
 -- `mark_answer` meets its contract: each arm is one case of a mark.
 use mathlib.Core.Path.{ap, sym, _∙_}
 use borrow.Author.Needs.{needs}
-use Rattle.session.specs.Paper.{paperMark}
-use Rattle.session.specs.declared.session.Mark.{Mark}
+use Rattle.events.specs.Paper.{paperMark}
+use Rattle.events.specs.declared.refusal.Mark.{Mark}
 use Rattle.gremolunde.specs.Answers.{markAnswer}
 use Rattle.gremolunde.proofs.sessions.mark_answer.Statement.{statement}
 use Rattle.gremolunde.proofs.sessions.mark_answer.Tie as tie

@@ -62,7 +62,7 @@ returns-3 c =
 
 returns-4 : tie.Need-returns-4
 returns-4 c =
-    rw (c .before .before .before .before .enum-told .given .1) (c .before .before .send-run .ensures)
+    rw (c .before .before .before .before .enum-told .given .1) (c .before .before .put-run .ensures)
 
 pub send-spec : {M : Type 1} → statement M
 send-spec =

@@ -1,4 +1,4 @@
--- `send_erase` meets its contract: a run has at most 248 pages, so its count is one byte.
+-- `send_erase` meets its contract: a run has at most 248 pages.
 use native.Mathlib.Omega.{arith}
 use borrow.Author.Needs.{needs}
 use Rattle.basis.specs.Board.{pagesOf}
@@ -15,25 +15,22 @@ page-row-len-requires c κs = let s = c .before .before .before in
     (s .pre .2) in
     (omega arith, omega arith)
 
-cast-t8 : tie.Need-cast-t8
-cast-t8 c =
-    let s = c .before .before .before .before in
-    let most = len-le (touched (s .args .map .now)) (s .args .page .0) (c .before .pages .result) in
-    omega (arith, c .page-row-len .ensures, most)
-
-start-requires : tie.Need-start-requires
-start-requires c κs =
-    let s = c .before .before .before .before .before in
+put-erase-requires : tie.Need-put-erase-requires
+put-erase-requires c κs =
+    let r = c .before in
+    let s = r .before .before .before .before in
     let l = run-below (pagesOf (s .args .board)) (s .args .map .now) (s .pre .0) (s .args .page .0)
     (s .pre .2) in
-    omega (arith, pages-few (s .args .board), l)
+    let most = len-le (touched (s .args .map .now)) (s .args .page .0) (r .before .pages .result) in (
+      omega (arith, pages-few (s .args .board), l),
+      omega (arith, r .page-row-len .ensures, most),
+      s .pre .1,
+    )
 
 returns : tie.Need-returns
-returns c =
-    let s = c .before .before .before .before in
-    let told = s .before .before .before .pages in
-    rw (← told .ensures .0, ← s .before .before .page-row-len .ensures, ← s .start .ensures)
-    (c .before .before .put .ensures)
+returns c = let r = c .before .before .before .before in
+    rw (← r .before .pages .ensures .0, ← r .page-row-len .ensures)
+    (c .before .before .put-erase .ensures)
 
 pub send-erase-spec : {M : Type 1} → statement M
 send-erase-spec =
@@ -41,9 +38,6 @@ send-erase-spec =
     (tie.spec
     (λ c κs. search needs)
     page-row-len-requires
-    cast-t8
-    start-requires
-    (λ c. search needs)
-    (λ c κs. search needs)
+    put-erase-requires
     (λ c. search needs)
     returns)

@@ -9,8 +9,9 @@ use Rattle.basis.specs.Board.{pagesOf, pagesMost}
 use Rattle.basis.specs.Laws.Boards.{pages-few}
 use Rattle.basis.specs.Units.{startOf}
 use Rattle.runs.specs.Map.{named}
-use Rattle.session.proofs.Marks.{mark-past, mark-unnamed, mark-ranked, rank-few}
+use Rattle.order.specs.Laws.Marks.{mark-unnamed, mark-past}
 use Rattle.order.specs.Laws.Surveys.{told}
+use Rattle.session.proofs.Marks.{mark-ranked, rank-few}
 use Rattle.session.proofs.session.marked.Statement.{statement}
 use Rattle.session.proofs.session.marked.Tie as tie
 
@@ -37,12 +38,12 @@ is-named s = sym (s .before .before .named .ensures) ∙ not-false _ (s .before 
 returns : tie.Need-returns
 returns c =
     let s = c .before .before .before .before in
-    mark-past _ _ (s .pre) _ _ (omega (arith, c .before .before .end .ensures, c .if1 .taken))
+    mark-past _ _ _ _ (s .pre) (omega (arith, c .before .before .end .ensures, c .if1 .taken))
 
 returns-2 : tie.Need-returns-2
 returns-2 c =
     let s = c .before .before .before .before .before .before in
-    mark-unnamed _ _ (s .pre) _ _ (sym (c .before .named .ensures) ∙ not-true _ (c .if2 .taken))
+    mark-unnamed _ _ _ _ (sym (c .before .named .ensures) ∙ not-true _ (c .if2 .taken))
 
 add-pieces : tie.Need-add-pieces
 add-pieces c = let s = survey-at (c .before) in
@@ -73,7 +74,7 @@ add-result c = let s = survey-at (c .before .before) in
 
 returns-3 : tie.Need-returns-3
 returns-3 c = let s = survey-at (c .before .before) in
-    mark-ranked _ _ (entry s .pre) _ _ (few s) (s .survey .ensures) (c .before .before .one .ensures)
+    mark-ranked _ _ _ _ (few s) (s .survey .ensures) (c .before .before .one .ensures)
     (c .before-verify .ensures) (is-named s)
 
 pub marked-spec : {M : Type 1} → statement M

@@ -12,12 +12,14 @@ use Rattle.basis.specs.Board.{openingByte, pagesOf, pagesMost}
 use Rattle.basis.specs.Laws.Boards.{pages-few, pages-some}
 use Rattle.basis.specs.Units.{startOf, mapBytes}
 use Rattle.basis.specs.declared.kind.RunKind.{RunKind}
+use Rattle.order.specs.Laws.Sizes.{sizes-right}
 use Rattle.order.specs.Plan.{rCount, total}
+use Rattle.order.specs.Sizes.{rightSizes}
 use Rattle.packet.specs.Packet.{packetMost}
 use Rattle.runs.specs.Survey.{surveyOf}
 use Rattle.runs.specs.declared.survey.Surveyed.{Surveyed}
-use Rattle.session.specs.Laws.Steps.{start-size, start-empty, start-given, sizes-right}
-use Rattle.session.specs.Session.{atGreeting, rightSizes}
+use Rattle.session.specs.Laws.Steps.{start-size, start-empty, start-given}
+use Rattle.session.specs.Session.{atGreeting}
 use Rattle.session.specs.declared.phase.Phase.{Phase}
 use Rattle.session.proofs.Handing.{left-alone, handed}
 use Rattle.order.specs.Laws.Surveys.{told, Told}

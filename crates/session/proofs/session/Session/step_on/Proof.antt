@@ -7,10 +7,12 @@ use borrow.Author.Tests.{not-true, not-false}
 use lib.ListN.{length}
 use Rattle.basis.specs.Board.{pagesOf}
 use Rattle.basis.specs.Units.{startOf, mapBytes}
+use Rattle.order.specs.Laws.Sizes.{sizes-right}
+use Rattle.order.specs.Sizes.{rightSizes}
 use Rattle.packet.specs.Packet.{packetMost}
-use Rattle.session.specs.Laws.Steps.{step-size, step-ended, step-foreign, step-taken, sizes-right}
+use Rattle.session.specs.Laws.Steps.{step-size, step-ended, step-foreign, step-taken}
 use Rattle.session.specs.Phases.{ended}
-use Rattle.session.specs.Session.{stepOf, rightSizes, fitsOf}
+use Rattle.session.specs.Session.{stepOf, fitsOf}
 use Rattle.session.proofs.Handing.{left-alone, handed}
 use Rattle.session.proofs.session.Session.step_on.Statement.{statement}
 use Rattle.session.proofs.session.Session.step_on.Tie as tie

@@ -2,15 +2,15 @@
 use mathlib.Core.Bool.{true, false}
 use mathlib.Core.Path.{_≡_, sym, _∙_}
 use borrow.Author.Needs.{needs}
 use Rattle.events.specs.Endings.{endingFor}
-use Rattle.service_log.proofs.write.own_number.Statement.{statement}
-use Rattle.service_log.proofs.write.own_number.Tie as tie
+use Rattle.events.proofs.ending.Outcome.own_number.Statement.{statement}
+use Rattle.events.proofs.ending.Outcome.own_number.Tie as tie
 
 -- what the test says: the ending is one of the session's own run kind, or it is not
-own : (c : tie.Then1) → let a = c .before .before .args in endingFor (a .kind) (a .outcome) ≡ true
+own : (c : tie.Then1) → let a = c .before .before .args in endingFor (a .kind) (a .self) ≡ true
 own c = sym (c .before .suits .ensures) ∙ c .if1 .taken
 
-other : (c : tie.Else1) → let a = c .before .before .args in endingFor (a .kind) (a .outcome) ≡ false
+other : (c : tie.Else1) → let a = c .before .before .args in endingFor (a .kind) (a .self) ≡ false
 other c = sym (c .before .suits .ensures) ∙ c .if1 .left
 
 returns : tie.Need-returns

@@ -1,8 +1,8 @@
--- `send_run` meets its contract: R carries nothing, and to hold nothing is sent.
+-- `put_run` meets its contract: R carries nothing, and to hold nothing is sent.
 use mathlib.Core.Path.{refl}
 use borrow.Author.Needs.{needs}
-use Rattle.order.proofs.sending.send_run.Statement.{statement}
-use Rattle.order.proofs.sending.send_run.Tie as tie
+use Rattle.order.proofs.sending.put_run.Statement.{statement}
+use Rattle.order.proofs.sending.put_run.Tie as tie
 
 returns : tie.Need-returns
 returns c =
@@ -15,8 +15,8 @@ returns-2 c =
 returns-3 : tie.Need-returns-3
 returns-3 c = rw (c .enum-told3 .given .1) (refl, refl)
 
-pub send-run-spec : {M : Type 1} → statement M
-send-run-spec =
+pub put-run-spec : {M : Type 1} → statement M
+put-run-spec =
     tie.close
     (tie.spec
     (λ c. search needs)

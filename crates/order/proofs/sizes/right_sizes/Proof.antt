@@ -2,8 +2,8 @@
 use mathlib.Core.Path.{sym, _∙_}
 use borrow.Author.Needs.{needs}
 use Rattle.basis.specs.Laws.Choice.{both-second, both-false}
-use Rattle.session.proofs.session.right_sizes.Statement.{statement}
-use Rattle.session.proofs.session.right_sizes.Tie as tie
+use Rattle.order.proofs.sizes.right_sizes.Statement.{statement}
+use Rattle.order.proofs.sizes.right_sizes.Tie as tie
 
 returns : tie.Need-returns
 returns c = sym (both-second _ _ (sym (c .before .right-sizes .ensures) ∙ c .if1 .taken))

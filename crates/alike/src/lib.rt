@@ -1,0 +1,2 @@
+// The plain session beside the quick one: its log record, and that both are alike.
+pub mod log;
