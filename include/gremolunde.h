@@ -9,10 +9,10 @@
  * the function says otherwise, and leaves all lent bytes as they were unless the function says otherwise. A function
  * that cannot refuse gives its value itself.
  *
- * States. gremolunde_loader, gremolunde_receiver, gremolunde_port, gremolunde_hex and gremolunde_session are plain
- * values that the caller keeps, copies and stores. Every value of every field is safe to pass. Where a field is a
- * flag, 0 is false and all else is true; an answer has 0 or 1 there. One function, gremolunde_receiver_byte, works on
- * a state where it stands.
+ * States. gremolunde_loader, gremolunde_receiver, gremolunde_port, gremolunde_hex, gremolunde_session and
+ * gremolunde_plain are values that the caller keeps, copies and stores. Every value of every field is safe to pass.
+ * Where a field is a flag, 0 is false and all else is true; an answer has 0 or 1 there. One function,
+ * gremolunde_receiver_byte, works on a state where it stands.
  *
  * Lent bytes. A pointer and the length after it lend so many bytes for the time of the call. With a length of 0 the
  * pointer may be null. Bytes that a function may write (a pointer without const) must not overlap other bytes that
@@ -32,8 +32,8 @@ extern "C" {
 /* Rises when a struct changes, or what a number in one means. */
 #define GREMOLUNDE_VERSION 5
 
-/* A board is told by its number of pages; a number that is not listed is refused with 65, before all else. A session
- * and a hex reader carry the board that they were started for. */
+/* A board is told by its number of pages; a number that is not listed is refused with 65, before all else. A session,
+ * a plain session and a hex reader carry the board that they were started for. */
 enum { GREMOLUNDE_SHORT = 124, GREMOLUNDE_LONG = 248 };
 
 /* The sizes that the paper asks for, in bytes: flash, image and map exactly so for their board, the others at least
@@ -131,6 +131,32 @@ typedef struct gremolunde_session {
     uint32_t named;        /* named bytes of the file */
 } gremolunde_session;
 
+/* How far a plain session is. */
+enum {
+    GREMOLUNDE_PLAIN_WAITING = 0,   /* it waits for the greeting */
+    GREMOLUNDE_PLAIN_UNDER_WAY = 1, /* it waits for the answer to the packet with number `acknowledged` */
+    GREMOLUNDE_PLAIN_ENDED = 2      /* nothing; `outcome` is 0 valid, 1 verified and held, or 40 to 43 */
+};
+
+/* A plain session, without its file: the bench version, to check the quick one by. At each step it lists every packet
+ * of the file afresh, E, W, V and R, numbered from 0, and picks the next by its number; it is slow. Started over the
+ * same file and told the same events, a gremolunde_session and a gremolunde_plain give the same packets, endings,
+ * refusals and log records; neither record says where the other stands, so keep one for each. It keeps counts alone:
+ * two maps with the same number of packets and of named bytes are never told apart, where a gremolunde_session is 46
+ * at E, W and V; so step, and ask, with the file that it was started over. One with a stage or an outcome that is not
+ * listed, or with an `outcome` other than 0 before its end, came from no start: a step gives 46 and so does asking
+ * what is proved; its outcome and its log record are 45. One that has ended otherwise than its run kind can came from
+ * none either: asking what is proved gives 46, its outcome and its log record are 45, and a step is 44. */
+typedef struct gremolunde_plain {
+    uint32_t board;        /* GREMOLUNDE_SHORT or GREMOLUNDE_LONG; any other value is 65, its outcome 45 */
+    uint32_t run;          /* GREMOLUNDE_RESET, GREMOLUNDE_JUMP or GREMOLUNDE_HOLD; any other value is hold */
+    uint32_t stage;        /* GREMOLUNDE_PLAIN_WAITING to GREMOLUNDE_PLAIN_ENDED */
+    uint32_t outcome;      /* of GREMOLUNDE_PLAIN_ENDED, else 0 */
+    uint32_t acknowledged; /* packets acknowledged, at the end too */
+    uint32_t total;        /* packets of the file, with R where the run kind sends it */
+    uint32_t named;        /* named bytes of the file */
+} gremolunde_plain;
+
 /* How many bytes were written. */
 typedef struct gremolunde_length {
     uint32_t number;
@@ -190,6 +216,13 @@ typedef struct gremolunde_session_stepped {
     size_t length;
     gremolunde_session session;
 } gremolunde_session_stepped;
+
+/* The length of the packet to send, 0 at an end, and the next plain session. */
+typedef struct gremolunde_plain_stepped {
+    uint32_t number;
+    size_t length;
+    gremolunde_plain plain;
+} gremolunde_plain_stepped;
 
 /* Whether a byte is marked proved. */
 typedef struct gremolunde_session_mark {
@@ -319,6 +352,32 @@ uint32_t gremolunde_session_outcome(gremolunde_session session);
  * for the long one. 65 unknown board, 45 unfinished, ended otherwise than its run kind can or counts that make no
  * record, 20 buffer under 10 or 16. */
 gremolunde_length gremolunde_log_write(gremolunde_session session, uint8_t *buffer, size_t buffer_length);
+
+/* Starts a plain session of a run kind for a board: writes the single byte 08. 65 unknown board, 20 wrong sizes, 32
+ * nothing named; the plain session is then all 0. */
+gremolunde_plain_stepped gremolunde_plain_start(uint32_t board, uint32_t run, const uint8_t *image,
+                                                size_t image_length, const uint8_t *map, size_t map_length,
+                                                uint8_t *buffer, size_t buffer_length);
+
+/* Takes one event, as gremolunde_session_step does. 65 unknown board, 20 wrong sizes, 44 after the end, 46 no start and
+ * events over this file lead to such a plain session. */
+gremolunde_plain_stepped gremolunde_plain_step(gremolunde_plain plain, uint8_t silent, const uint8_t *answer,
+                                               size_t answer_length, const uint8_t *image, size_t image_length,
+                                               const uint8_t *map, size_t map_length, uint8_t *buffer,
+                                               size_t buffer_length);
+
+/* Whether the byte at an address is marked proved. 65 unknown board, 20 map of another size, 46 no start and events
+ * over this map lead to such a plain session. */
+gremolunde_session_mark gremolunde_plain_proved(gremolunde_plain plain, const uint8_t *map, size_t map_length,
+                                                uint32_t address);
+
+/* How a plain session ended: as gremolunde_session_outcome tells it of a session. */
+uint32_t gremolunde_plain_outcome(gremolunde_plain plain);
+
+/* Writes the log record of a plain session that has ended, as gremolunde_log_write does of a session. 65 unknown
+ * board, 45 unfinished, ended otherwise than its run kind can or counts that make no record, 20 buffer under 10 or
+ * 16. */
+gremolunde_length gremolunde_plain_log_write(gremolunde_plain plain, uint8_t *buffer, size_t buffer_length);
 
 /* Reads a log record of either version. 50 to 53. */
 gremolunde_log gremolunde_log_read(const uint8_t *input, size_t input_length);

@@ -4,6 +4,7 @@
  *   read-2                   the same file read under rule set 2
  *   w, v                     one packet of 250 bytes taken by the loader
  *   step-full, step-worst    one step of a session, turn after turn at another piece
+ *   plain-full, plain-worst  the same step of a plain session; both give the same bytes
  *   full, worst              a whole session of the host, every packet acknowledged
  *   receive                  all W packets of the full file, rubbish before each, byte by byte through the receiver
  *
@@ -13,7 +14,8 @@
  *
  * Each writes one line: the bytes that its turns gave, a sum over all buffers or over all that was received, and the
  * nanoseconds of all turns. `second bench` has the same jobs over the same bytes, but for whole sessions of the long
- * board, and must give the same two numbers. `bench hex 0` and `bench hex-long 0` write the full hex file instead. */
+ * board and steps of plain ones, and must give the same two numbers. `bench hex 0` and `bench hex-long 0` write the
+ * full hex file instead. */
 #define _POSIX_C_SOURCE 199309L
 #include "gremolunde.h"
 #include <stdio.h>
@@ -60,6 +62,7 @@ static size_t lengths[MOST_RECORDS];
 static uint64_t data_bytes; /* of all lines */
 static gremolunde_loader loader;
 static gremolunde_session begun;
+static gremolunde_plain plain_begun;
 static uint8_t stream[PIECES * (RUBBISH + GREMOLUNDE_PACKET)];
 static size_t stream_length;
 static uint64_t received; /* the sum of all bytes that the receiver handed on */
@@ -160,27 +163,46 @@ static gremolunde_session_stepped step(gremolunde_session session, const uint8_t
     return gremolunde_session_step(session, 0, heard, length, FILE_LENT, packet, sizeof packet);
 }
 
-/* The session after E and so many pieces written, or all written and so many verified. */
-static gremolunde_session session_at(uint32_t piece, uint32_t pieces, uint32_t apart, int verifying) {
-    gremolunde_session session = begun;
-    session.phase = verifying ? GREMOLUNDE_VERIFY : GREMOLUNDE_WRITE;
-    session.address = piece * apart;
-    session.acknowledged = 1 + piece + (verifying ? pieces : 0);
-    return session;
+static const uint8_t ack[] = {ACK};
+
+/* Where step k of so many is taken, two of W and two of V: after E and so many pieces written, or all written and so
+ * many verified. A factor that shares no divisor with the pieces brings each in turn. */
+typedef struct spot {
+    uint32_t piece;
+    int verifying;
+    uint32_t acknowledged;
+} spot;
+
+static spot spot_of(uint64_t k, uint32_t pieces) {
+    spot at = {(uint32_t)(k * 12289 % pieces), (k & 2) != 0, 0};
+    at.acknowledged = 1 + at.piece + (at.verifying ? pieces : 0);
+    return at;
 }
 
-/* Step k of so many: two of W, two of V; a factor that shares no divisor with the pieces brings each in turn. */
 static uint64_t step_spread(uint64_t k, uint32_t pieces, uint32_t apart) {
-    static const uint8_t ack[] = {ACK};
-    gremolunde_session session = session_at((uint32_t)(k * 12289 % pieces), pieces, apart, (k & 2) != 0);
-    gremolunde_session_stepped now = step(session, ack, sizeof ack);
+    spot at = spot_of(k, pieces);
+    gremolunde_session session = begun;
+    gremolunde_session_stepped now;
+    session.phase = at.verifying ? GREMOLUNDE_VERIFY : GREMOLUNDE_WRITE;
+    session.address = at.piece * apart;
+    session.acknowledged = at.acknowledged;
+    now = step(session, ack, sizeof ack);
     must(now.number == 0, "stepping");
+    return now.length;
+}
+
+static uint64_t plain_spread(uint64_t k, uint32_t pieces) {
+    gremolunde_plain plain = plain_begun;
+    gremolunde_plain_stepped now;
+    plain.stage = GREMOLUNDE_PLAIN_UNDER_WAY;
+    plain.acknowledged = spot_of(k, pieces).acknowledged;
+    now = gremolunde_plain_step(plain, 0, ack, sizeof ack, FILE_LENT, packet, sizeof packet);
+    must(now.number == 0, "stepping a plain session");
     return now.length;
 }
 
 /* A whole session; gives the bytes that went over the line, both ways. */
 static uint64_t whole_session(uint64_t k) {
-    static const uint8_t ack[] = {ACK};
     gremolunde_session_stepped now = start();
     uint64_t bytes = now.length + GREMOLUNDE_ANSWER;
     (void)k;
@@ -193,9 +215,17 @@ static uint64_t whole_session(uint64_t k) {
     return bytes;
 }
 
-static uint64_t step_full(uint64_t k) { return step_spread(k, (board.image + PIECE - 1) / PIECE, PIECE); }
+static uint32_t full_pieces(void) { return (board.image + PIECE - 1) / PIECE; }
 
-static uint64_t step_worst(uint64_t k) { return step_spread(k, board.image / 2, 2); }
+static uint32_t worst_pieces(void) { return board.image / 2; }
+
+static uint64_t step_full(uint64_t k) { return step_spread(k, full_pieces(), PIECE); }
+
+static uint64_t step_worst(uint64_t k) { return step_spread(k, worst_pieces(), 2); }
+
+static uint64_t plain_full(uint64_t k) { return plain_spread(k, full_pieces()); }
+
+static uint64_t plain_worst(uint64_t k) { return plain_spread(k, worst_pieces()); }
 
 static void prepare_records(void) {
     write_records(0);
@@ -246,6 +276,13 @@ static void prepare_w(void) { make_loader(W); }
 static void prepare_v(void) { make_loader(0x56); }
 
 static void prepare_session(void) { begun = start().session; }
+
+static void prepare_plain(void) {
+    gremolunde_plain_stepped now =
+        gremolunde_plain_start(board.pages, GREMOLUNDE_RESET, FILE_LENT, packet, sizeof packet);
+    must(now.number == 0, "starting a plain session");
+    plain_begun = now.plain;
+}
 
 /* Rubbish, and behind it the packet that was sent last. */
 static void append_packet(size_t piece, size_t length) {
@@ -298,6 +335,8 @@ static const struct job {
     {"v", &short_board, FULL_MAP, prepare_v, take},
     {"step-full", &short_board, FULL_MAP, prepare_session, step_full},
     {"step-worst", &short_board, WORST_MAP, prepare_session, step_worst},
+    {"plain-full", &short_board, FULL_MAP, prepare_plain, plain_full},
+    {"plain-worst", &short_board, WORST_MAP, prepare_plain, plain_worst},
     {"full", &short_board, FULL_MAP, prepare_session, whole_session},
     {"worst", &short_board, WORST_MAP, prepare_session, whole_session},
     {"receive", &short_board, FULL_MAP, prepare_stream, receive},
@@ -307,6 +346,8 @@ static const struct job {
     {"write-long", &long_board, FULL_MAP, prepare_records, write_records},
     {"step-full-long", &long_board, FULL_MAP, prepare_session, step_full},
     {"step-worst-long", &long_board, WORST_MAP, prepare_session, step_worst},
+    {"plain-full-long", &long_board, FULL_MAP, prepare_plain, plain_full},
+    {"plain-worst-long", &long_board, WORST_MAP, prepare_plain, plain_worst},
     {"full-long", &long_board, FULL_MAP, prepare_session, whole_session},
     {"worst-long", &long_board, WORST_MAP, prepare_session, whole_session},
 };

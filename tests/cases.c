@@ -454,8 +454,6 @@ static int same(int of, const void *a, const void *b) {
 static uint32_t board = GREMOLUNDE_SHORT;
 static gremolunde_loader loader;
 static gremolunde_hex reader;
-static gremolunde_session session;
-static int started;
 
 /* A call works on the receiver where it stands, so it stands between bytes that no call may change. */
 static struct guarded {
@@ -656,14 +654,6 @@ static int ask_receiver(const word *words) {
 static int ask_loader(const word *words) { return KEEP(words, gremolunde_loader, loader); }
 
 static int ask_reader(const word *words) { return KEEP(words, gremolunde_hex, reader); }
-
-static int ask_session(const word *words) {
-    if ((words[0].at == NULL && !started) || !KEEP(words, gremolunde_session, session)) {
-        return 0;
-    }
-    started = 1;
-    return 1;
-}
 
 /* Requests: packets. */
 
@@ -876,41 +866,100 @@ static int ask_write(const word *words) {
 
 /* Requests: sessions. */
 
-static void give_ending(gremolunde_session ended) {
+/* One kind of session: whether there is one that is kept, and the calls that ask it, over what is lent. */
+struct host {
+    int *started;
+    int (*keep)(const word *words);
+    int (*start)(uint32_t run);
+    int (*step)(uint8_t silent);
+    gremolunde_session_mark (*proved)(uint32_t address);
+    uint32_t (*outcome)(void);
+    gremolunde_length (*log)(void);
+};
+
+/* The kind that the line in hand asks. */
+static const struct host *asked;
+
+static void give_ending(uint32_t outcome) {
     give_word("ended");
-    give_number(ended.outcome);
+    give_number(outcome);
 }
 
-/* The next session and what it sends; a refusal hands this one back. */
-static int give_stepped(gremolunde_session_stepped stepped, gremolunde_session back) {
-    give_number(stepped.number);
-    if (stepped.number != 0) {
-        hold(stepped.length == 0 && SAME(gremolunde_session, stepped.session, back));
-        return 1;
-    }
-    session = stepped.session;
-    started = 1;
-    if (session.phase == GREMOLUNDE_ENDED) {
-        hold(stepped.length == 0);
-        give_ending(session);
+/* What a session sends, or how it has ended; a refusal hands it back. */
+static int give_stepped(uint32_t number, size_t length, int handed_back, int ended, uint32_t outcome) {
+    give_number(number);
+    if (number != 0) {
+        hold(length == 0 && handed_back);
+    } else if (ended) {
+        hold(length == 0);
+        give_ending(outcome);
     } else {
-        give_part(parts[PACKET], stepped.length);
+        give_part(parts[PACKET], length);
     }
     return 1;
 }
 
+/* The session of a kind that is kept, and its calls. It has ended where a field of it has that value; a refused start
+ * gives all 0, a refused step the session as it was. */
+#define HOST(kind, field, value, log_write)                                                                         \
+    static gremolunde_##kind kind;                                                                                  \
+    static int kind##_started;                                                                                      \
+                                                                                                                    \
+    static int keep_##kind(const word *words) { return KEEP(words, gremolunde_##kind, kind); }                      \
+                                                                                                                    \
+    static int give_##kind(gremolunde_##kind##_stepped stepped, gremolunde_##kind back) {                           \
+        if (stepped.number == 0) {                                                                                  \
+            kind = stepped.kind;                                                                                    \
+            kind##_started = 1;                                                                                     \
+        }                                                                                                           \
+        return give_stepped(stepped.number, stepped.length, SAME(gremolunde_##kind, stepped.kind, back),            \
+                            stepped.kind.field == (value), stepped.kind.outcome);                                   \
+    }                                                                                                               \
+                                                                                                                    \
+    static int start_##kind(uint32_t run) {                                                                         \
+        return give_##kind(gremolunde_##kind##_start(board, run, LENT(IMAGE), LENT(MAP), LENT(PACKET)),             \
+                           (gremolunde_##kind){0});                                                                 \
+    }                                                                                                               \
+                                                                                                                    \
+    static int step_##kind(uint8_t silent) {                                                                        \
+        return give_##kind(                                                                                         \
+            gremolunde_##kind##_step(kind, silent, LENT(INPUT), LENT(IMAGE), LENT(MAP), LENT(PACKET)), kind);       \
+    }                                                                                                               \
+                                                                                                                    \
+    static gremolunde_session_mark mark_##kind(uint32_t address) {                                                  \
+        return gremolunde_##kind##_proved(kind, LENT(MAP), address);                                                \
+    }                                                                                                               \
+                                                                                                                    \
+    static uint32_t outcome_##kind(void) { return gremolunde_##kind##_outcome(kind); }                              \
+                                                                                                                    \
+    static gremolunde_length log_##kind(void) { return log_write(kind, LENT(LOG)); }                                \
+                                                                                                                    \
+    static const struct host host_##kind = {&kind##_started, keep_##kind, start_##kind, step_##kind,                \
+                                            mark_##kind,     outcome_##kind, log_##kind}
+
+HOST(session, phase, GREMOLUNDE_ENDED, gremolunde_log_write);
+HOST(plain, stage, GREMOLUNDE_PLAIN_ENDED, gremolunde_plain_log_write);
+
+static int ask_kept(const word *words, const struct host *host) {
+    if ((words[0].at == NULL && !*host->started) || !host->keep(words)) {
+        return 0;
+    }
+    *host->started = 1;
+    return 1;
+}
+
+static int ask_session(const word *words) { return ask_kept(words, &host_session); }
+
+static int ask_plain(const word *words) { return ask_kept(words, &host_plain); }
+
 static int ask_start(const word *words) {
-    uint32_t kind;
-    return kind_of(words[0], &kind) && lend(BIT(IMAGE) | BIT(MAP), BIT(PACKET)) &&
-           give_stepped(gremolunde_session_start(board, kind, LENT(IMAGE), LENT(MAP), LENT(PACKET)),
-                        (gremolunde_session){0});
+    uint32_t run;
+    return kind_of(words[0], &run) && lend(BIT(IMAGE) | BIT(MAP), BIT(PACKET)) && asked->start(run);
 }
 
 static int step(uint8_t silent, word answer) {
-    return started && bring_bytes(answer) && lend(BIT(INPUT) | BIT(IMAGE) | BIT(MAP), BIT(PACKET)) &&
-           give_stepped(gremolunde_session_step(session, silent, LENT(INPUT), LENT(IMAGE), LENT(MAP),
-                                                LENT(PACKET)),
-                        session);
+    return *asked->started && bring_bytes(answer) && lend(BIT(INPUT) | BIT(IMAGE) | BIT(MAP), BIT(PACKET)) &&
+           asked->step(silent);
 }
 
 static int ask_answer(const word *words) { return step(0, words[0]); }
@@ -925,10 +974,10 @@ static int ask_event(const word *words) {
 static int ask_proved(const word *words) {
     gremolunde_session_mark mark;
     uint32_t address;
-    if (!started || !address_of(words[0], &address) || !lend(BIT(MAP), 0)) {
+    if (!*asked->started || !address_of(words[0], &address) || !lend(BIT(MAP), 0)) {
         return 0;
     }
-    mark = gremolunde_session_proved(session, LENT(MAP), address);
+    mark = asked->proved(address);
     give_number(mark.number);
     if (mark.number == 0) {
         give_number(mark.proved);
@@ -941,17 +990,23 @@ static int ask_outcome(const word *words) {
     static const uint32_t unfinished = 45;
     uint32_t outcome;
     (void)words;
-    if (!started || !lend(0, 0)) {
+    if (!*asked->started || !lend(0, 0)) {
         return 0;
     }
-    outcome = gremolunde_session_outcome(session);
+    outcome = asked->outcome();
     give_number(outcome == unfinished ? unfinished : 0);
     if (outcome != unfinished) {
-        give_word("ended");
-        give_number(outcome);
+        give_ending(outcome);
     }
     return 1;
 }
+
+static int ask_log(const word *words) {
+    (void)words;
+    return *asked->started && lend(0, BIT(LOG)) && give_length(asked->log(), parts[LOG]);
+}
+
+/* Requests: whole loads. */
 
 /* Loader and session at the end of a load; a refusal hands the loader back. */
 static int give_load(gremolunde_rehearsal load) {
@@ -962,9 +1017,9 @@ static int give_load(gremolunde_rehearsal load) {
     }
     loader = load.loader;
     session = load.session;
-    started = 1;
+    session_started = 1;
     hold(session.phase == GREMOLUNDE_ENDED);
-    give_ending(session);
+    give_ending(session.outcome);
     give_number(session.acknowledged);
     return 1;
 }
@@ -1000,11 +1055,6 @@ static int ask_noisy(const word *words) {
 }
 
 /* Requests: the service log. */
-
-static int ask_log(const word *words) {
-    (void)words;
-    return started && lend(0, BIT(LOG)) && give_length(gremolunde_log_write(session, LENT(LOG)), parts[LOG]);
-}
 
 static int ask_logread(const word *words) {
     gremolunde_log said;
@@ -1052,6 +1102,7 @@ static const struct request {
     {"loader", 0, WORDS, ask_loader},
     {"reader", 0, WORDS, ask_reader},
     {"session", 0, WORDS, ask_session},
+    {"plain", 0, WORDS, ask_plain},
     {"turned", 1, 1, ask_turned},
     {"restored", 1, 1, ask_restored},
     {"build", 3, 3, ask_build},
@@ -1068,6 +1119,13 @@ static const struct request {
     {"line", 1, 1, ask_line},
     {"close", 0, 0, ask_close},
     {"write", 2, 2, ask_write},
+    {"logread", 1, 1, ask_logread},
+    {"rehearse", 2, 2, ask_rehearse},
+    {"noisy", 4, 4, ask_noisy},
+};
+
+/* The same of those that a session is asked, the plain one where the word `plain` goes before. */
+static const struct request of_sessions[] = {
     {"start", 1, 1, ask_start},
     {"answer", 1, 1, ask_answer},
     {"silence", 0, 0, ask_silence},
@@ -1075,10 +1133,18 @@ static const struct request {
     {"proved", 1, 1, ask_proved},
     {"outcome", 0, 0, ask_outcome},
     {"log", 0, 0, ask_log},
-    {"logread", 1, 1, ask_logread},
-    {"rehearse", 2, 2, ask_rehearse},
-    {"noisy", 4, 4, ask_noisy},
 };
+
+/* The request of that name, or NULL. */
+static const struct request *find(const struct request *r, size_t count, word name) {
+    while (count > 0 && !is(name, r->name)) {
+        count--;
+        r++;
+    }
+    return count > 0 ? r : NULL;
+}
+
+#define FIND(table, name) find(table, COUNT(table), name)
 
 /* Splits a word at its first space: what stands before it, and what is left behind it, if there is one. */
 static word split(word *left) {
@@ -1091,23 +1157,38 @@ static word split(word *left) {
 }
 
 /* The last word takes all that is left, so a word too many makes it none that a request takes. */
-static int ask(word line) {
-    const struct request *r = requests;
-    word words[WORDS + 1] = {{NULL, 0}}, name = split(&line);
+static int ask_with(const struct request *r, word left) {
+    word words[WORDS + 1] = {{NULL, 0}};
     size_t count = 0;
-    while (r < requests + COUNT(requests) && !is(name, r->name)) {
-        r++;
+    while (left.at != NULL && count + 1 < r->most) {
+        words[count++] = split(&left);
     }
-    if (r == requests + COUNT(requests)) {
-        return 0;
-    }
-    while (line.at != NULL && count + 1 < r->most) {
-        words[count++] = split(&line);
-    }
-    if (line.at != NULL) {
-        words[count++] = line;
+    if (left.at != NULL) {
+        words[count++] = left;
     }
     return count >= r->least && count <= r->most && r->ask(words);
+}
+
+/* What one kind of session is asked, or NULL where that is no request of theirs. */
+static const struct request *of_session(const struct host *host, word name) {
+    asked = host;
+    return FIND(of_sessions, name);
+}
+
+static int ask(word line) {
+    word name = split(&line), left = line;
+    const struct request *r = NULL;
+    if (is(name, "plain") && line.at != NULL) {
+        r = of_session(&host_plain, split(&left));
+    }
+    if (r == NULL) {
+        left = line;
+        r = FIND(requests, name);
+    }
+    if (r == NULL) {
+        r = of_session(&host_session, name);
+    }
+    return r != NULL && ask_with(r, left);
 }
 
 static void answer(word line) {

@@ -4,6 +4,7 @@
 use crate::hex::{check_sizes, HexRefusal, Reader, RuleSet};
 use crate::loader::{self, Condition, Loader, Protection};
 use crate::packet::LONGEST;
+use crate::plain::{Plain, Stage};
 use crate::port::Port;
 use crate::receiver::Receiver;
 use crate::refusal::Refusal;
@@ -13,6 +14,10 @@ use crate::units::{Board, ByteAddress, Page};
 /// What a record that came from no start counts as: the wait for the erase of
 /// a page that no board has.
 const NOWHERE: Phase = Phase::Erase(Page(u32::MAX));
+
+/// The same of a plain session: the wait for the greeting with more packets
+/// acknowledged than any file has.
+const NEVER: (Stage, u32) = (Stage::Waiting, u32::MAX);
 
 /// The numbers of the rule sets.
 pub const RULES_1: u32 = 1;
@@ -333,9 +338,8 @@ impl SessionRecord {
     }
 
     pub fn of_fields(fields: &[u64]) -> Option<SessionRecord> {
-        let fields: Result<Vec<u32>, _> = fields.iter().map(|field| (*field).try_into()).collect();
         let [board, run, phase, page, address, outcome, acknowledged, total, named] =
-            fields.ok()?[..]
+            words(fields)?[..]
         else {
             return None;
         };
@@ -379,11 +383,7 @@ impl From<Session> for SessionRecord {
     fn from(session: Session) -> SessionRecord {
         let record = SessionRecord {
             board: session.board.pages(),
-            run: match session.run {
-                Run::Reset => 0,
-                Run::Jump => 1,
-                Run::Hold => 2,
-            },
+            run: run_number(session.run),
             acknowledged: session.acknowledged,
             total: session.total,
             named: session.named,
@@ -405,6 +405,92 @@ impl From<Session> for SessionRecord {
             ..record
         }
     }
+}
+
+#[derive(Clone, Copy, Debug, Default, PartialEq, Eq)]
+pub struct PlainRecord {
+    pub board: u32,
+    pub run: u32,
+    pub stage: u32,
+    pub outcome: u32,
+    pub acknowledged: u32,
+    pub total: u32,
+    pub named: u32,
+}
+
+impl PlainRecord {
+    pub fn fields(&self) -> [u64; 7] {
+        [
+            self.board,
+            self.run,
+            self.stage,
+            self.outcome,
+            self.acknowledged,
+            self.total,
+            self.named,
+        ]
+        .map(u64::from)
+    }
+
+    pub fn of_fields(fields: &[u64]) -> Option<PlainRecord> {
+        let [board, run, stage, outcome, acknowledged, total, named] = words(fields)?[..] else {
+            return None;
+        };
+        Some(PlainRecord {
+            board,
+            run,
+            stage,
+            outcome,
+            acknowledged,
+            total,
+            named,
+        })
+    }
+
+    /// What it means, if its board is known. Before the end its outcome must be
+    /// 0.
+    pub fn meaning(&self) -> Result<Plain, Refusal> {
+        let stage = match (self.stage, self.outcome) {
+            (0, 0) => Some(Stage::Waiting),
+            (1, 0) => Some(Stage::UnderWay),
+            (2, number) => outcome(number).map(Stage::Ended),
+            _ => None,
+        };
+        let (stage, acknowledged) = stage.map_or(NEVER, |stage| (stage, self.acknowledged));
+        Ok(Plain {
+            board: board(self.board)?,
+            run: run(self.run),
+            stage,
+            acknowledged,
+            total: self.total,
+            named: self.named,
+        })
+    }
+}
+
+impl From<Plain> for PlainRecord {
+    fn from(plain: Plain) -> PlainRecord {
+        let (stage, outcome) = match plain.stage {
+            Stage::Waiting => (0, 0),
+            Stage::UnderWay => (1, 0),
+            Stage::Ended(outcome) => (2, outcome.number().into()),
+        };
+        PlainRecord {
+            board: plain.board.pages(),
+            run: run_number(plain.run),
+            stage,
+            outcome,
+            acknowledged: plain.acknowledged,
+            total: plain.total,
+            named: plain.named,
+        }
+    }
+}
+
+/// Fields of 32 bits; none where one is too large.
+fn words(fields: &[u64]) -> Option<Vec<u32>> {
+    let fields = fields.iter().map(|field| (*field).try_into().ok());
+    fields.collect()
 }
 
 /// The board that has so many pages.
@@ -453,16 +539,26 @@ pub fn run(number: u32) -> Run {
     }
 }
 
+fn run_number(run: Run) -> u32 {
+    match run {
+        Run::Reset => 0,
+        Run::Jump => 1,
+        Run::Hold => 2,
+    }
+}
+
 fn outcome(number: u32) -> Option<Outcome> {
     u8::try_from(number).ok().and_then(Outcome::from_number)
 }
 
 #[cfg(test)]
 mod tests {
+    use std::fmt::Debug;
+
     use super::*;
     use crate::map;
     use crate::packet::LONGEST;
-    use crate::session::Event;
+    use crate::session::{Event, Host};
 
     fn waiting_for(phase: u32, page: u32, address: u32, outcome: u32) -> SessionRecord {
         SessionRecord {
@@ -477,16 +573,27 @@ mod tests {
         }
     }
 
-    /// Neither a step nor a mark is given of a record that no call hands out.
-    fn check_refused(record: SessionRecord) {
-        let session = record.meaning().unwrap();
-        let mut map = vec![0; session.board.map_bytes()];
+    fn at(stage: u32, outcome: u32) -> PlainRecord {
+        PlainRecord {
+            board: 124,
+            stage,
+            outcome,
+            total: 4,
+            named: 1,
+            ..PlainRecord::default()
+        }
+    }
+
+    /// Neither a step nor a mark is given of what no call hands out.
+    fn check_refused(session: impl Host + Debug) {
+        let mut map = vec![0; session.board().map_bytes()];
         map::name(&mut map, 0);
-        let image = vec![0; session.board.flash_bytes()];
+        let image = vec![0; session.board().flash_bytes()];
         let stepped = session.step(Event::Silence, &image, &map, &mut [0; LONGEST]);
-        assert_eq!(stepped, Err(Refusal::OtherFile), "{record:?}");
+        assert_eq!(stepped.err(), Some(Refusal::OtherFile), "{session:?}");
         let proved = session.proved(&map, 0);
-        assert_eq!(proved, Err(Refusal::OtherFile), "{record:?}");
+        assert_eq!(proved, Err(Refusal::OtherFile), "{session:?}");
+        assert_eq!(session.outcome(), None, "{session:?}");
     }
 
     #[test]
@@ -516,11 +623,65 @@ mod tests {
         ] {
             for acknowledged in [0, 1, 2, 3, 4, u32::MAX] {
                 for board in [124, 248] {
-                    check_refused(SessionRecord {
+                    let record = SessionRecord {
                         board,
                         acknowledged,
                         ..waiting_for(phase, page, address, outcome)
-                    });
+                    };
+                    check_refused(record.meaning().unwrap());
+                }
+            }
+        }
+    }
+
+    #[test]
+    fn what_means_no_plain_session_is_refused() {
+        for (stage, outcome) in [
+            (0, 1),
+            (0, 40),
+            (0, u32::MAX),
+            (1, 1),
+            (1, 40),
+            (1, 256),
+            (2, 2),
+            (2, 39),
+            (2, 44),
+            (2, 45),
+            (2, 256),
+            (2, 296),
+            (2, u32::MAX),
+            (3, 0),
+            (3, 40),
+            (256, 0),
+            (257, 0),
+            (u32::MAX, 0),
+        ] {
+            for acknowledged in [0, 1, 2, 3, 4, u32::MAX] {
+                for board in [124, 248] {
+                    let record = PlainRecord {
+                        board,
+                        acknowledged,
+                        ..at(stage, outcome)
+                    };
+                    check_refused(record.meaning().unwrap());
+                }
+            }
+        }
+    }
+
+    #[test]
+    fn a_plain_session_is_what_its_record_means() {
+        for (stage, outcome) in [(0, 0), (1, 0), (2, 0), (2, 1), (2, 40), (2, 43)] {
+            for (board, run) in [(124, 0), (124, 1), (124, 2), (248, 0), (248, 2)] {
+                for acknowledged in [0, 3, u32::MAX] {
+                    let record = PlainRecord {
+                        board,
+                        run,
+                        acknowledged,
+                        ..at(stage, outcome)
+                    };
+                    assert_eq!(record.meaning().map(PlainRecord::from), Ok(record));
+                    assert_eq!(PlainRecord::of_fields(&record.fields()), Some(record));
                 }
             }
         }
@@ -560,6 +721,11 @@ mod tests {
                 ..waiting_for(0, 0, 0, 0)
             };
             assert_eq!(SessionRecord::from(record.meaning().unwrap()).run, 2);
+            let record = PlainRecord {
+                run: number,
+                ..at(0, 0)
+            };
+            assert_eq!(PlainRecord::from(record.meaning().unwrap()).run, 2);
         }
     }
 
@@ -615,6 +781,11 @@ mod tests {
                 ..waiting_for(6, 0, 0, 0)
             };
             assert_eq!(session.meaning(), Err(Refusal::UnknownBoard));
+            let plain = PlainRecord {
+                board: pages,
+                ..at(3, 0)
+            };
+            assert_eq!(plain.meaning(), Err(Refusal::UnknownBoard));
         }
     }
 }

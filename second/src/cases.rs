@@ -7,7 +7,7 @@ use std::fmt;
 use std::io::{self, BufRead, Write};
 
 use crate::boundary::{
-    self, LoaderRecord, PortRecord, ReaderRecord, ReceiverRecord, SessionRecord,
+    self, LoaderRecord, PlainRecord, PortRecord, ReaderRecord, ReceiverRecord, SessionRecord,
 };
 use crate::hex::{self, HexRefusal, Reader};
 use crate::line::{self, Exchange, Noise};
@@ -15,8 +15,9 @@ use crate::listing::{hex_digits, log_line};
 use crate::loader::{self, Loader};
 use crate::log;
 use crate::packet;
+use crate::plain::Plain;
 use crate::refusal::Refusal;
-use crate::session::{Event, Outcome, Phase, Run, Session};
+use crate::session::{Event, Host, Outcome, Run, Session};
 use crate::units::Board;
 
 pub use buffers::{Buffer, Part, CAPACITY};
@@ -107,6 +108,35 @@ pub struct Desk {
     receiver: ReceiverRecord,
     reader: ReaderRecord,
     session: Option<SessionRecord>,
+    plain: Option<PlainRecord>,
+}
+
+/// A session of one kind, as the desk keeps it.
+trait Kept: Host {
+    /// What the record means; none where there is no session of its kind.
+    fn kept(desk: &Desk) -> Option<Result<Self, Refusal>>;
+
+    fn keep(self, desk: &mut Desk);
+}
+
+impl Kept for Session {
+    fn kept(desk: &Desk) -> Option<Result<Session, Refusal>> {
+        desk.session.map(|record| record.meaning())
+    }
+
+    fn keep(self, desk: &mut Desk) {
+        desk.session = Some(self.into());
+    }
+}
+
+impl Kept for Plain {
+    fn kept(desk: &Desk) -> Option<Result<Plain, Refusal>> {
+        desk.plain.map(|record| record.meaning())
+    }
+
+    fn keep(self, desk: &mut Desk) {
+        desk.plain = Some(self.into());
+    }
 }
 
 impl Default for Desk {
@@ -124,6 +154,7 @@ impl Desk {
             receiver: ReceiverRecord::hunting(),
             reader: ReaderRecord::started(Board::Short),
             session: None,
+            plain: None,
         }
     }
 
@@ -145,6 +176,10 @@ impl Desk {
 
     pub fn session(&self) -> Option<SessionRecord> {
         self.session
+    }
+
+    pub fn plain(&self) -> Option<PlainRecord> {
+        self.plain
     }
 
     /// The bytes of a part as they stand.
@@ -197,7 +232,11 @@ impl Desk {
             (b"loader", []) => Some(shown(&self.loader.fields())),
             (b"reader", []) => Some(shown(&self.reader.fields())),
             (b"session", []) => Some(shown(&self.session?.fields())),
+            (b"plain", []) => Some(shown(&self.plain?.fields())),
             (b"loader" | b"reader" | b"session", fields) => self.set_record(name, fields),
+            (b"plain", [first, ..]) if words::number::<u64>(first).is_some() => {
+                self.set_record(name, &words)
+            }
             (name, words) => self.ask(name, words),
         }
     }
@@ -250,7 +289,8 @@ impl Desk {
         match name {
             b"loader" => self.loader = LoaderRecord::of_fields(&fields)?,
             b"reader" => self.reader = ReaderRecord::of_fields(&fields)?,
-            _ => self.session = Some(SessionRecord::of_fields(&fields)?),
+            b"session" => self.session = Some(SessionRecord::of_fields(&fields)?),
+            _ => self.plain = Some(PlainRecord::of_fields(&fields)?),
         }
         Some(Answer::nothing())
     }
@@ -277,21 +317,29 @@ impl Desk {
             (b"line", [bytes]) => self.take_record(&words::bytes(bytes)?),
             (b"close", []) => self.close(),
             (b"write", [from, upper]) => self.write(words::address(from)?, words::half(upper)?),
-            (b"start", [run]) => self.start(words::run(run)?),
-            (b"answer", [answer]) => self.step(0, &words::bytes(answer)?),
-            (b"silence", []) => self.step(1, &[]),
-            (b"event", [silent, answer]) => {
-                self.step(words::number(silent)?, &words::bytes(answer)?)
-            }
-            (b"proved", [at]) => self.proved(words::address(at)?),
-            (b"outcome", []) => self.outcome(),
-            (b"log", []) => self.write_log(),
             (b"logread", [input]) => self.read_log(&words::bytes(input)?),
             (b"rehearse", [run, losses]) => self.rehearse(words::run(run)?, &words::bytes(losses)?),
             (b"noisy", [run, each, losses, rubbish]) => {
                 let (run, each) = (words::run(run)?, words::number(each)?);
                 self.rehearse_noisy(run, each, &words::bytes(losses)?, &words::bytes(rubbish)?)
             }
+            (b"plain", [name, words @ ..]) => self.ask_session::<Plain>(name.as_bytes(), words),
+            _ => self.ask_session::<Session>(name, words),
+        }
+    }
+
+    /// Asks the session of one kind for something.
+    fn ask_session<S: Kept>(&mut self, name: &[u8], words: &[&str]) -> Option<Answer> {
+        match (name, words) {
+            (b"start", [run]) => self.start::<S>(words::run(run)?),
+            (b"answer", [answer]) => self.step::<S>(0, &words::bytes(answer)?),
+            (b"silence", []) => self.step::<S>(1, &[]),
+            (b"event", [silent, answer]) => {
+                self.step::<S>(words::number(silent)?, &words::bytes(answer)?)
+            }
+            (b"proved", [at]) => self.proved::<S>(words::address(at)?),
+            (b"outcome", []) => self.outcome::<S>(),
+            (b"log", []) => self.write_log::<S>(),
             _ => None,
         }
     }
@@ -471,16 +519,16 @@ impl Desk {
         })))
     }
 
-    fn start(&mut self, run: Run) -> Option<Answer> {
+    fn start<S: Kept>(&mut self, run: Run) -> Option<Answer> {
         let board = boundary::board(self.board);
         self.send(&[], |image, map, packet| {
-            Session::start(board?, run, image, map, packet)
+            S::start(board?, run, image, map, packet)
         })
     }
 
     /// A step; the flag goes above the answer.
-    fn step(&mut self, silent: u8, answer: &[u8]) -> Option<Answer> {
-        let session = self.session?.meaning();
+    fn step<S: Kept>(&mut self, silent: u8, answer: &[u8]) -> Option<Answer> {
+        let session = S::kept(self)?;
         let event = match silent {
             0 => Event::Answer(answer),
             _ => Event::Silence,
@@ -491,10 +539,10 @@ impl Desk {
     }
 
     /// Makes a call that gives a session and may write a packet.
-    fn send(
+    fn send<S: Kept>(
         &mut self,
         brought: &[u8],
-        call: impl Fn(&[u8], &[u8], &mut [u8]) -> Result<(Session, usize), Refusal>,
+        call: impl Fn(&[u8], &[u8], &mut [u8]) -> Result<(S, usize), Refusal>,
     ) -> Option<Answer> {
         let file = [Buffer::Image, Buffer::Map];
         self.buffers.call(brought, &[Buffer::Packet], &file)?;
@@ -503,16 +551,16 @@ impl Desk {
         let given = call(image, map, &mut packet);
         self.buffers.keep(Buffer::Packet, &packet);
         Some(Answer::of(given.map(|(session, length)| {
-            self.session = Some(session.into());
-            match session.phase {
-                Phase::Ended(outcome) => vec![ended(outcome)],
-                _ => vec![hex_digits(&packet[..length])],
+            session.keep(self);
+            match session.ended() {
+                Some(outcome) => vec![ended(outcome)],
+                None => vec![hex_digits(&packet[..length])],
             }
         })))
     }
 
-    fn proved(&mut self, at: u32) -> Option<Answer> {
-        let session = self.session?.meaning();
+    fn proved<S: Kept>(&mut self, at: u32) -> Option<Answer> {
+        let session = S::kept(self)?;
         self.buffers.call(&[], &[], &[Buffer::Map])?;
         let map = self.buffers.lent(Buffer::Map);
         let proved = session.and_then(|session| session.proved(map, at));
@@ -520,8 +568,8 @@ impl Desk {
         Some(Answer::of(shown))
     }
 
-    fn outcome(&mut self) -> Option<Answer> {
-        let session = self.session?.meaning();
+    fn outcome<S: Kept>(&mut self) -> Option<Answer> {
+        let session = S::kept(self)?;
         self.buffers.call(&[], &[], &[])?;
         // a session of an unknown board has not ended either
         let outcome = session.ok().and_then(|session| session.outcome());
@@ -529,8 +577,8 @@ impl Desk {
         Some(Answer::of(shown.ok_or(Refusal::NoLog)))
     }
 
-    fn write_log(&mut self) -> Option<Answer> {
-        let session = self.session?.meaning();
+    fn write_log<S: Kept>(&mut self) -> Option<Answer> {
+        let session = S::kept(self)?;
         self.buffers.call(&[], &[Buffer::Log], &[])?;
         let mut record = self.buffers.lent(Buffer::Log).to_vec();
         let written = session.and_then(|session| log::write(&session, &mut record));
@@ -586,11 +634,11 @@ impl Desk {
         self.buffers.keep(Buffer::Flash, &flash);
         Some(Answer::of(given.map(|session| {
             self.loader = loader.into();
-            self.session = Some(session.into());
+            session.keep(self);
             let acknowledged = session.acknowledged.to_string();
-            match session.phase {
-                Phase::Ended(outcome) => vec![ended(outcome), acknowledged],
-                _ => vec![acknowledged],
+            match session.ended() {
+                Some(outcome) => vec![ended(outcome), acknowledged],
+                None => vec![acknowledged],
             }
         })))
     }

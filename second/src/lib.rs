@@ -11,6 +11,7 @@ pub mod loader;
 pub mod log;
 pub mod map;
 pub mod packet;
+pub mod plain;
 pub mod port;
 pub mod receiver;
 pub mod refusal;

@@ -1,7 +1,7 @@
 //! The service log record, in a version of its own for each board.
 
 use crate::refusal::Refusal;
-use crate::session::{Outcome, Session};
+use crate::session::{Host, Outcome};
 use crate::units::Board;
 
 /// The shortest and the longest record.
@@ -57,13 +57,15 @@ impl Entry {
         self.board.log_version()
     }
 
-    fn of(session: &Session) -> Option<Entry> {
+    /// What the end of a session of either kind says, if that makes a record.
+    fn of(session: &impl Host) -> Option<Entry> {
+        let [acknowledged, total, named] = session.counts();
         let entry = Entry {
-            board: session.board,
+            board: session.board(),
             outcome: session.outcome()?,
-            acknowledged: session.acknowledged,
-            total: session.total,
-            named: session.named,
+            acknowledged,
+            total,
+            named,
         };
         (entry.fits() && entry.is_true()).then_some(entry)
     }
@@ -94,7 +96,7 @@ impl Entry {
     }
 }
 
-pub fn write(session: &Session, buffer: &mut [u8]) -> Result<usize, Refusal> {
+pub fn write(session: &impl Host, buffer: &mut [u8]) -> Result<usize, Refusal> {
     let entry = Entry::of(session).ok_or(Refusal::NoLog)?;
     let board = entry.board;
     let record = buffer.get_mut(..board.log_bytes()).ok_or(Refusal::Size)?;

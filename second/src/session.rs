@@ -24,7 +24,7 @@ pub enum Run {
 
 impl Run {
     /// The address that R carries; hold has no R.
-    fn address(self) -> Option<u32> {
+    pub fn address(self) -> Option<u32> {
         match self {
             Run::Reset => Some(1),
             Run::Jump => Some(0),
@@ -37,7 +37,7 @@ impl Run {
     }
 
     /// The one ending with every packet acknowledged.
-    fn asked_end(self) -> Outcome {
+    pub fn asked_end(self) -> Outcome {
         match self {
             Run::Reset | Run::Jump => Outcome::Valid,
             Run::Hold => Outcome::Held,
@@ -54,7 +54,7 @@ impl Run {
     }
 
     /// Whether a session of this kind ever ends so.
-    fn ends_with(self, outcome: Outcome) -> bool {
+    pub fn ends_with(self, outcome: Outcome) -> bool {
         !outcome.is_as_asked() || outcome == self.asked_end()
     }
 }
@@ -100,6 +100,44 @@ impl Outcome {
 pub enum Event<'a> {
     Answer(&'a [u8]),
     Silence,
+}
+
+/// What the quick session and the plain one both do.
+pub trait Host: Copy {
+    /// Starts one for a board and writes the single byte 08.
+    fn start(
+        board: Board,
+        run: Run,
+        image: &[u8],
+        map: &[u8],
+        buffer: &mut [u8],
+    ) -> Result<(Self, usize), Refusal>;
+
+    /// Takes one event and hands back the next state with the length of the
+    /// packet written, 0 for an ending.
+    fn step(
+        self,
+        event: Event,
+        image: &[u8],
+        map: &[u8],
+        buffer: &mut [u8],
+    ) -> Result<(Self, usize), Refusal>;
+
+    /// The ending that it is at, its run kind's or not.
+    fn ended(&self) -> Option<Outcome>;
+
+    /// How it ended; none while it is open, or after an end that is another run
+    /// kind's.
+    fn outcome(&self) -> Option<Outcome>;
+
+    /// Whether a byte is marked: the V that holds it is among the packets
+    /// acknowledged. The lent map must lead to this state.
+    fn proved(&self, map: &[u8], address: u32) -> Result<bool, Refusal>;
+
+    fn board(&self) -> Board;
+
+    /// Packets acknowledged, packet total and named bytes.
+    fn counts(&self) -> [u32; 3];
 }
 
 /// What a session waits for, and the place of the packet it sent.
@@ -320,6 +358,51 @@ impl Session {
     }
 }
 
+impl Host for Session {
+    fn start(
+        board: Board,
+        run: Run,
+        image: &[u8],
+        map: &[u8],
+        buffer: &mut [u8],
+    ) -> Result<(Session, usize), Refusal> {
+        Session::start(board, run, image, map, buffer)
+    }
+
+    fn step(
+        self,
+        event: Event,
+        image: &[u8],
+        map: &[u8],
+        buffer: &mut [u8],
+    ) -> Result<(Session, usize), Refusal> {
+        Session::step(self, event, image, map, buffer)
+    }
+
+    fn ended(&self) -> Option<Outcome> {
+        match self.phase {
+            Phase::Ended(outcome) => Some(outcome),
+            _ => None,
+        }
+    }
+
+    fn outcome(&self) -> Option<Outcome> {
+        Session::outcome(self)
+    }
+
+    fn proved(&self, map: &[u8], address: u32) -> Result<bool, Refusal> {
+        Session::proved(self, map, address)
+    }
+
+    fn board(&self) -> Board {
+        self.board
+    }
+
+    fn counts(&self) -> [u32; 3] {
+        [self.acknowledged, self.total, self.named]
+    }
+}
+
 impl Survey {
     /// All packets of a session over the file.
     pub fn total(&self, run: Run) -> u32 {
@@ -391,7 +474,7 @@ impl<'a> File<'a> {
 }
 
 /// All that a session is lent is of the right size; gives the map.
-fn check_lent<'a>(
+pub fn check_lent<'a>(
     board: Board,
     image: &[u8],
     map: &'a [u8],
@@ -403,7 +486,7 @@ fn check_lent<'a>(
     check_sizes(board, image, map)
 }
 
-fn is_greeting(board: Board, answer: &[u8]) -> bool {
+pub fn is_greeting(board: Board, answer: &[u8]) -> bool {
     let greeting = board.greeting();
     answer.len() == GREETING_BYTES
         && answer.starts_with(&greeting[..GREETING_FIXED])

@@ -9,9 +9,10 @@ use second::listing;
 use second::loader::{Condition, Loader, Protection, NO_KEY};
 use second::log;
 use second::packet::{self, Command};
+use second::plain::{Plain, Stage};
 use second::port::Port;
 use second::receiver::Receiver;
-use second::session::{Event, Outcome, Phase, Run, Session};
+use second::session::{Event, Host, Outcome, Phase, Run, Session};
 use second::units::{Board, ByteAddress, Page};
 use second::Refusal;
 
@@ -872,15 +873,23 @@ impl Reading {
     }
 
     fn session(&self, run: Run) -> Session {
+        self.started(run)
+    }
+
+    fn plain(&self, run: Run) -> Plain {
+        self.started(run)
+    }
+
+    fn started<H: Host>(&self, run: Run) -> H {
         let mut packet = [0xAA; packet::LONGEST];
         let (image, map) = (&self.image, &self.map);
-        let started = Session::start(self.board(), run, image, map, &mut packet);
-        let (session, length) = started.unwrap();
+        let started = H::start(self.board(), run, image, map, &mut packet);
+        let (session, length) = started.unwrap_or_else(|refusal| panic!("{refusal:?}"));
         assert_eq!((length, packet[0], packet[1]), (1, 0x08, 0xAA));
         session
     }
 
-    fn step(&self, session: Session, event: Event) -> Result<(Session, Vec<u8>), u8> {
+    fn step<H: Host>(&self, session: H, event: Event) -> Result<(H, Vec<u8>), u8> {
         let mut packet = [0xAA; 300];
         match session.step(event, &self.image, &self.map, &mut packet) {
             Ok((next, length)) => {
@@ -892,7 +901,7 @@ impl Reading {
     }
 
     /// Whether a byte is marked, asked with this file's map.
-    fn mark(&self, session: Session, address: u32) -> Result<bool, u8> {
+    fn mark(&self, session: impl Host, address: u32) -> Result<bool, u8> {
         session
             .proved(&self.map, address)
             .map_err(|refusal| refusal.number())
@@ -3333,22 +3342,21 @@ fn outcomes_that_a_log_can_have() {
     }
 }
 
-fn logged(session: &Session) -> Vec<u8> {
-    let length = log_bytes(session.board);
+fn logged(session: &impl Host) -> Vec<u8> {
+    let length = log_bytes(session.board());
     let mut buffer = vec![0xAA; length + 1];
     assert_eq!(log::write(session, &mut buffer), Ok(length));
     assert_eq!(buffer.pop(), Some(0xAA));
     buffer
 }
 
-fn check_log(session: Session, record: &[u8]) {
+fn check_log(session: impl Host, record: &[u8]) {
     assert_eq!(logged(&session), record);
     let entry = log::read(record).unwrap();
     assert_eq!(entry.version(), record[2]);
     assert_eq!(Some(entry.outcome), session.outcome());
-    assert_eq!(entry.acknowledged, session.acknowledged);
-    assert_eq!(entry.total, session.total);
-    assert_eq!(entry.named, session.named);
+    let counts = [entry.acknowledged, entry.total, entry.named];
+    assert_eq!(counts, session.counts());
 }
 
 fn one_byte(board: Board) -> Reading {
@@ -3417,6 +3425,616 @@ fn log_of_a_hold_session_that_ended_otherwise() {
             let record = log_record(reading.board(), 40, [acknowledged, 3, 2]);
             check_log(ended, &record);
             assert_eq!(log::write(&state, &mut [0; 16]), Err(Refusal::NoLog));
+        }
+    }
+}
+
+/// The bytes 12 and 34 over the end of page 0 and 56 in page 3; on the long
+/// board the same 64 KiB further on.
+fn two_runs(board: Board) -> Reading {
+    let upper = u16::from(board == Board::Long);
+    Reading::of(board, &[&linear(upper), ":0201FF001234B8", ":0106000056A3"])
+}
+
+/// Where its three bytes are.
+fn bytes_of_two_runs(board: Board) -> [u32; 3] {
+    let base = u32::from(board == Board::Long) << 16;
+    [base + 0x1FF, base + 0x200, base + 0x600]
+}
+
+/// Its packets without R, numbered from 0: two E, two W and two V.
+fn list_of_two_runs(board: Board) -> [&'static str; 6] {
+    match board {
+        Board::Short => [
+            "070E06450000000002B3",
+            "070E06450000060001AE",
+            "070E0757000001FF12345C",
+            "070E0657000006005647",
+            "070E0756000001FF90A172",
+            "070E065600000600B2EC",
+        ],
+        Board::Long => [
+            "070E06450001000002B2",
+            "070E06450001060001AD",
+            "070E0757000101FF12345B",
+            "070E0657000106005646",
+            "070E0756000101FF90A171",
+            "070E065600010600B2EB",
+        ],
+    }
+}
+
+/// Each run kind with the R that it sends, and how its session ends.
+const ENDS: [(Run, Option<&str>, Outcome); 3] = [
+    (Run::Reset, Some("070E055200000001A8"), Outcome::Valid),
+    (Run::Jump, Some("070E055200000000A9"), Outcome::Valid),
+    (Run::Hold, None, Outcome::Held),
+];
+
+/// A plain session over `two_runs` as the paper has it.
+fn plain_of_two_runs(board: Board, run: Run, stage: Stage, acknowledged: u32) -> Plain {
+    Plain {
+        board,
+        run,
+        stage,
+        acknowledged,
+        total: if run == Run::Hold { 6 } else { 7 },
+        named: 3,
+    }
+}
+
+/// What a step wrote, in digits, and the next state.
+fn step_digits<H: Host>(reading: &Reading, session: H, event: Event) -> Result<(H, String), u8> {
+    let (next, packet) = reading.step(session, event)?;
+    Ok((next, listing::hex_digits(&packet)))
+}
+
+#[test]
+fn plain_session_picks_each_packet_by_its_number() {
+    for reading in files([two_runs]) {
+        let board = reading.board();
+        for (run, r, outcome) in ENDS {
+            let at = |stage, number| plain_of_two_runs(board, run, stage, number);
+            let mut plain = at(Stage::Waiting, 0);
+            assert_eq!(reading.plain(run), plain);
+            let mut event = Event::Answer(board.greeting());
+            for (number, packet) in (0..).zip(list_of_two_runs(board).into_iter().chain(r)) {
+                let next = at(Stage::UnderWay, number);
+                let stepped = step_digits(&reading, plain, event);
+                assert_eq!(stepped, Ok((next, packet.to_string())));
+                (plain, event) = (next, ACK);
+            }
+            let ended = at(Stage::Ended(outcome), plain.total);
+            assert_eq!(reading.step(plain, ACK), Ok((ended, vec![])));
+            assert_eq!(ended.outcome(), Some(outcome));
+        }
+    }
+}
+
+/// Every state of a whole plain session over `two_runs`.
+fn plain_states(board: Board, run: Run) -> Vec<Plain> {
+    let at = |stage, acknowledged| plain_of_two_runs(board, run, stage, acknowledged);
+    let total = at(Stage::Waiting, 0).total;
+    let mut states = vec![at(Stage::Waiting, 0)];
+    states.extend((0..total).map(|number| at(Stage::UnderWay, number)));
+    states.push(at(Stage::Ended(asked_end(run)), total));
+    states
+}
+
+#[test]
+fn plain_session_marks_a_byte_by_the_ack_to_its_v() {
+    for reading in files([two_runs]) {
+        let board = reading.board();
+        let [first, second, third] = bytes_of_two_runs(board);
+        for state in RUNS.into_iter().flat_map(|run| plain_states(board, run)) {
+            // the V numbered 4 holds two bytes, the V numbered 5 the third
+            let marked = [state.acknowledged > 4, state.acknowledged > 5];
+            assert_eq!(reading.mark(state, first), Ok(marked[0]), "{state:?}");
+            assert_eq!(reading.mark(state, second), Ok(marked[0]), "{state:?}");
+            assert_eq!(reading.mark(state, third), Ok(marked[1]), "{state:?}");
+            for other in [
+                first - 1,
+                second + 1,
+                third - 1,
+                third + 1,
+                first ^ 0x1_0000,
+            ] {
+                assert_eq!(reading.mark(state, other), Ok(false), "{state:?}");
+            }
+            for other in [board.flash_end(), u32::MAX] {
+                assert_eq!(reading.mark(state, other), Ok(false), "{state:?}");
+            }
+        }
+    }
+}
+
+#[test]
+fn plain_session_ends_as_its_events_say() {
+    for reading in files([two_runs]) {
+        let board = reading.board();
+        for state in RUNS.into_iter().flat_map(|run| plain_states(board, run)) {
+            for (event, outcome) in UNEXPECTED {
+                let expected = match (state.stage, event) {
+                    (Stage::Ended(_), _) => Err(44),
+                    (Stage::Waiting, Event::Answer(_)) => Ok(Outcome::WrongGreeting),
+                    _ => Ok(outcome),
+                };
+                if state.stage == Stage::Waiting && event == Event::Answer(board.greeting()) {
+                    continue;
+                }
+                let ended = expected.map(|outcome| Plain {
+                    stage: Stage::Ended(outcome),
+                    ..state
+                });
+                let stepped = reading.step(state, event);
+                assert_eq!(stepped, ended.map(|ended| (ended, vec![])));
+            }
+        }
+    }
+}
+
+#[test]
+fn plain_session_takes_the_greeting_that_is_exact_where_the_paper_says() {
+    for reading in files([two_runs]) {
+        let board = reading.board();
+        for run in RUNS {
+            let start = reading.plain(run);
+            for place in 0..24 {
+                let mut greeting = *board.greeting();
+                greeting[place] ^= 1;
+                let (next, _) = reading.step(start, Event::Answer(&greeting)).unwrap();
+                let expected = match (15..22).contains(&place) {
+                    true => Stage::UnderWay,
+                    false => Stage::Ended(Outcome::WrongGreeting),
+                };
+                assert_eq!((next.stage, next.acknowledged), (expected, 0));
+            }
+            for answer in [&[][..], &[0x06], &board.greeting()[..23], &[0; 25]] {
+                let (next, packet) = reading.step(start, Event::Answer(answer)).unwrap();
+                assert_eq!(next.outcome(), Some(Outcome::WrongGreeting));
+                assert!(packet.is_empty());
+            }
+        }
+    }
+}
+
+#[test]
+fn plain_start_refuses_20_then_32() {
+    for board in Board::ALL {
+        let (empty, far) = (Reading::new(board), two_runs(other(board)));
+        let start = |image: &[u8], map: &[u8], length: usize| {
+            let mut packet = vec![0xAA; length];
+            let refusal = Plain::start(board, Run::Hold, image, map, &mut packet).unwrap_err();
+            assert!(packet.iter().all(|byte| *byte == 0xAA));
+            refusal
+        };
+        for (image, map, length) in [
+            (&empty.image[1..], &empty.map[..], 259),
+            (&empty.image, &empty.map[1..], 259),
+            (&far.image, &empty.map, 259),
+            (&empty.image, &far.map, 259),
+            (&far.image, &far.map, 259),
+            (&empty.image, &empty.map, 258),
+            (&empty.image, &empty.map, 0),
+        ] {
+            assert_eq!(start(image, map, length), Refusal::Size);
+        }
+        assert_eq!(start(&empty.image, &empty.map, 259), Refusal::NoData);
+    }
+}
+
+/// Whatever else is wrong with it, and with each part of a wrong size.
+#[test]
+fn plain_step_refuses_20_then_44_then_46() {
+    for board in Board::ALL {
+        let (reading, far) = (two_runs(board), two_runs(other(board)));
+        let empty = Reading::new(board);
+        for state in RUNS.into_iter().flat_map(|run| plain_states(board, run)) {
+            let foreign = Plain { total: 8, ..state };
+            for state in [state, foreign] {
+                let size = Err(Refusal::Size);
+                let short = &mut [0; 258];
+                assert_eq!(state.step(ACK, &reading.image, &reading.map, short), size);
+                for (image, map) in [
+                    (&far.image, &reading.map),
+                    (&reading.image, &far.map),
+                    (&far.image, &far.map),
+                ] {
+                    assert_eq!(state.step(ACK, image, map, &mut [0; 259]), size);
+                }
+                for wrong in [&[], &reading.map[1..], &far.map] {
+                    assert_eq!(state.proved(wrong, 0), Err(Refusal::Size));
+                }
+            }
+            let number = match state.stage {
+                Stage::Ended(_) => 44,
+                _ => 46,
+            };
+            assert_eq!(reading.step(foreign, ACK), Err(number));
+            assert_eq!(empty.step(state, ACK), Err(number));
+            assert_eq!(reading.mark(foreign, 0), Err(46));
+            assert_eq!(empty.mark(state, 0), Err(46));
+        }
+    }
+}
+
+#[test]
+fn plain_session_of_another_file_is_refused() {
+    let changes: [fn(&mut Plain); 8] = [
+        |s| s.total += 1,
+        |s| s.total -= 1,
+        |s| s.total = 0,
+        |s| s.total = u32::MAX,
+        |s| s.named += 1,
+        |s| s.named -= 1,
+        |s| s.named = 0,
+        |s| s.named = u32::MAX,
+    ];
+    for reading in files([two_runs]) {
+        let board = reading.board();
+        for state in RUNS.into_iter().flat_map(|run| plain_states(board, run)) {
+            for change in changes {
+                let mut made_up = state;
+                change(&mut made_up);
+                assert_eq!(reading.mark(made_up, 0x1FF), Err(46), "{made_up:?}");
+                let number = if state.ended().is_some() { 44 } else { 46 };
+                assert_eq!(reading.step(made_up, ACK), Err(number), "{made_up:?}");
+            }
+        }
+    }
+}
+
+/// What an empty file would lead to if a start did not refuse it.
+#[test]
+fn plain_session_over_nothing_is_refused() {
+    for board in Board::ALL {
+        let empty = Reading::new(board);
+        for session in sessions_over_nothing(board) {
+            let plain = Plain {
+                board,
+                run: session.run,
+                stage: match session.phase {
+                    Phase::Greeting => Stage::Waiting,
+                    Phase::Ended(outcome) => Stage::Ended(outcome),
+                    _ => Stage::UnderWay,
+                },
+                acknowledged: session.acknowledged,
+                total: session.total,
+                named: 0,
+            };
+            let number = if is_open(&session) { 46 } else { 44 };
+            assert_eq!(empty.step(plain, ACK), Err(number), "{plain:?}");
+            assert_eq!(empty.mark(plain, 0), Err(46), "{plain:?}");
+            assert_eq!(log::write(&plain, &mut [0; 16]), Err(Refusal::NoLog));
+        }
+    }
+}
+
+/// No packet is acknowledged before the greeting, and none is waited for behind
+/// the last.
+#[test]
+fn plain_session_with_a_number_that_no_events_lead_to_is_refused() {
+    for reading in files([two_runs]) {
+        for run in RUNS {
+            let at = |stage, number| plain_of_two_runs(reading.board(), run, stage, number);
+            let total = reading.plain(run).total;
+            for number in (0..10).chain([u32::MAX]) {
+                for (stage, comes) in [
+                    (Stage::Waiting, number == 0),
+                    (Stage::UnderWay, number < total),
+                ] {
+                    let expected = if comes { Ok(()) } else { Err(46) };
+                    let state = at(stage, number);
+                    assert_eq!(reading.mark(state, 0).map(|_| ()), expected);
+                    assert_eq!(reading.step(state, ACK).map(|_| ()), expected);
+                    assert_eq!(state.outcome(), None);
+                    assert_eq!(log::write(&state, &mut [0; 16]), Err(Refusal::NoLog));
+                }
+            }
+        }
+    }
+}
+
+/// The ends that so many acknowledgements allow, and those that they do not.
+#[test]
+fn plain_marks_are_refused_of_an_end_that_no_event_brings() {
+    for reading in files([two_runs]) {
+        for run in RUNS {
+            let total = reading.plain(run).total;
+            for number in (0..10).chain([u32::MAX]) {
+                let all = number == total;
+                for (outcome, comes) in [
+                    (Outcome::Valid, all && run != Run::Hold),
+                    (Outcome::Held, all && run == Run::Hold),
+                    (Outcome::Silent, number < total),
+                    (Outcome::Refused, number < total),
+                    (Outcome::WrongGreeting, number == 0),
+                    (Outcome::WrongAnswer, number < total),
+                ] {
+                    let stage = Stage::Ended(outcome);
+                    let ended = plain_of_two_runs(reading.board(), run, stage, number);
+                    let told = reading.mark(ended, 0).map(|_| ());
+                    assert_eq!(told, if comes { Ok(()) } else { Err(46) }, "{ended:?}");
+                    assert_eq!(reading.step(ended, ACK), Err(44));
+                }
+            }
+        }
+    }
+}
+
+#[test]
+fn plain_session_changed_to_or_from_hold_is_refused() {
+    for reading in files([two_runs]) {
+        for (run, other) in [
+            (Run::Reset, Run::Hold),
+            (Run::Jump, Run::Hold),
+            (Run::Hold, Run::Reset),
+            (Run::Hold, Run::Jump),
+        ] {
+            for state in plain_states(reading.board(), run) {
+                let changed = Plain {
+                    run: other,
+                    ..state
+                };
+                assert_eq!(reading.mark(changed, 0), Err(46), "{changed:?}");
+                let number = if state.ended().is_some() { 44 } else { 46 };
+                assert_eq!(reading.step(changed, ACK), Err(number), "{changed:?}");
+            }
+        }
+    }
+}
+
+/// Valid is no end of hold, and held none of reset or jump.
+#[test]
+fn plain_end_that_is_another_run_kinds_is_none() {
+    for reading in files([two_runs]) {
+        for (run, outcome) in [
+            (Run::Reset, Outcome::Held),
+            (Run::Jump, Outcome::Held),
+            (Run::Hold, Outcome::Valid),
+        ] {
+            let total = reading.plain(run).total;
+            let stage = Stage::Ended(outcome);
+            let mixed = plain_of_two_runs(reading.board(), run, stage, total);
+            assert_eq!((mixed.ended(), mixed.outcome()), (Some(outcome), None));
+            assert_eq!(reading.mark(mixed, 0), Err(46));
+            assert_eq!(reading.step(mixed, ACK), Err(44));
+            let mut buffer = [0xAA; 16];
+            assert_eq!(log::write(&mixed, &mut buffer), Err(Refusal::NoLog));
+            assert_eq!(buffer, [0xAA; 16]);
+        }
+    }
+}
+
+#[test]
+fn plain_log_records() {
+    let valid = |board| plain_of_two_runs(board, Run::Jump, Stage::Ended(Outcome::Valid), 7);
+    let held = |board| plain_of_two_runs(board, Run::Hold, Stage::Ended(Outcome::Held), 6);
+    check_log(valid(Board::Short), &[0, 8, 1, 0, 0, 7, 0, 7, 0, 3]);
+    check_log(held(Board::Short), &[0, 8, 1, 1, 0, 6, 0, 6, 0, 3]);
+    let long = |outcome, count| {
+        let counts = [0, 0, 0, count, 0, 0, 0, count, 0, 0, 0, 3];
+        [&[0, 14, 2, outcome][..], &counts].concat()
+    };
+    check_log(valid(Board::Long), &long(0, 7));
+    check_log(held(Board::Long), &long(1, 6));
+    for board in Board::ALL {
+        for (outcome, acknowledged) in [
+            (Outcome::Silent, 6),
+            (Outcome::Refused, 0),
+            (Outcome::WrongGreeting, 0),
+            (Outcome::WrongAnswer, 3),
+        ] {
+            let ended = plain_of_two_runs(board, Run::Reset, Stage::Ended(outcome), acknowledged);
+            let record = log_record(board, outcome.number(), [acknowledged, 7, 3]);
+            check_log(ended, &record);
+        }
+    }
+}
+
+/// Of an end whose counts make no record 45, also into a buffer that is too short.
+#[test]
+fn plain_log_refuses_45_then_20() {
+    let all_45: [fn(&mut Plain); 11] = [
+        |s| s.run = Run::Hold,
+        |s| s.stage = Stage::UnderWay,
+        |s| s.stage = Stage::Waiting,
+        |s| s.stage = Stage::Ended(Outcome::Held),
+        |s| s.stage = Stage::Ended(Outcome::Silent),
+        |s| s.acknowledged = 6,
+        |s| s.acknowledged = 8,
+        |s| (s.acknowledged, s.total) = (3, 3),
+        |s| s.named = 0,
+        |s| s.named = 126_977,
+        |s| (s.stage, s.acknowledged) = (Stage::Ended(Outcome::WrongGreeting), 1),
+    ];
+    for board in Board::ALL {
+        let valid = plain_of_two_runs(board, Run::Reset, Stage::Ended(Outcome::Valid), 7);
+        for length in [0, 1, log_bytes(board) - 1] {
+            let written = log::write(&valid, &mut vec![0; length]);
+            assert_eq!(written, Err(Refusal::Size));
+        }
+        for change in all_45 {
+            let mut made_up = valid;
+            change(&mut made_up);
+            for length in [0, log_bytes(board) - 1, 16] {
+                let written = log::write(&made_up, &mut vec![0; length]);
+                assert_eq!(written, Err(Refusal::NoLog), "{made_up:?}");
+            }
+        }
+    }
+}
+
+/// The record has counts alone: over another map with the same ones it goes on
+/// with that map's packets.
+#[test]
+fn plain_session_does_not_tell_maps_with_equal_counts_apart() {
+    for reading in files([plan_file]) {
+        let other = Reading::of(reading.board(), &[":020400001234B4"]);
+        let (plain, _) = reading
+            .step(reading.plain(Run::Reset), greeting_of(&reading))
+            .unwrap();
+        let (next, packet) = other.step(plain, ACK).unwrap();
+        assert_eq!(packet, built(Command::Write, 0x400, &[0x12, 0x34]));
+        let (next, packet) = reading.step(next, ACK).unwrap();
+        assert_eq!(packet, built(Command::Verify, 0x200, &[0x12, 0x34]));
+        let (next, _) = other.step(next, ACK).unwrap();
+        assert_eq!(other.mark(next, 0x400), Ok(true));
+        assert_eq!(reading.mark(next, 0x200), Ok(true));
+        assert_eq!(reading.mark(next, 0x400), Ok(false));
+    }
+}
+
+fn greeting_of(reading: &Reading) -> Event<'static> {
+    Event::Answer(reading.board().greeting())
+}
+
+#[test]
+fn plain_session_of_the_full_file_and_of_the_most_packets() {
+    for (board, pieces, most) in [(Board::Short, 254, 31_744), (Board::Long, 508, 63_488)] {
+        for (run, r) in [(Run::Reset, 1), (Run::Jump, 1), (Run::Hold, 0)] {
+            let plain = full_file(board).plain(run);
+            assert_eq!(plain.counts(), [0, 1 + 2 * pieces + r, board.flash_end()]);
+            let plain = most_pieces(board).plain(run);
+            assert_eq!(plain.counts(), [0, 1 + 2 * most + r, most]);
+        }
+    }
+}
+
+/// The quick session and the plain one after the same events.
+type Both = (Session, Plain);
+
+fn start_both(reading: &Reading, run: Run) -> Both {
+    let both = (reading.session(run), reading.plain(run));
+    check_both(both);
+    both
+}
+
+/// Tells both the same event and sees that they do the same.
+fn step_both(reading: &Reading, (quick, plain): Both, event: Event) -> Both {
+    let (quick, sent) = reading.step(quick, event).unwrap();
+    let (plain, same) = reading.step(plain, event).unwrap();
+    assert_eq!(sent, same, "{quick:?} {plain:?}");
+    check_both((quick, plain));
+    (quick, plain)
+}
+
+/// Endings, counts and log records.
+fn check_both((quick, plain): Both) {
+    assert_eq!(quick.ended(), plain.ended());
+    assert_eq!(quick.outcome(), plain.outcome());
+    assert_eq!(quick.counts(), plain.counts());
+    let mut records = [[0xAA; 16]; 2];
+    let [first, second] = &mut records;
+    let written = [log::write(&quick, first), log::write(&plain, second)];
+    assert_eq!(written[0], written[1]);
+    assert_eq!(records[0], records[1]);
+}
+
+fn check_marks_alike(reading: &Reading, (quick, plain): Both, addresses: &[u32]) {
+    for address in addresses {
+        let marks = [reading.mark(quick, *address), reading.mark(plain, *address)];
+        assert_eq!(marks[0], marks[1], "{address:X} {quick:?} {plain:?}");
+    }
+}
+
+/// Goes through a file; at each state, one in so many, all events and marks.
+fn check_walk_alike(reading: &Reading, run: Run, stride: u32) {
+    let end = reading.board().flash_end();
+    let (low, high) = runs_of(reading.board());
+    let addresses = [
+        0,
+        0x1FF,
+        0x200,
+        low,
+        low + 250,
+        high,
+        end - 1,
+        end,
+        u32::MAX,
+    ];
+    let mut both = start_both(reading, run);
+    let mut event = greeting_of(reading);
+    while both.0.ended().is_none() {
+        if both.0.acknowledged.is_multiple_of(stride) {
+            check_marks_alike(reading, both, &addresses);
+            for (unexpected, _) in UNEXPECTED {
+                let ended = step_both(reading, both, unexpected);
+                check_marks_alike(reading, ended, &addresses[..2]);
+            }
+        }
+        both = step_both(reading, both, event);
+        event = ACK;
+    }
+    check_marks_alike(reading, both, &addresses);
+    let after = [
+        reading.step(both.0, ACK).err(),
+        reading.step(both.1, ACK).err(),
+    ];
+    assert_eq!(after, [Some(44); 2]);
+}
+
+#[test]
+fn plain_session_does_what_the_quick_one_does() {
+    for reading in files([one_byte, plan_file, two_runs, three_pieces]) {
+        for run in RUNS {
+            check_walk_alike(&reading, run, 1);
+        }
+    }
+    for reading in files([full_file]) {
+        check_walk_alike(&reading, Run::Hold, 97);
+    }
+}
+
+/// A file of runs with gaps, other ones for each seed.
+fn scattered(board: Board, seed: u32) -> Reading {
+    let mut reading = mapped(board, 0);
+    let mut state = seed;
+    let mut place = 0;
+    loop {
+        state = state.wrapping_mul(1_664_525).wrapping_add(1_013_904_223);
+        let (gap, length) = (1 + (state >> 20), (state >> 8) % 700);
+        if place + gap + length > board.flash_end() {
+            return reading;
+        }
+        for at in (place + gap) as usize..(place + gap + length) as usize {
+            reading.map[at / 8] |= 1 << (at % 8);
+            reading.image[at] = (at as u32 ^ state) as u8;
+        }
+        place += gap + length;
+    }
+}
+
+#[test]
+fn plain_session_does_what_the_quick_one_does_over_scattered_runs() {
+    for board in Board::ALL {
+        for (seed, run) in (1..).zip([Run::Reset, Run::Jump, Run::Hold, Run::Hold]) {
+            check_walk_alike(&scattered(board, seed), run, 11);
+        }
+    }
+}
+
+/// Every second byte is a piece of its own, so the packets' numbers are known.
+#[test]
+fn plain_session_does_what_the_quick_one_does_with_the_most_packets() {
+    for reading in files([most_pieces]) {
+        let pieces = reading.board().flash_end() / 2;
+        for index in [0, 1, pieces / 2, pieces - 2, pieces - 1] {
+            let start = ByteAddress(2 * index);
+            for (phase, number) in [
+                (Phase::Write(start), 1 + index),
+                (Phase::Verify(start), 1 + pieces + index),
+            ] {
+                for run in RUNS {
+                    let (mut quick, mut plain) = start_both(&reading, run);
+                    (quick.phase, quick.acknowledged) = (phase, number);
+                    (plain.stage, plain.acknowledged) = (Stage::UnderWay, number);
+                    step_both(&reading, (quick, plain), ACK);
+                    let ended = step_both(&reading, (quick, plain), Event::Silence);
+                    let near = [2 * index, 2 * index + 1, 0];
+                    check_marks_alike(&reading, ended, &near);
+                }
+            }
         }
     }
 }
@@ -4750,6 +5368,102 @@ fn session_of_an_unknown_board_is_65_and_its_outcome_45() {
             "2 5 0 0 1 3 3 2",
             "7 6 5 4 3 2 1 0",
         ] {
+            check_cases(Board::Long, &lines.replace("FIELDS", fields));
+        }
+    }
+}
+
+#[test]
+fn case_lines_of_a_plain_session() {
+    for (board, pages, greeting, record) in [
+        (Board::Short, 124, "2D363220", "00080100000400040002"),
+        (
+            Board::Long,
+            248,
+            "2D313234",
+            "000E0200000000040000000400000002",
+        ),
+    ] {
+        let greeting = format!("4144754337303278202020{greeting}493331202020200A0D");
+        check_cases(
+            board,
+            &format!(
+                "plain -> ?\n\
+                 plain log -> ?\n\
+                 plain start reset -> 0 08\n\
+                 plain -> 0 {pages} 0 0 0 0 4 2\n\
+                 session -> ?\n\
+                 plain answer {greeting} -> 0 070E06450000020001B2\n\
+                 plain -> 0 {pages} 0 1 0 0 4 2\n\
+                 plain answer 06 -> 0 070E07570000020012345A\n\
+                 plain event 0 06 -> 0 070E07560000020090A170\n\
+                 plain outcome -> 45\n\
+                 plain proved 00000200 -> 0 0\n\
+                 plain answer 06 -> 0 070E055200000001A8\n\
+                 plain proved 00000200 -> 0 1\n\
+                 plain -> 0 {pages} 0 1 0 3 4 2\n\
+                 plain answer 06 -> 0 ended 0\n\
+                 changed -> 0\n\
+                 plain -> 0 {pages} 0 2 0 4 4 2\n\
+                 plain outcome -> 0 ended 0\n\
+                 plain log -> 0 {record}\n\
+                 plain silence -> 44\n\
+                 outcome -> ?\n"
+            ),
+        );
+    }
+}
+
+#[test]
+fn case_lines_of_plain_records() {
+    check_cases_of_both(
+        "plain BOARD 7 1 0 2 3 2 -> 0\n\
+         plain answer 06 -> 0 ended 1\n\
+         plain -> 0 BOARD 2 2 1 3 3 2\n\
+         plain BOARD 7 1 0 2 4 2 -> 0\n\
+         plain answer 06 -> 46\n\
+         plain proved 00000200 -> 46\n\
+         plain -> 0 BOARD 7 1 0 2 4 2\n\
+         plain BOARD 0 0 0 1 4 2 -> 0\n\
+         plain answer GREETING -> 46\n\
+         plain BOARD 0 3 0 1 4 2 -> 0\n\
+         plain silence -> 46\n\
+         plain outcome -> 45\n\
+         plain BOARD 0 1 40 1 4 2 -> 0\n\
+         plain event 1 06 -> 46\n\
+         plain BOARD 0 2 1 4 4 2 -> 0\n\
+         plain silence -> 44\n\
+         plain proved 00000200 -> 46\n\
+         plain outcome -> 45\n\
+         plain log -> 45\n\
+         plain BOARD 0 1 0 -> ?\n\
+         plain BOARD 0 1 0 0 4 2 0 -> ?\n\
+         plain start -> ?\n\
+         plain session -> ?\n\
+         plain -> 0 BOARD 0 2 1 4 4 2\n",
+    );
+}
+
+#[test]
+fn plain_session_of_an_unknown_board_is_65_and_its_outcome_45() {
+    let lines = "plain BOARD FIELDS -> 0\n\
+                 plain answer 06 -> 65\n\
+                 plain silence -> 65\n\
+                 plain proved 00000200 -> 65\n\
+                 plain outcome -> 45\n\
+                 plain log -> 65\n\
+                 lend map null -> 0\n\
+                 lend log null -> 0\n\
+                 plain answer 06 -> 65\n\
+                 plain proved 00000200 -> 65\n\
+                 plain log -> 65\n\
+                 board BOARD -> 0\n\
+                 plain start hold -> 65\n\
+                 changed -> 0\n\
+                 plain -> 0 BOARD FIELDS\n";
+    for pages in NO_BOARDS {
+        let lines = lines.replace("BOARD", &pages.to_string());
+        for fields in ["2 0 0 0 3 2", "2 1 0 2 3 2", "2 2 1 3 3 2", "7 6 5 4 3 2"] {
             check_cases(Board::Long, &lines.replace("FIELDS", fields));
         }
     }

@@ -1,14 +1,14 @@
 //! Numbers of pages that no board has, in every call that is told a board or
 //! given a record that carries one; and records changed to the other board.
 
-use second::boundary::{self, ReaderRecord, SessionRecord};
+use second::boundary::{self, PlainRecord, ReaderRecord, SessionRecord};
 use second::cases::{Buffer, Part};
 
 use crate::files;
 use crate::loaders;
 use crate::maps;
 use crate::noise;
-use crate::pair::{Noise, Pair, Receiver};
+use crate::pair::{Kept, Noise, Pair, Receiver};
 use crate::random::Random;
 use crate::rules::{self, SETS};
 use crate::sessions::{self, PACKET};
@@ -149,7 +149,10 @@ fn unknown_boards(pair: &mut Pair, random: &mut Random, site: Site) {
 fn every_call(pair: &mut Pair, random: &mut Random, site: Site, lent: Lent, board: u32) {
     told(pair, random, site, lent, board);
     read(pair, random, site, lent, board);
-    step(pair, random, site, lent, board);
+    let session = session(random, board);
+    step(pair, random, site, lent, session);
+    let plain = plain(random, board);
+    step(pair, random, site, lent, plain);
 }
 
 /// The calls that are told a board.
@@ -171,6 +174,7 @@ fn told(pair: &mut Pair, random: &mut Random, site: Site, lent: Lent, board: u32
     pair.write(board, file, from, writer::any_upper(random), lent.record);
     let run = sessions::run(random);
     pair.start(board, run, lent.image, lent.map, lent.packet);
+    pair.plain_start(board, run, lent.image, lent.map, lent.packet);
     let losses = random.pick(&[&[][..], &[1], &[0, 2]]);
     pair.rehearse(board, run, loader, losses, file, lent.flash);
     let noise = Noise {
@@ -193,10 +197,10 @@ fn read(pair: &mut Pair, random: &mut Random, site: Site, lent: Lent, board: u32
     pair.close_file(state);
 }
 
-/// The calls that are given a session.
-fn step(pair: &mut Pair, random: &mut Random, site: Site, lent: Lent, board: u32) {
+/// A session of any values, of this board.
+fn session(random: &mut Random, board: u32) -> SessionRecord {
     let any = random.word();
-    let state = SessionRecord {
+    SessionRecord {
         board,
         run: sessions::run(random),
         phase: random.pick(&[0, 1, 2, 3, 4, 5, 5, 5, 6, any]),
@@ -205,7 +209,25 @@ fn step(pair: &mut Pair, random: &mut Random, site: Site, lent: Lent, board: u32
         total: random.pick(&[3, 4, any]),
         named: random.pick(&[1, 2, any]),
         ..SessionRecord::default()
-    };
+    }
+}
+
+/// A plain one.
+fn plain(random: &mut Random, board: u32) -> PlainRecord {
+    let any = random.word();
+    PlainRecord {
+        board,
+        run: sessions::run(random),
+        stage: random.pick(&[0, 1, 2, 2, 3, any]),
+        outcome: random.pick(&[0, 0, 1, 40, 43, any]),
+        acknowledged: random.pick(&[0, 3, 4, any]),
+        total: random.pick(&[3, 4, any]),
+        named: random.pick(&[1, 2, any]),
+    }
+}
+
+/// The calls that are given a session of either kind.
+fn step(pair: &mut Pair, random: &mut Random, site: Site, lent: Lent, state: impl Kept) {
     let heard = random.pick(&[&[0x06][..], &[], site.board.greeting()]);
     let silent = random.pick(&[0, 0, 1]);
     let file = (lent.image, lent.map);

@@ -51,7 +51,7 @@ const BUFFERS: [&str; 10] = [
 ];
 
 /// Lines that are no case, and a remark or two.
-const JUNK: [&str; 45] = [
+const JUNK: [&str; 57] = [
     "",
     " ",
     "#",
@@ -97,6 +97,18 @@ const JUNK: [&str; 45] = [
     "noisy reset 1 00",
     "noisy reset 1 00 0",
     "noisy reset 18446744073709551616  ",
+    "plain ",
+    "plain start",
+    "plain start held",
+    "plain start 4294967296",
+    "plain answer",
+    "plain answer 06 06",
+    "plain event 256 06",
+    "plain proved 200",
+    "plain log ",
+    "plain plain",
+    "plain session",
+    "session start hold",
 ];
 
 /// Compares the stored list and gives its number of lines.
@@ -147,6 +159,14 @@ fn script(random: &mut Random) -> Vec<String> {
         "proved 00000000",
         "start reset",
         "start hold",
+        "plain",
+        "plain answer 06",
+        "plain event 1 06",
+        "plain silence",
+        "plain outcome",
+        "plain log",
+        "plain proved 00000000",
+        "plain start hold",
     ] {
         lines.push(line.to_string());
     }
@@ -155,7 +175,8 @@ fn script(random: &mut Random) -> Vec<String> {
         lend_for(site, &mut lines);
         bytes_and_packets(random, &mut lines);
         let named = file(random, &mut lines, site);
-        session(random, &mut lines, site, named);
+        session(random, &mut lines, site, named, SESSION);
+        session(random, &mut lines, site, named, PLAIN);
         loader(random, &mut lines, site);
         receiver(random, &mut lines, site);
         rehearsals(random, &mut lines, site);
@@ -282,9 +303,32 @@ fn run(random: &mut Random) -> String {
     random.pick(&["reset", "0", "jump", "1", hold, hold]).into()
 }
 
-fn session(random: &mut Random, lines: &mut Vec<String>, site: Site, named: u32) {
-    lines.push(format!("start {}", run(random)));
-    let line = format!("start {}", run(random));
+/// One kind of session: its record's word, what stands before its other words,
+/// and at most how many steps are taken at a time.
+#[derive(Clone, Copy)]
+struct Kind {
+    record: &'static str,
+    before: &'static str,
+    steps: u32,
+}
+
+const SESSION: Kind = Kind {
+    record: "session",
+    before: "",
+    steps: 60,
+};
+
+/// A step of the product lists a whole file, so there are fewer.
+const PLAIN: Kind = Kind {
+    record: "plain",
+    before: "plain ",
+    steps: 14,
+};
+
+fn session(random: &mut Random, lines: &mut Vec<String>, site: Site, named: u32, kind: Kind) {
+    let Kind { record, before, .. } = kind;
+    lines.push(format!("{before}start {}", run(random)));
+    let line = format!("{before}start {}", run(random));
     wrongly_told(random, lines, site, &line);
     let greeting = hex_digits(site.board.greeting());
     let wrong = hex_digits(site.other().board.greeting());
@@ -297,8 +341,8 @@ fn session(random: &mut Random, lines: &mut Vec<String>, site: Site, named: u32)
         "",
         "06",
     ]);
-    lines.push(format!("answer {answer}"));
-    let steps = random.within(1, 60);
+    lines.push(format!("{before}answer {answer}"));
+    let steps = random.within(1, kind.steps);
     for _ in 0..steps {
         let line = match random.below(80) {
             0 => "silence",
@@ -307,27 +351,31 @@ fn session(random: &mut Random, lines: &mut Vec<String>, site: Site, named: u32)
             3..8 => "event 0 06",
             _ => "answer 06",
         };
-        lines.push(line.to_string());
+        lines.push(format!("{before}{line}"));
         if random.once_in(8) {
             let any = random.below(site.end() + 0x100);
-            lines.push(format!("proved {:08X}", random.pick(&[named, any])));
-            let more = random.pick(&["session", "outcome", "changed", "look packet 00000000 9"]);
+            let address = random.pick(&[named, any]);
+            lines.push(format!("{before}proved {address:08X}"));
+            let outcome = format!("{before}outcome");
+            let more = random.pick(&[record, &outcome, "changed", "look packet 00000000 9"]);
             lines.push(more.to_string());
         }
     }
-    after_steps(random, lines, site, named);
+    after_steps(random, lines, site, named, kind);
 }
 
 /// Marks, outcome and log record of the session as it stands.
-fn after_steps(random: &mut Random, lines: &mut Vec<String>, site: Site, named: u32) {
+fn after_steps(random: &mut Random, lines: &mut Vec<String>, site: Site, named: u32, kind: Kind) {
+    let before = kind.before;
     let part = random.pick(&[image(site), map(site), PACKET]);
-    wrongly_lent(random, lines, part, "answer 06");
-    let proved = format!("proved {named:08X}");
+    wrongly_lent(random, lines, part, &format!("{before}answer 06"));
+    let proved = format!("{before}proved {named:08X}");
     wrongly_lent(random, lines, map(site), &proved);
     lines.push(proved);
-    lines.push("outcome".to_string());
-    wrongly_lent(random, lines, log(site), "log");
-    lines.push("log".to_string());
+    lines.push(format!("{before}outcome"));
+    let written = format!("{before}log");
+    wrongly_lent(random, lines, log(site), &written);
+    lines.push(written);
     let mut record = log_record(random);
     random.damage(&mut record);
     lines.push(format!("logread {}", hex_digits(&record)));
@@ -472,7 +520,13 @@ fn desk(random: &mut Random, lines: &mut Vec<String>) {
         lines.push(format!("fill {buffer} {place:08X} {length} {byte:02X}"));
         lines.push("changed".to_string());
     }
-    let record = random.pick(&[("loader", 7), ("reader", 7), ("reader", 7), ("session", 9)]);
+    let record = random.pick(&[
+        ("loader", 7),
+        ("reader", 7),
+        ("reader", 7),
+        ("session", 9),
+        ("plain", 7),
+    ]);
     made_up(random, lines, record);
     lines.push(random.pick(&JUNK).to_string());
 }
@@ -507,6 +561,10 @@ fn made_up(random: &mut Random, lines: &mut Vec<String>, (name, fields): (&str, 
         "log",
         "silence",
         "proved 00000000",
+        "plain outcome",
+        "plain log",
+        "plain silence",
+        "plain proved 00000000",
     ] {
         lines.push(line.to_string());
         lines.push(name.to_string());

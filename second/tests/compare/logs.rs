@@ -1,12 +1,12 @@
-//! The service log: records written from sessions, and read.
+//! The service log: records written from sessions of either kind, and read.
 
-use second::boundary::SessionRecord;
+use second::boundary::{PlainRecord, SessionRecord};
 use second::cases::{Buffer, Part};
 use second::units::Board;
 
 use crate::boards;
 use crate::made::{made, Entry, Made};
-use crate::pair::Pair;
+use crate::pair::{Kept, Pair};
 use crate::random::Random;
 use crate::sessions::{hold, run};
 
@@ -89,7 +89,11 @@ fn write_made(pair: &mut Pair, random: &mut Random, made: &Made, entry: Entry) {
         1 => hold(random),
         _ => run(random),
     };
-    let state = entry.session(told);
+    write_ended(pair, made, entry, entry.session(told));
+    write_ended(pair, made, entry, entry.plain(told));
+}
+
+fn write_ended(pair: &mut Pair, made: &Made, entry: Entry, state: impl Kept) {
     let (number, short, record_bytes) = match made.number {
         0 => (0, 20, entry.record()),
         _ => (45, 45, vec![]),
@@ -110,15 +114,41 @@ fn write_of_other_kind(pair: &mut Pair, random: &mut Random, entry: Entry) {
         1 => (OTHER_HELD, random.below(2)),
         _ => return,
     };
-    let state = entry.session(told);
-    let (number, _) = pair.log(state, record(entry.board));
+    write_no_end(pair, name, entry.board, entry.session(told));
+    write_no_end(pair, name, entry.board, entry.plain(told));
+}
+
+fn write_no_end(pair: &mut Pair, name: &'static str, board: Board, state: impl Kept) {
+    let (number, _) = pair.log(state, record(board));
     assert_eq!(number, 45, "{name}: {state:?}");
     assert_eq!(pair.outcome(state), None, "{name}: {state:?}");
-    pair.made(entry.board, name, number);
+    pair.made(board, name, number);
 }
 
 fn write(pair: &mut Pair, random: &mut Random, board: Board) {
     let state = session(random, board);
+    let plain = as_plain(random, state);
+    match random.once_in(4) {
+        true => write_any(pair, random, board, plain),
+        false => write_any(pair, random, board, state),
+    }
+}
+
+/// A plain session with the counts of a session, ended or not.
+fn as_plain(random: &mut Random, state: SessionRecord) -> PlainRecord {
+    let any = random.word();
+    PlainRecord {
+        board: state.board,
+        run: state.run,
+        stage: random.pick(&[2, 2, 2, 2, 2, 2, 2, 0, 1, 3, any]),
+        outcome: state.outcome,
+        acknowledged: state.acknowledged,
+        total: state.total,
+        named: state.named,
+    }
+}
+
+fn write_any(pair: &mut Pair, random: &mut Random, board: Board, state: impl Kept) {
     let room = bytes(board);
     let length = random.pick(&[0, 1, 3, 9, 10, 15, room - 1, room, room, room, room + 1, 30]);
     let buffer = match length {

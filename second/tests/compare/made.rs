@@ -1,6 +1,6 @@
 //! Log records that are made on purpose, each with what the paper says of it.
 
-use second::boundary::SessionRecord;
+use second::boundary::{PlainRecord, SessionRecord};
 use second::units::Board;
 
 use crate::random::Random;
@@ -152,6 +152,19 @@ impl Entry {
             total: self.total,
             named: self.bytes,
             ..SessionRecord::default()
+        }
+    }
+
+    /// A plain session of this run kind that ended so.
+    pub fn plain(&self, run: u32) -> PlainRecord {
+        PlainRecord {
+            board: self.board.pages(),
+            run,
+            stage: 2,
+            outcome: self.outcome.into(),
+            acknowledged: self.acknowledged,
+            total: self.total,
+            named: self.bytes,
         }
     }
 }

@@ -16,6 +16,7 @@ mod noisy;
 mod packets;
 mod pair;
 mod places;
+mod plains;
 mod plans;
 mod programs;
 mod random;
@@ -49,7 +50,7 @@ const OFTEN_IN_PROGRAMS: u64 = 5;
 /// How often each listed column must be seen that is not the same in every line.
 const OFTEN_IN_COLUMNS: u64 = 2;
 
-const PARTS: [(&str, Compare); 13] = [
+const PARTS: [(&str, Compare); 14] = [
     ("packet", packets::compare),
     ("loader", loaders::compare),
     ("receiver", receivers::compare),
@@ -58,6 +59,7 @@ const PARTS: [(&str, Compare); 13] = [
     ("rule sets", rules::compare),
     ("hex writer", writer::compare),
     ("session", sessions::compare),
+    ("plain", plains::compare),
     ("log", logs::compare),
     ("rehearsal", rehearsals::compare),
     ("noisy line", noisy::compare),

@@ -1,7 +1,9 @@
 //! The product and the second program side by side: each line is asked of
 //! both, and the second program says what must come out.
 
-use second::boundary::{self, LoaderRecord, ReaderRecord, SessionRecord, RULES_1};
+use std::fmt::Debug;
+
+use second::boundary::{self, LoaderRecord, PlainRecord, ReaderRecord, SessionRecord, RULES_1};
 use second::cases::{self, Answer, Buffer, Desk, Part, CAPACITY};
 use second::hex::RuleSet;
 use second::listing::hex_digits;
@@ -57,6 +59,104 @@ pub struct Written {
     pub text: String,
     pub next: u32,
     pub upper: u16,
+}
+
+/// The record of a session of either kind that a desk keeps.
+pub trait Kept: Copy + Debug + Default + PartialEq {
+    const NAMES: Names;
+
+    fn kept(desk: &Desk) -> Option<Self>;
+
+    /// Its fields.
+    fn numbers(&self) -> Vec<u64>;
+
+    fn board(&self) -> u32;
+
+    fn run(&self) -> u32;
+}
+
+/// The words of one kind of session, and what its calls and what comes of them
+/// are counted as.
+pub struct Names {
+    record: &'static str,
+    /// What stands before the words of its lines.
+    before: &'static str,
+    start: &'static str,
+    started: &'static str,
+    step: &'static str,
+    ending: &'static str,
+    ended_as_asked: &'static str,
+    proved: &'static str,
+    mark: &'static str,
+    outcome: &'static str,
+    ended: &'static str,
+    log: &'static str,
+}
+
+impl Kept for SessionRecord {
+    const NAMES: Names = Names {
+        record: "session",
+        before: "",
+        start: "start",
+        started: "started",
+        step: "step",
+        ending: "ending",
+        ended_as_asked: "ended as asked",
+        proved: "proved",
+        mark: "mark",
+        outcome: "outcome",
+        ended: "ended",
+        log: "log",
+    };
+
+    fn kept(desk: &Desk) -> Option<SessionRecord> {
+        desk.session()
+    }
+
+    fn numbers(&self) -> Vec<u64> {
+        self.fields().to_vec()
+    }
+
+    fn board(&self) -> u32 {
+        self.board
+    }
+
+    fn run(&self) -> u32 {
+        self.run
+    }
+}
+
+impl Kept for PlainRecord {
+    const NAMES: Names = Names {
+        record: "plain",
+        before: "plain ",
+        start: "plain start",
+        started: "plain started",
+        step: "plain step",
+        ending: "plain ending",
+        ended_as_asked: "plain ended as asked",
+        proved: "plain proved",
+        mark: "plain mark",
+        outcome: "plain outcome",
+        ended: "plain ended",
+        log: "plain log",
+    };
+
+    fn kept(desk: &Desk) -> Option<PlainRecord> {
+        desk.plain()
+    }
+
+    fn numbers(&self) -> Vec<u64> {
+        self.fields().to_vec()
+    }
+
+    fn board(&self) -> u32 {
+        self.board
+    }
+
+    fn run(&self) -> u32 {
+        self.run
+    }
 }
 
 impl Pair {
@@ -207,15 +307,15 @@ impl Pair {
         }
     }
 
-    fn set_session(&mut self, record: SessionRecord) {
-        if self.desk.session() != Some(record) {
-            self.ask(setting("session", &record.fields()));
+    fn set_session<S: Kept>(&mut self, record: S) {
+        if S::kept(&self.desk) != Some(record) {
+            self.ask(setting(S::NAMES.record, &record.numbers()));
         }
     }
 
-    /// The session that is kept; all 0 where there is none.
-    fn session(&self) -> SessionRecord {
-        self.desk.session().unwrap_or_default()
+    /// The session of one kind that is kept; all 0 where there is none.
+    fn session<S: Kept>(&self) -> S {
+        S::kept(&self.desk).unwrap_or_default()
     }
 
     pub fn turned(&mut self, byte: u8) {
@@ -434,46 +534,67 @@ impl Pair {
         map: Part,
         buffer: Part,
     ) -> (u8, SessionRecord) {
+        self.start_one(board, told, image, map, buffer)
+    }
+
+    /// The number and the plain session that is kept.
+    pub fn plain_start(
+        &mut self,
+        board: u32,
+        told: u32,
+        image: Part,
+        map: Part,
+        buffer: Part,
+    ) -> (u8, PlainRecord) {
+        self.start_one(board, told, image, map, buffer)
+    }
+
+    fn start_one<S: Kept>(
+        &mut self,
+        board: u32,
+        told: u32,
+        image: Part,
+        map: Part,
+        buffer: Part,
+    ) -> (u8, S) {
         self.set_board(board);
         self.lend_file(image, map);
         self.lend(Buffer::Packet, buffer);
-        let line = format!("start {}", run(told));
-        let answer = self.call(On::of(board), "start", line);
-        self.given(&answer, "session");
+        let line = format!("{}start {}", S::NAMES.before, run(told));
+        let answer = self.call(On::of(board), S::NAMES.start, line);
+        self.given(&answer, S::NAMES.record);
         if answer.number == 0 {
-            self.note_kind("started");
+            self.note_kind::<S>(S::NAMES.started);
         }
         (answer.number, self.session())
     }
 
     /// How many bytes the packet has, and the next session.
-    pub fn step(
+    pub fn step<S: Kept>(
         &mut self,
-        record: SessionRecord,
+        record: S,
         silent: u8,
         heard: &[u8],
         (image, map): (Part, Part),
         buffer: Part,
-    ) -> (u32, SessionRecord) {
+    ) -> (u32, S) {
         self.set_session(record);
         self.lend_file(image, map);
         self.lend(Buffer::Packet, buffer);
         let digits = hex_digits(heard);
-        let answer = self.call(
-            On::of(record.board),
-            "step",
-            match (silent, heard) {
-                (0, _) => format!("answer {digits}"),
-                (1, []) => String::from("silence"),
-                _ => format!("event {silent} {digits}"),
-            },
-        );
-        self.given(&answer, "session");
+        let event = match (silent, heard) {
+            (0, _) => format!("answer {digits}"),
+            (1, []) => String::from("silence"),
+            _ => format!("event {silent} {digits}"),
+        };
+        let line = format!("{}{event}", S::NAMES.before);
+        let answer = self.call(On::of(record.board()), S::NAMES.step, line);
+        self.given(&answer, S::NAMES.record);
         match ending(&answer) {
             Some(number) => {
-                self.note(record.board, "ending", number);
+                self.note(record.board(), S::NAMES.ending, number);
                 if is_as_asked(number) {
-                    self.note_kind("ended as asked");
+                    self.note_kind::<S>(S::NAMES.ended_as_asked);
                 }
                 (0, self.session())
             }
@@ -492,38 +613,44 @@ impl Pair {
     }
 
     /// Counts the run kind of the session that is kept.
-    fn note_kind(&mut self, what: &'static str) {
-        let SessionRecord { board, run, .. } = self.session();
-        let kind = run.try_into().expect("a run kind's number");
-        self.note(board, what, kind);
+    fn note_kind<S: Kept>(&mut self, what: &'static str) {
+        let session: S = self.session();
+        let kind = session.run().try_into().expect("a run kind's number");
+        self.note(session.board(), what, kind);
     }
 
-    pub fn proved(&mut self, record: SessionRecord, map: Part, address: u32) {
+    /// The mark; none where that is refused.
+    pub fn proved<S: Kept>(&mut self, record: S, map: Part, address: u32) -> Option<u8> {
         self.set_session(record);
         self.lend(Buffer::Map, map);
-        let line = format!("proved {address:08X}");
-        let answer = self.call(On::of(record.board), "proved", line);
-        if let [mark] = &answer.values[..] {
-            self.note(record.board, "mark", mark.parse().expect("a mark"));
-        }
+        let line = format!("{}proved {address:08X}", S::NAMES.before);
+        let answer = self.call(On::of(record.board()), S::NAMES.proved, line);
+        let [mark] = &answer.values[..] else {
+            return None;
+        };
+        let mark = mark.parse().expect("a mark");
+        self.note(record.board(), S::NAMES.mark, mark);
+        Some(mark)
     }
 
     /// How it ended; none where that is refused.
-    pub fn outcome(&mut self, record: SessionRecord) -> Option<u8> {
+    pub fn outcome<S: Kept>(&mut self, record: S) -> Option<u8> {
         self.set_session(record);
-        let answer = self.call(On::of(record.board), "outcome", "outcome");
+        let line = format!("{}outcome", S::NAMES.before);
+        let answer = self.call(On::of(record.board()), S::NAMES.outcome, line);
         let ended = ending(&answer);
         if let Some(number) = ended {
-            self.note(record.board, "ended", number);
+            self.note(record.board(), S::NAMES.ended, number);
         }
         ended
     }
 
     /// The number and the record's bytes, none after a refusal.
-    pub fn log(&mut self, record: SessionRecord, buffer: Part) -> (u8, Vec<u8>) {
+    pub fn log<S: Kept>(&mut self, record: S, buffer: Part) -> (u8, Vec<u8>) {
         self.set_session(record);
         self.lend(Buffer::Log, buffer);
-        let answer = self.call(On::of(record.board), "log", "log");
+        let line = format!("{}log", S::NAMES.before);
+        let answer = self.call(On::of(record.board()), S::NAMES.log, line);
         let written = self.look(buffer.with_length(bytes_of(&answer)));
         (answer.number, written.to_vec())
     }
@@ -559,7 +686,7 @@ impl Pair {
         self.given(&answer, "loader");
         self.given(&answer, "session");
         if ending(&answer).is_some_and(is_as_asked) {
-            self.note_kind("rehearsed as asked");
+            self.note_kind::<SessionRecord>("rehearsed as asked");
         }
         (answer.number, self.desk.loader(), self.session())
     }

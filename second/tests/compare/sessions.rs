@@ -76,7 +76,7 @@ pub fn compare(pair: &mut Pair) {
 
 /// Where the map of another file over the same image stands, much like the
 /// session's.
-fn like_map(site: Site) -> Part {
+pub fn like_map(site: Site) -> Part {
     Part::new(Buffer::Other, 77, site.map.length())
 }
 
@@ -94,7 +94,8 @@ pub fn lend_file(pair: &mut Pair, random: &mut Random, site: Site, map: &[u8]) -
     map.survey(None).loading()
 }
 
-fn map(random: &mut Random, site: Site, kind: u32) -> Vec<u8> {
+/// A map of one of so many kinds.
+pub fn map(random: &mut Random, site: Site, kind: u32) -> Vec<u8> {
     let (board, end) = (site.board, site.end());
     match kind {
         0 => vec![0xFF; site.map_bytes()],
@@ -113,7 +114,7 @@ fn map(random: &mut Random, site: Site, kind: u32) -> Vec<u8> {
 }
 
 /// A map much like this one, often with the same counts.
-fn other_map(random: &mut Random, site: Site, map: &[u8]) -> Vec<u8> {
+pub fn other_map(random: &mut Random, site: Site, map: &[u8]) -> Vec<u8> {
     let mut other = map.to_vec();
     match random.below(4) {
         0 => other.rotate_right(64),
@@ -417,10 +418,17 @@ fn step_any(
     site: Site,
     state: SessionRecord,
 ) -> SessionRecord {
+    let (silent, bytes) = any_event(random, answer(site, state));
+    let (file, buffer) = any_lent(pair, random, site, &bytes);
+    pair.step(state, silent, &bytes, file, buffer).1
+}
+
+/// The flag and the bytes of an event, often the answer that is waited for.
+pub fn any_event(random: &mut Random, right: &[u8]) -> (u8, Vec<u8>) {
     let mut bytes = match random.below(4) {
         0 => vec![BEL],
         1 => vec![ACK],
-        _ => answer(site, state).to_vec(),
+        _ => right.to_vec(),
     };
     match random.below(6) {
         0 => random.damage(&mut bytes),
@@ -429,16 +437,26 @@ fn step_any(
         3 => bytes = vec![random.byte()],
         _ => {}
     }
-    let silent = random.pick(&[0, 0, 0, 0, 1, 0x80]);
+    (random.pick(&[0, 0, 0, 0, 1, 0x80]), bytes)
+}
+
+/// File and packet buffer, at times of a wrong size; the buffer at times right
+/// behind the bytes that the line brings.
+pub fn any_lent(
+    pair: &mut Pair,
+    random: &mut Random,
+    site: Site,
+    brought: &[u8],
+) -> ((Part, Part), Part) {
     let file = site.lent(random);
     let buffer = match random.once_in(8) {
         true => {
             pair.move_input(random.below(64));
-            pair.behind_input(&bytes, 259)
+            pair.behind_input(brought, 259)
         }
         false => buffer(random, site, file.0),
     };
-    pair.step(state, silent, &bytes, file, buffer).1
+    (file, buffer)
 }
 
 /// A run kind by its number, each kind as often.
@@ -454,7 +472,7 @@ pub fn hold(random: &mut Random) -> u32 {
 }
 
 /// A packet buffer, at times of a wrong size or next to the file.
-fn buffer(random: &mut Random, site: Site, image: Part) -> Part {
+pub fn buffer(random: &mut Random, site: Site, image: Part) -> Part {
     match random.below(30) {
         0 => PACKET.with_length(258),
         1 => PACKET.with_length(random.below(259)),
@@ -483,18 +501,23 @@ fn made_up(random: &mut Random, state: SessionRecord) -> SessionRecord {
             6 => &mut made_up.total,
             _ => &mut made_up.named,
         };
-        let any = random.word();
-        let small = random.below(8);
-        let step = random.pick(&[1, 2, 250, 512, 0x1_0000, any]);
-        *field = match random.below(5) {
-            0 => field.wrapping_add(step),
-            1 => field.wrapping_sub(step),
-            2 => random.pick(&[0, 1, 2, 40, 41, 42, 43, 44]),
-            3 => any,
-            _ => small,
-        };
+        *field = off(random, *field);
     }
     made_up
+}
+
+/// A field's value off by a little, one of another field, or any.
+pub fn off(random: &mut Random, value: u32) -> u32 {
+    let any = random.word();
+    let small = random.below(8);
+    let step = random.pick(&[1, 2, 250, 512, 0x1_0000, any]);
+    match random.below(5) {
+        0 => value.wrapping_add(step),
+        1 => value.wrapping_sub(step),
+        2 => random.pick(&[0, 1, 2, 40, 41, 42, 43, 44]),
+        3 => any,
+        _ => small,
+    }
 }
 
 /// A record of an end, its counts mostly the file's and else next to them.

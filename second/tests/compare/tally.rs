@@ -74,10 +74,11 @@ pub const ON_NOTHING: [(&str, &[u8]); 18] = [
 
 /// The same of the others, on either board; the endings that steps give and
 /// those that are read off; the marks; the run kinds of sessions that were
-/// started, and that ended as asked by steps and in rehearsals; the hex reader
-/// under each rule set too; the conditions that ports lead to; how loads with
-/// rubbish end, and that it did what the session did not.
-pub const ON_EACH: [(&str, &[u8]); 32] = [
+/// started, and that ended as asked by steps and in rehearsals; all that of plain
+/// sessions too, and how the two ended side by side; the hex reader under each
+/// rule set too; the conditions that ports lead to; how loads with rubbish end,
+/// and that it did what the session did not.
+pub const ON_EACH: [(&str, &[u8]); 43] = [
     ("take", &[0, 1, 2, 3, 4, 5, 6, 7, 8, 9, 10, 11, 20]),
     ("port", &[0, 1, 3, 4, 5, 6, 7, 8, 9, 10, 11, 20]),
     ("led to by a port", &[1, 2]),
@@ -104,6 +105,17 @@ pub const ON_EACH: [(&str, &[u8]); 32] = [
     ("outcome", &[0, 45]),
     ("ended", &[0, 1, 40, 41, 42, 43]),
     ("log", &[0, 20, 45]),
+    ("plain start", &[0, 20, 32]),
+    ("plain started", &[0, 1, 2]),
+    ("plain step", &[0, 20, 44, 46]),
+    ("plain ending", &[0, 1, 40, 41, 42, 43]),
+    ("plain ended as asked", &[0, 1, 2]),
+    ("plain proved", &[0, 20, 46]),
+    ("plain mark", &[0, 1]),
+    ("plain outcome", &[0, 45]),
+    ("plain ended", &[0, 1, 40, 41, 42, 43]),
+    ("plain log", &[0, 20, 45]),
+    ("ended side by side", &[0, 1, 40, 41, 42, 43]),
     ("logread", &[0, 52, 53]),
     ("rehearse", &[0, 20, 32]),
     ("rehearsed as asked", &[0, 1, 2]),
@@ -131,7 +143,7 @@ pub fn wrapped(board: Board) -> &'static [(&'static str, &'static [u8])] {
 }
 
 /// What each of them gives on a board that is none.
-pub const ON_UNKNOWN: [(&str, &[u8]); 13] = [
+pub const ON_UNKNOWN: [(&str, &[u8]); 18] = [
     ("take", &[65]),
     ("port", &[65]),
     ("hex", &[65]),
@@ -143,6 +155,11 @@ pub const ON_UNKNOWN: [(&str, &[u8]); 13] = [
     ("proved", &[65]),
     ("outcome", &[45]),
     ("log", &[65]),
+    ("plain start", &[65]),
+    ("plain step", &[65]),
+    ("plain proved", &[65]),
+    ("plain outcome", &[45]),
+    ("plain log", &[65]),
     ("rehearse", &[65]),
     ("noisy", &[65]),
 ];
