@@ -1,5 +1,5 @@
 // The plain session: at each step it lists every packet of the file afresh, and picks the next by number.
-pub mod list;
+mod list;
 pub mod plain;
-pub mod sending;
+mod sending;
 pub mod stage;
