@@ -1,5 +1,5 @@
--- The plain session and the quick one are alike, step by step: for every record of a plain session, made up or
--- not, every file and every event.
+-- The plain session and the quick one are alike, step by step: for every record of a plain session, made up
+-- or not, every file and every event.
 use Prim.Native.Nat.{ℕ, _+_, _<_}
 use mathlib.Core.Bool.{Bool, true, false, not}
 use mathlib.Core.List.{List, []}
@@ -157,16 +157,17 @@ module _ (board : ℕ) (m : List ℕ) (long : length m ≡ mapBytes board) (some
 -- a plain session that fits its board's file and has not ended
 module _ (m : List ℕ) (p : Plain) (long : length m ≡ mapBytes (p .board)) (f : fits.Fitting (p .board) m p)
     (on : stages.ended (p .stage) ≡ false) (e : Event) where
-  abbrev s : Session
-  s = quickOf m p
-
   took-same : quick.tookOf (p .board) m (quickOf m p) e ≡ quickOf m (plain.tookOf p e)
   unfolding quick.tookOf plain.tookOf
   took-same =
-      ap (λ (w : Awaited). quick.heardBy (p .board) m s w e) (awaits-same (p .board) m (p .stage) (p .acknowledged))
+      ap (λ (w : Awaited). quick.heardBy (p .board) m s w e)
+      (awaits-same (p .board) m (p .stage) (p .acknowledged))
       ∙ decide (goesOn w e) (λ t. rw t (ap (λ (x : Phase). quick.movedOf s x (acknowledges w)) moves))
       (λ t. rw t)
     where
+      s : Session
+      s = quickOf m p
+
       w : Awaited
       w = stages.awaitsOf (p .stage)
 
@@ -196,7 +197,8 @@ module _ (m : List ℕ) (p : Plain) (long : length m ≡ mapBytes (p .board)) (f
         packet = phases.packetOut (p .board) image m (p .kind) (x .phase);
       }) took-same
       ∙ ap (λ (w : List ℕ). record { session = quickOf m (plain.tookOf p e); packet = w })
-      (ap (λ (b : ℕ). phases.packetOut (p .board) image m (p .kind) (phaseOf b m (t .stage) (t .acknowledged)))
+      (ap (λ (b : ℕ).
+      phases.packetOut (p .board) image m (p .kind) (phaseOf b m (t .stage) (t .acknowledged)))
       board-kept
       ∙ packet-same (p .board) m long (f .some) (p .kind) image (t .stage) (t .acknowledged)
       (sym (ap (λ (x : ℕ). stages.waysOn x (t .stage) (t .acknowledged)) (f .total-is)) ∙ fits.took-ways p e))

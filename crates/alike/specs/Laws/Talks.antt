@@ -1,6 +1,6 @@
--- The plain session and the quick one are alike as a whole: for every file, every run kind and every series of
--- events, answers' bytes and silence alike, each step shows the same packet, byte for byte, the same ending or
--- refusal and the same log record.
+-- The plain session and the quick one are alike as a whole: for every file, every run kind and every series
+-- of events, answers' bytes and silence alike, each step shows the same packet, byte for byte, the same
+-- ending or refusal and the same log record.
 use Prim.Native.Nat.{ℕ}
 use mathlib.Core.List.{List, [], _∷_}
 use mathlib.Core.Path.{_≡_, refl, ap, ap₂, _∙_}
