@@ -10,18 +10,20 @@ use Rattle.image.specs.declared.hex.Hex.{Hex}
 use Rattle.line.specs.declared.rehearse.Load.{Load}
 use Rattle.loader.specs.declared.state.Loader.{Loader}
 use Rattle.packet.specs.Packet as packet
+use Rattle.plain.specs.declared.plain.Next as plain
 use Rattle.port.specs.Port.{Turn}
 use Rattle.port.specs.declared.port.Port.{Port}
 use Rattle.receiver.specs.declared.receiver.Receiver.{Receiver}
 use Rattle.receiver.specs.declared.receiver.Stretch.{Stretch}
 use Rattle.service_log.specs.declared.read.Record.{Record}
 use Rattle.session.specs.declared.session.Next.{Next}
-use Rattle.gremolunde.specs.States.{flagOf, loaderShown, hexShown, sessionShown}
+use Rattle.gremolunde.specs.States.{flagOf, loaderShown, hexShown, sessionShown, plainShown}
 use Rattle.gremolunde.specs.declared.answers.Length.{Length}
 use Rattle.gremolunde.specs.declared.files.HexRead.{HexRead}
 use Rattle.gremolunde.specs.declared.files.HexWritten.{HexWritten}
 use Rattle.gremolunde.specs.declared.loading.Taken.{Taken}
 use Rattle.gremolunde.specs.declared.packets.Parts.{Parts}
+use Rattle.gremolunde.specs.declared.plains.PlainStepped.{PlainStepped}
 use Rattle.gremolunde.specs.declared.ports.PortTaken.{PortTaken}
 use Rattle.gremolunde.specs.declared.receiving.Received.{Received}
 use Rattle.gremolunde.specs.declared.records.LogRecord.{LogRecord}
@@ -30,6 +32,7 @@ use Rattle.gremolunde.specs.declared.sessions.SessionMark.{SessionMark}
 use Rattle.gremolunde.specs.declared.sessions.SessionStepped.{SessionStepped}
 use Rattle.gremolunde.specs.declared.states.HexState.{HexState}
 use Rattle.gremolunde.specs.declared.states.LoaderState.{LoaderState}
+use Rattle.gremolunde.specs.declared.states.PlainState.{PlainState}
 use Rattle.gremolunde.specs.declared.states.SessionState.{SessionState}
 
 -- how many bytes were written
@@ -100,6 +103,15 @@ noSession =
 abbrev pub steppedAnswer : SessionState → Answer Next → SessionStepped
 steppedAnswer s (refused n) = record { number = n; length = 0; session = s }
 steppedAnswer s (given x) = record { number = 0; length = x .len; session = sessionShown (x .session) }
+
+-- the plain session; before a start there is none
+abbrev pub noPlain : PlainState
+noPlain =
+    record { board = 0; run = 0; stage = 0; outcome = 0; acknowledged = 0; total = 0; named = 0 }
+
+abbrev pub plainSteppedAnswer : PlainState → Answer plain.Next → PlainStepped
+plainSteppedAnswer s (refused n) = record { number = n; length = 0; plain = s }
+plainSteppedAnswer s (given x) = record { number = 0; length = x .len; plain = plainShown (x .plain) }
 
 -- loader and session at the end of a rehearsal
 abbrev pub rehearsedAnswer : LoaderState → Answer Load → Rehearsal

@@ -3,7 +3,7 @@
 use Prim.Native.Nat.{ℕ}
 use mathlib.Core.Bool.{Bool, not}
 use lib.Dec.{eqb}
-use Rattle.basis.specs.Choice.{pick}
+use Rattle.basis.specs.Choice.{pick, both}
 use Rattle.basis.specs.RunKinds.{paperKind, kindOf}
 use Rattle.events.specs.Endings.{paperOutcome}
 use Rattle.events.specs.declared.ending.Outcome.{Outcome}
@@ -13,11 +13,14 @@ use Rattle.loader.specs.declared.state.Condition.the-variants.{Waiting, Serving
 use Rattle.loader.specs.declared.state.Loader.{Loader}
 use Rattle.order.specs.Steps.{eraseAt, writeAt, verifyAt}
 use Rattle.order.specs.declared.step.Step.{Step}
+use Rattle.plain.specs.declared.plain.Plain.{Plain}
+use Rattle.plain.specs.declared.stage.Stage.{Stage}
 use Rattle.port.specs.declared.port.Port.{Port}
 use Rattle.session.specs.declared.phase.Phase.{Phase}
 use Rattle.session.specs.declared.session.Session.{Session}
 use Rattle.gremolunde.specs.declared.states.HexState.{HexState}
 use Rattle.gremolunde.specs.declared.states.LoaderState.{LoaderState}
+use Rattle.gremolunde.specs.declared.states.PlainState.{PlainState}
 use Rattle.gremolunde.specs.declared.states.PortState.{PortState}
 use Rattle.gremolunde.specs.declared.states.SessionState.{SessionState}
 
@@ -90,6 +93,16 @@ hexShown board h =
       taken = flagOf (h .taken);
     }
 
+-- 0 valid, 1 held, 40 silence, 41 BEL, 42 no greeting, 43 other; one that is not listed is taken for 43,
+-- so that its number is another
+abbrev pub outcomeMeant : ℕ → Outcome
+outcomeMeant o =
+    pick (eqb o 0) Outcome.Valid
+    (pick (eqb o 1) Outcome.Held
+    (pick (eqb o 40) Outcome.Silence
+    (pick (eqb o 41) Outcome.Bel
+    (pick (eqb o 42) Outcome.NoGreeting Outcome.Other))))
+
 -- a phase that no file has: its page lies past every board
 abbrev pub nowhere : Phase
 nowhere = Phase.Out (eraseAt 0xFFFFFFFF)
@@ -100,13 +113,7 @@ without field phase = pick (eqb field 0) phase nowhere
 
 -- an end by its outcome; one that the paper does not list is nowhere
 abbrev pub endMeant : ℕ → Phase
-endMeant o =
-    pick (eqb o 0) (Phase.Ended Outcome.Valid)
-    (pick (eqb o 1) (Phase.Ended Outcome.Held)
-    (pick (eqb o 40) (Phase.Ended Outcome.Silence)
-    (pick (eqb o 41) (Phase.Ended Outcome.Bel)
-    (pick (eqb o 42) (Phase.Ended Outcome.NoGreeting)
-    (pick (eqb o 43) (Phase.Ended Outcome.Other) nowhere)))))
+endMeant o = pick (eqb (paperOutcome (outcomeMeant o)) o) (Phase.Ended (outcomeMeant o)) nowhere
 
 -- 0 the greeting, 1 E at a page, 2 and 3 W and V at an address, 4 R, 5 an end by its
 -- outcome; all else is nowhere
@@ -171,4 +178,57 @@ sessionShown s =
       acknowledged = s .acknowledged;
       total = s .total;
       named = s .named;
+    }
+
+-- 0 waiting for the greeting, 1 under way, 2 an end by its outcome
+abbrev pub stageMeant : ℕ → ℕ → Stage
+stageMeant n outcome =
+    pick (eqb n 0) Stage.Waiting (pick (eqb n 1) Stage.UnderWay (Stage.Ended (outcomeMeant outcome)))
+
+abbrev pub stageShown : Stage → ℕ
+stageShown Stage.Waiting = 0
+stageShown Stage.UnderWay = 1
+stageShown (Stage.Ended o) = 2
+
+abbrev pub endingShown : Stage → ℕ
+endingShown Stage.Waiting = 0
+endingShown Stage.UnderWay = 0
+endingShown (Stage.Ended o) = paperOutcome o
+
+-- a stage and an outcome are listed where what they stand for is shown by them
+abbrev pub listed : ℕ → ℕ → Bool
+listed n outcome =
+    let s = stageMeant n outcome in
+    both (eqb (stageShown s) n) (eqb (endingShown s) outcome)
+
+-- the record at a stage, with so many packets acknowledged
+abbrev pub plainAt : PlainState → Stage → ℕ → Plain
+plainAt s stage k =
+    record {
+      board = s .board;
+      kind = kindOf (s .run);
+      stage = stage;
+      acknowledged = k;
+      total = s .total;
+      named = s .named;
+    }
+
+-- one that is not listed came from no start: it stands for one that waits for the greeting with a packet
+-- acknowledged, which fits no file
+abbrev pub plainMeant : PlainState → Plain
+plainMeant s =
+    pick (listed (s .stage) (s .outcome))
+    (plainAt s (stageMeant (s .stage) (s .outcome)) (s .acknowledged))
+    (plainAt s Stage.Waiting 1)
+
+abbrev pub plainShown : Plain → PlainState
+plainShown p =
+    record {
+      board = p .board;
+      run = paperKind (p .kind);
+      stage = stageShown (p .stage);
+      outcome = endingShown (p .stage);
+      acknowledged = p .acknowledged;
+      total = p .total;
+      named = p .named;
     }

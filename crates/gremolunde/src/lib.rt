@@ -3,6 +3,7 @@ pub mod answers;
 pub mod files;
 pub mod loading;
 pub mod packets;
+pub mod plains;
 pub mod ports;
 pub mod receiving;
 pub mod records;

@@ -37,7 +37,7 @@ pub extern "C" fn gremolunde_log_write(session: SessionState, buffer: &mut [u8])
     logged_answer(write(session_meant(session), buffer))
 }
 
-fn logged_answer(answer: Written) -> Length
+pub fn logged_answer(answer: Written) -> Length
     ensures { λ r. ⌜ r ≡ lengthAnswer (paperWritten answer) ⌝ }
 {
     match answer {

@@ -134,7 +134,7 @@ pub extern "C" fn gremolunde_session_proved(
     mark_answer(meant.proved(map, Address(address)))
 }
 
-fn mark_answer(answer: Mark) -> SessionMark
+pub fn mark_answer(answer: Mark) -> SessionMark
     ensures { λ r. ⌜ r ≡ markAnswer (paperMark answer) ⌝ }
 {
     match answer {

@@ -1,6 +1,6 @@
 // The states that a C caller keeps, and what each stands for.
 ghost use mathlib.Core.Path.{_≡_};
-ghost use Rattle.gremolunde.specs.States.{conditionMeant, conditionShown, loaderMeant, loaderShown, portMeant, hexMeant, hexShown, nowhere, endMeant, phaseMeant, without, phaseShown, pageShown, addressShown, outcomeShown, sessionMeant, sessionShown};
+ghost use Rattle.gremolunde.specs.States.{conditionMeant, conditionShown, loaderMeant, loaderShown, portMeant, hexMeant, hexShown, nowhere, outcomeMeant, endMeant, phaseMeant, without, phaseShown, pageShown, addressShown, outcomeShown, sessionMeant, sessionShown, stageMeant, stageShown, endingShown, listed, plainAt, plainMeant, plainShown};
 use crate::answers::flag;
 use basis::kind::RunKind;
 use basis::units::Address;
@@ -12,6 +12,8 @@ use loader::state::Condition;
 use loader::state::Loader;
 use loader::state::Sequence;
 use order::step::Step;
+use plain::plain::Plain;
+use plain::stage::Stage;
 use port::port::Port;
 use receiver::receiver::Receiver;
 use session::phase::Phase;
@@ -57,6 +59,19 @@ pub struct SessionState {
     pub phase: u32,
     pub page: u32,
     pub address: u32,
+    pub outcome: u32,
+    pub acknowledged: u32,
+    pub total: u32,
+    pub named: u32,
+}
+
+// `board` and `run` as a session has them. `stage` is 0 waiting for the greeting, 1 under way, 2 an end by `outcome`,
+// which is 0 before.
+#[repr(C)]
+pub struct PlainState {
+    pub board: u32,
+    pub run: u32,
+    pub stage: u32,
     pub outcome: u32,
     pub acknowledged: u32,
     pub total: u32,
@@ -209,14 +224,24 @@ fn without(field: u32, phase: Phase) -> Phase
 fn end_meant(outcome: u32) -> Phase
     ensures { λ r. ⌜ r ≡ endMeant outcome ⌝ }
 {
-    match outcome {
-        0 => Phase::Ended(Outcome::Valid),
-        1 => Phase::Ended(Outcome::Held),
-        40 => Phase::Ended(Outcome::Silence),
-        41 => Phase::Ended(Outcome::Bel),
-        42 => Phase::Ended(Outcome::NoGreeting),
-        43 => Phase::Ended(Outcome::Other),
-        _ => nowhere(),
+    let meant = outcome_meant(outcome);
+    if meant.number() as u32 != outcome {
+        return nowhere();
+    }
+    Phase::Ended(meant)
+}
+
+// One that is not listed is taken for `Other`, whose number is another.
+fn outcome_meant(number: u32) -> Outcome
+    ensures { λ r. ⌜ r ≡ outcomeMeant number ⌝ }
+{
+    match number {
+        0 => Outcome::Valid,
+        1 => Outcome::Held,
+        40 => Outcome::Silence,
+        41 => Outcome::Bel,
+        42 => Outcome::NoGreeting,
+        _ => Outcome::Other,
     }
 }
 
@@ -298,5 +323,86 @@ fn outcome_shown(phase: Phase) -> u32
         Phase::Greeting => 0,
         Phase::Out(_) => 0,
         Phase::Ended(outcome) => outcome.number() as u32,
+    }
+}
+
+pub fn plain_meant(state: PlainState) -> Plain
+    ensures { λ r. ⌜ r ≡ plainMeant state ⌝ }
+{
+    if listed(state.stage, state.outcome) {
+        let stage = stage_meant(state.stage, state.outcome);
+        return plain_at(state, stage, state.acknowledged);
+    }
+    // The greeting acknowledges no packet, so this fits no file: a step and a mark are 46, and there is no outcome.
+    plain_at(state, Stage::Waiting, 1)
+}
+
+fn plain_at(state: PlainState, stage: Stage, acknowledged: u32) -> Plain
+    ensures { λ r. ⌜ r ≡ plainAt state stage acknowledged ⌝ }
+{
+    Plain {
+        board: state.board,
+        kind: RunKind::of(state.run),
+        stage,
+        acknowledged,
+        total: state.total,
+        named: state.named,
+    }
+}
+
+// Whether what the numbers stand for is shown by them: no start leads to others.
+fn listed(number: u32, outcome: u32) -> bool
+    ensures { λ r. ⌜ r ≡ listed number outcome ⌝ }
+{
+    let stage = stage_meant(number, outcome);
+    if stage_shown(stage) != number {
+        return false;
+    }
+    ending_shown(stage) == outcome
+}
+
+fn stage_meant(number: u32, outcome: u32) -> Stage
+    ensures { λ r. ⌜ r ≡ stageMeant number outcome ⌝ }
+{
+    match number {
+        0 => Stage::Waiting,
+        1 => Stage::UnderWay,
+        _ => Stage::Ended(outcome_meant(outcome)),
+    }
+}
+
+pub fn plain_shown(plain: Plain) -> PlainState
+    ensures { λ r. ⌜ r ≡ plainShown plain ⌝ }
+{
+    let kind = plain.kind;
+    let stage = plain.stage;
+    PlainState {
+        board: plain.board,
+        run: kind.number(),
+        stage: stage_shown(stage),
+        outcome: ending_shown(stage),
+        acknowledged: plain.acknowledged,
+        total: plain.total,
+        named: plain.named,
+    }
+}
+
+fn stage_shown(stage: Stage) -> u32
+    ensures { λ r. ⌜ r ≡ stageShown stage ⌝ }
+{
+    match stage {
+        Stage::Waiting => 0,
+        Stage::UnderWay => 1,
+        Stage::Ended(_) => 2,
+    }
+}
+
+fn ending_shown(stage: Stage) -> u32
+    ensures { λ r. ⌜ r ≡ endingShown stage ⌝ }
+{
+    match stage {
+        Stage::Waiting => 0,
+        Stage::UnderWay => 0,
+        Stage::Ended(outcome) => outcome.number() as u32,
     }
 }

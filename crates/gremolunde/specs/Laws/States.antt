@@ -2,17 +2,26 @@
 -- passes on what was handed back goes the paper's way.
 use Prim.Native.Nat.{ℕ}
 use mathlib.Core.Bool.{Bool, true, false}
-use mathlib.Core.Path.{_≡_, refl}
+use mathlib.Core.List.{List}
+use mathlib.Core.Path.{_≡_, ap, refl}
+use borrow.Author.Tests.{eq-eqb}
+use lib.Dec.{eqb}
 use Rattle.basis.specs.Laws.RunKinds.{kind-back}
+use Rattle.events.specs.Endings.{paperOutcome}
 use Rattle.events.specs.declared.ending.Outcome.{Outcome}
 use Rattle.image.specs.declared.hex.Hex.{Hex}
 use Rattle.loader.specs.declared.state.Condition.{Condition}
 use Rattle.loader.specs.declared.state.Condition.the-variants.{Waiting, Serving, Left}
 use Rattle.loader.specs.declared.state.Loader.{Loader}
 use Rattle.order.specs.declared.step.Step.{Step}
+use Rattle.plain.specs.Laws.Fits.{unreached}
+use Rattle.plain.specs.Plain.{fitsOf}
+use Rattle.plain.specs.declared.plain.Plain.{Plain}
+use Rattle.plain.specs.declared.stage.Stage.{Stage}
 use Rattle.session.specs.declared.phase.Phase.{Phase}
 use Rattle.session.specs.declared.session.Session.{Session}
-use Rattle.gremolunde.specs.States.{isSet, flagOf, conditionMeant, conditionShown, loaderMeant, loaderShown, hexMeant, hexShown, phaseMeant, phaseShown, pageShown, addressShown, outcomeShown, sessionMeant, sessionShown}
+use Rattle.gremolunde.specs.declared.states.PlainState.{PlainState}
+use Rattle.gremolunde.specs.States.{isSet, flagOf, conditionMeant, conditionShown, loaderMeant, loaderShown, hexMeant, hexShown, outcomeMeant, phaseMeant, phaseShown, pageShown, addressShown, outcomeShown, sessionMeant, sessionShown, stageMeant, stageShown, endingShown, listed, plainAt, plainMeant, plainShown}
 
 flag-back : (t : Bool) → isSet (flagOf t) ≡ t
 flag-back true = refl
@@ -46,18 +55,24 @@ hex-back board h =
       taken = flag-back (h .taken) i;
     }
 
+outcome-back : (o : Outcome) → outcomeMeant (paperOutcome o) ≡ o
+outcome-back Outcome.Valid = refl
+outcome-back Outcome.Held = refl
+outcome-back Outcome.Silence = refl
+outcome-back Outcome.Bel = refl
+outcome-back Outcome.NoGreeting = refl
+outcome-back Outcome.Other = refl
+
+itself : (n : ℕ) → eqb n n ≡ true
+itself n = eq-eqb n n refl
+
 phase-back : (p : Phase) → phaseMeant (phaseShown p) (pageShown p) (addressShown p) (outcomeShown p) ≡ p
 phase-back Phase.Greeting = refl
 phase-back (Phase.Out (Step.Erase p)) = refl
 phase-back (Phase.Out (Step.Write a)) = refl
 phase-back (Phase.Out (Step.Verify a)) = refl
 phase-back (Phase.Out Step.Run) = refl
-phase-back (Phase.Ended Outcome.Valid) = refl
-phase-back (Phase.Ended Outcome.Held) = refl
-phase-back (Phase.Ended Outcome.Silence) = refl
-phase-back (Phase.Ended Outcome.Bel) = refl
-phase-back (Phase.Ended Outcome.NoGreeting) = refl
-phase-back (Phase.Ended Outcome.Other) = refl
+phase-back (Phase.Ended o) = rw (outcome-back o, itself (paperOutcome o)) refl
 
 pub session-back : (s : Session) → sessionMeant (sessionShown s) ≡ s
 session-back s =
@@ -69,3 +84,28 @@ session-back s =
       total = s .total;
       named = s .named;
     }
+
+stage-back : (s : Stage) → stageMeant (stageShown s) (endingShown s) ≡ s
+stage-back Stage.Waiting = refl
+stage-back Stage.UnderWay = refl
+stage-back (Stage.Ended o) = ap Stage.Ended (outcome-back o)
+
+listed-shown : (s : Stage) → listed (stageShown s) (endingShown s) ≡ true
+listed-shown s = rw (stage-back s, itself (stageShown s), itself (endingShown s)) refl
+
+pub plain-back : (p : Plain) → plainMeant (plainShown p) ≡ p
+plain-back p =
+    rw (listed-shown (p .stage))
+    (λ i. record {
+      board = p .board;
+      kind = kind-back (p .kind) i;
+      stage = stage-back (p .stage) i;
+      acknowledged = p .acknowledged;
+      total = p .total;
+      named = p .named;
+    })
+
+-- one that is not listed fits no file
+pub unlisted-fits : (board : ℕ) (m : List ℕ) (s : PlainState) → listed (s .stage) (s .outcome) ≡ false
+    → fitsOf board m (plainMeant s) ≡ false
+unlisted-fits board m s e = rw e (unreached board m (plainAt s Stage.Waiting 1) refl)

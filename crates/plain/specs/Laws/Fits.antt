@@ -1,11 +1,12 @@
 -- Laws of 46: what it is that a plain session fits a file.
 use Prim.Native.Nat.{ℕ, _+_, _≤_, _<_}
-use mathlib.Core.Bool.{true}
+use mathlib.Core.Bool.{Bool, true, false}
 use mathlib.Core.List.{List}
-use mathlib.Core.Path.{_≡_}
+use mathlib.Core.Path.{_≡_, refl}
 use native.Mathlib.Omega.{arith}
 use borrow.Author.Tests.{eqb-true, ltb-true}
 use lib.Dec.{eqb, ltb}
+use Rattle.basis.specs.Choice.{both}
 use Rattle.basis.specs.Laws.Choice.{decide, both-true}
 use Rattle.basis.specs.declared.kind.RunKind.{RunKind}
 use Rattle.events.specs.Endings.{goesOn, acknowledges, asked}
@@ -41,6 +42,20 @@ fitting board m p h =
       total-is = eqb-true _ _ (d .0);
       came-to = d .1;
     }
+
+-- one at a stage to which no events lead fits no file
+both-none : (a : Bool) {b : Bool} → b ≡ false → both a b ≡ false
+both-none true e = e
+both-none false e = refl
+
+pub unreached : (board : ℕ) (m : List ℕ) (p : Plain)
+    → cameAt (p .kind) (p .total) (p .stage) (p .acknowledged) ≡ false → fitsOf board m p ≡ false
+unfolding fitsOf cameOf
+unreached board m p e =
+    both-none (eqb (p .board) board)
+    (both-none (ltb 0 (namedCount board m))
+    (both-none (eqb (p .named) (namedCount board m))
+    (both-none (eqb (p .total) (total board m (p .kind))) e)))
 
 -- no more packets are acknowledged than there are
 pub came-most : (kind : RunKind) (n : ℕ) (s : Stage) (k : ℕ) → cameAt kind n s k ≡ true → k ≤ n

@@ -1,42 +1,35 @@
--- `end_meant` meets its contract: each arm is a row of the definition.
+-- `end_meant` meets its contract: an outcome with another number is nowhere.
 use mathlib.Core.Path.{refl}
 use borrow.Author.Needs.{needs}
-use borrow.Author.Tests.{ne-eqb}
+use borrow.Author.Tests.{eq-eqb, ne-eqb}
 use Rattle.gremolunde.proofs.states.end_meant.Statement.{statement}
 use Rattle.gremolunde.proofs.states.end_meant.Tie as tie
 
 returns : tie.Need-returns
-returns c = rw (c .match .keys1) refl
+returns c =
+    let numbered = c .before .before in
+    rw (
+      ← numbered .before .outcome-meant .ensures,
+      ← numbered .number .ensures,
+      ne-eqb _ _ (c .before .if1 .taken),
+    ) (c .nowhere .ensures)
 
 returns-2 : tie.Need-returns-2
-returns-2 c = rw (c .match .keys2) refl
-
-returns-3 : tie.Need-returns-3
-returns-3 c = rw (c .match .keys3) refl
-
-returns-4 : tie.Need-returns-4
-returns-4 c = rw (c .match .keys4) refl
-
-returns-5 : tie.Need-returns-5
-returns-5 c = rw (c .match .keys5) refl
-
-returns-6 : tie.Need-returns-6
-returns-6 c = rw (c .match .keys6) refl
-
-returns-7 : tie.Need-returns-7
-returns-7 c =
-    let r = c .before .match .rest in
-    simp (
-      c .nowhere .ensures,
-      ne-eqb _ _ (r .0 .0 .0 .0 .0 .1),
-      ne-eqb _ _ (r .0 .0 .0 .0 .1),
-      ne-eqb _ _ (r .0 .0 .0 .1),
-      ne-eqb _ _ (r .0 .0 .1),
-      ne-eqb _ _ (r .0 .1),
-      ne-eqb _ _ (r .1),
-    )
+returns-2 c =
+    let numbered = c .before in
+    rw (
+      ← numbered .before .outcome-meant .ensures,
+      ← numbered .number .ensures,
+      eq-eqb _ _ (c .if1 .left),
+    ) refl
 
 pub end-meant-spec : {M : Type 1} → statement M
 end-meant-spec =
     tie.close
-    (tie.spec (λ c κs. search needs) returns returns-2 returns-3 returns-4 returns-5 returns-6 returns-7)
+    (tie.spec
+    (λ c κs. search needs)
+    (λ c κs. search needs)
+    (λ c. search needs)
+    (λ c κs. search needs)
+    returns
+    returns-2)
