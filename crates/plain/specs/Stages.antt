@@ -25,10 +25,10 @@ abbrev pub stageAt : RunKind → ℕ → ℕ → Stage
 stageAt kind n k = pick (ltb k n) Stage.UnderWay (Stage.Ended (asked kind))
 
 -- one that is under way has a packet left
-abbrev pub waysOn : ℕ → Stage → ℕ → Bool
-waysOn n Stage.Waiting k = true
-waysOn n Stage.UnderWay k = ltb k n
-waysOn n (Stage.Ended o) k = true
+abbrev pub packetLeft : ℕ → Stage → ℕ → Bool
+packetLeft n Stage.Waiting k = true
+packetLeft n Stage.UnderWay k = ltb k n
+packetLeft n (Stage.Ended o) k = true
 
 -- a start and events lead to the stage with k of n packets acknowledged: none where the greeting is awaited;
 -- one is left where it is under way; one that has ended is an ending that k acknowledgements allow

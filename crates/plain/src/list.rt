@@ -21,8 +21,8 @@ use runs::map::named;
 use runs::pages::touched;
 use runs::places::PIECE;
 
-// What a walk has come to: the number of the next packet, how many more places the open one may take, and where the
-// one that is due starts.
+// What a walk has come to: the number of the next packet, how many more pages or bytes the open one may take, and
+// where the one that is due starts.
 pub struct Walk {
     pub number: u32,
     pub left: u32,
@@ -30,8 +30,8 @@ pub struct Walk {
 }
 
 impl Walk {
-    // One place more. One that does not pass closes what is open; one that passes goes into it, or starts a packet,
-    // which takes `most` places.
+    // One page or byte more. One that does not pass, since it is not touched or named, closes what is open; one that
+    // passes goes into it, or starts a packet, which takes up to `most` of them.
     fn met(self, at: u32, passes: bool, most: u32, due: u32) -> Walk
         requires { ⌜ (self .number < 2 ^ 31) × (0 < most) ⌝ }
         ensures { λ r. ⌜ r ≡ metOf most due at self passes ⌝ }

@@ -14,7 +14,7 @@ ghost use Rattle.order.specs.Plan.{total};
 ghost use Rattle.packet.specs.Packet.{packetMost};
 ghost use Rattle.plain.specs.Paper.{paperStepped};
 ghost use Rattle.plain.specs.Plain.{measured, sentBytes, packetOut, started, movedOf, onwardOf, heardBy, tookOf, sentOf, cameOf, fitsOf, stepOf, stepBy, provedOf, provedBy, outcomeBy};
-ghost use Rattle.plain.specs.Stages.{waysOn, outcomeOf};
+ghost use Rattle.plain.specs.Stages.{packetLeft, outcomeOf};
 use crate::list::bytes;
 use crate::list::list;
 use crate::list::named_bytes;
@@ -266,6 +266,7 @@ impl Plain {
         self.onward(1)
     }
 
+    // With so many more acknowledged the next packet is due, or none is left.
     fn onward(self, more: u32) -> Plain
         requires { ⌜ self .acknowledged + more < 2 ^ 32 ⌝ }
         ensures { λ r. ⌜ r ≡ onwardOf self more ⌝ }
@@ -303,7 +304,7 @@ fn send_at(
 ) -> usize
     requires { ⌜
         (length (now image) ≡ startOf (pagesOf board)) × (length (now map) ≡ mapBytes (pagesOf board))
-        × (packetMost ≤ length (now buffer)) × (waysOn (total (pagesOf board) (now map) kind) stage k ≡ true)
+        × (packetMost ≤ length (now buffer)) × (packetLeft (total (pagesOf board) (now map) kind) stage k ≡ true)
         ⌝ }
     ensures { λ r. ⌜
         (let p = packetOut (pagesOf board) (now (image .entry)) (now (map .entry)) kind stage k in

@@ -148,7 +148,7 @@ module _ (board : ℕ) (m : List ℕ) (long : length m ≡ mapBytes board) (some
   after-same (Stage.Ended o) k f h = absurd (true-false f)
 
   -- with a packet left, both have the same one out
-  packet-same : (image : List ℕ) (s : Stage) (k : ℕ) → stages.waysOn (total board m kind) s k ≡ true
+  packet-same : (image : List ℕ) (s : Stage) (k : ℕ) → stages.packetLeft (total board m kind) s k ≡ true
       → phases.packetOut board image m kind (phaseOf board m s k) ≡ plain.packetOut board image m kind s k
   packet-same image Stage.Waiting k h = refl
   packet-same image Stage.UnderWay k h = sym (plan-at board image m kind k [] (ltb-true _ _ h))
@@ -201,7 +201,7 @@ module _ (m : List ℕ) (p : Plain) (long : length m ≡ mapBytes (p .board)) (f
       phases.packetOut (p .board) image m (p .kind) (phaseOf b m (t .stage) (t .acknowledged)))
       board-kept
       ∙ packet-same (p .board) m long (f .some) (p .kind) image (t .stage) (t .acknowledged)
-      (sym (ap (λ (x : ℕ). stages.waysOn x (t .stage) (t .acknowledged)) (f .total-is)) ∙ fits.took-ways p e))
+      (sym (ap (λ (x : ℕ). stages.packetLeft x (t .stage) (t .acknowledged)) (f .total-is)) ∙ fits.took-left p e))
     where
       t : Plain
       t = plain.tookOf p e

@@ -2,19 +2,19 @@
 use Prim.Native.Nat.{ℕ, _+_, _≤_, _<_}
 use mathlib.Core.Bool.{Bool, true, false}
 use mathlib.Core.List.{List}
-use mathlib.Core.Path.{_≡_, refl}
+use mathlib.Core.Path.{_≡_, ap, _∙_}
 use native.Mathlib.Omega.{arith}
 use borrow.Author.Tests.{eqb-true, ltb-true}
 use lib.Dec.{eqb, ltb}
 use Rattle.basis.specs.Choice.{both}
-use Rattle.basis.specs.Laws.Choice.{decide, both-true}
+use Rattle.basis.specs.Laws.Choice.{decide, both-true, both-no}
 use Rattle.basis.specs.declared.kind.RunKind.{RunKind}
 use Rattle.events.specs.Endings.{goesOn, acknowledges, asked}
 use Rattle.events.specs.Laws.Endings.{ends-by}
 use Rattle.events.specs.declared.event.Event.{Event}
 use Rattle.order.specs.Plan.{total}
 use Rattle.plain.specs.Plain.{tookOf, cameOf, fitsOf}
-use Rattle.plain.specs.Stages.{awaitsOf, waysOn, cameAt}
+use Rattle.plain.specs.Stages.{awaitsOf, packetLeft, cameAt}
 use Rattle.plain.specs.declared.plain.Plain.{Plain}
 use Rattle.plain.specs.declared.stage.Stage.{Stage}
 use Rattle.runs.specs.Pieces.{namedCount}
@@ -45,8 +45,7 @@ fitting board m p h =
 
 -- one at a stage to which no events lead fits no file
 both-none : (a : Bool) {b : Bool} → b ≡ false → both a b ≡ false
-both-none true e = e
-both-none false e = refl
+both-none a e = ap (both a) e ∙ both-no a
 
 pub unreached : (board : ℕ) (m : List ℕ) (p : Plain)
     → cameAt (p .kind) (p .total) (p .stage) (p .acknowledged) ≡ false → fitsOf board m p ≡ false
@@ -65,10 +64,10 @@ came-most kind n (Stage.Ended o) k h =
     ends-by (asked kind) o n k h (λ p q. omega arith) (λ l f. omega arith)
 
 -- after any event one that is under way has a packet left
-pub took-ways : (p : Plain) (e : Event)
-    → waysOn (p .total) (tookOf p e .stage) (tookOf p e .acknowledged) ≡ true
+pub took-left : (p : Plain) (e : Event)
+    → packetLeft (p .total) (tookOf p e .stage) (tookOf p e .acknowledged) ≡ true
 unfolding tookOf
-took-ways p e =
+took-left p e =
     let w = awaitsOf (p .stage) in
     decide (goesOn w e)
     (λ t. rw t (decide (ltb (p .acknowledged + acknowledges w) (p .total)) (λ d. rw d d) (λ d. rw d)))

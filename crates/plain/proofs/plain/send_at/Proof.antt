@@ -4,7 +4,7 @@ use borrow.Author.Needs.{needs}
 use borrow.Author.Tests.{ltb-true}
 use Rattle.basis.specs.Board.{pagesOf}
 use Rattle.order.specs.Plan.{total}
-use Rattle.plain.specs.Stages.{waysOn}
+use Rattle.plain.specs.Stages.{packetLeft}
 use Rattle.plain.specs.declared.stage.Stage.{Stage}
 use Rattle.plain.proofs.plain.send_at.Statement.{statement}
 use Rattle.plain.proofs.plain.send_at.Tie as tie
@@ -18,7 +18,7 @@ send-due-requires c κs =
       s .pre .1,
       s .pre .2,
       ltb-true (a .k) n
-          (sym (ap (λ (x : Stage). waysOn n x (a .k)) (c .before .enum-told2 .given .1)) ∙ s .pre .3),
+          (sym (ap (λ (x : Stage). packetLeft n x (a .k)) (c .before .enum-told2 .given .1)) ∙ s .pre .3),
     )
 
 returns : tie.Need-returns

@@ -4,7 +4,7 @@ use borrow.Author.Needs.{needs}
 use Rattle.basis.specs.Board.{pagesOf}
 use Rattle.basis.specs.Laws.Boards.{pages-few}
 use Rattle.order.specs.Laws.Totals.{total-most}
-use Rattle.plain.specs.Laws.Fits.{fitting, came-most, took-ways}
+use Rattle.plain.specs.Laws.Fits.{fitting, came-most, took-left}
 use Rattle.plain.proofs.plain.Plain.sent.Statement.{statement}
 use Rattle.plain.proofs.plain.Plain.sent.Tie as tie
 
@@ -26,7 +26,7 @@ send-at-requires c κs =
       s .pre .0,
       s .pre .1,
       s .pre .2,
-      rw (← f .total-is, t .took .ensures) (took-ways p (s .args .event)),
+      rw (← f .total-is, t .took .ensures) (took-left p (s .args .event)),
     )
 
 returns : tie.Need-returns
