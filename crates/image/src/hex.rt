@@ -277,7 +277,7 @@ impl Hex {
     }
 }
 
-fn is_rule_set(rules: u32) -> bool
+pub fn is_rule_set(rules: u32) -> bool
     ensures { λ r. ⌜ r ≡ isRuleSet rules ⌝ }
 {
     match rules {

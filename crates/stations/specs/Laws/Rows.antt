@@ -1,0 +1,349 @@
+-- Laws of the tables: each row, and what is given where no row holds.
+use Prim.Native.Nat.{ℕ, suc, _+_, _-_, _≤_, _<_}
+use mathlib.Core.Bool.{true, false, not}
+use mathlib.Core.List.{List, [], _∷_, _++_}
+use mathlib.Core.Path.{_≡_, refl, sym, ap, _∙_}
+use native.Mathlib.Numerals.{add-one}
+use native.Mathlib.Omega.{arith}
+use borrow.Author.Tests.{eq-eqb, ne-eqb, eqb-true, lt-ltb, le-ltb, ltb-false, le-leb, lt-leb, leb-false, not-false}
+use lib.Dec.{eqb, leb, ltb, lit≤}
+use lib.ListN.{length, getD, take, drop, replicate, drop-of-length-le}
+use lib.Seq.{length-take-le, drop-cons}
+use Rattle.basis.specs.Choice.{pick}
+use Rattle.basis.specs.Laws.Choice.{decide, pick-second, either-none}
+use Rattle.basis.specs.Laws.Lists.{length-stored}
+use Rattle.basis.specs.Laws.Refusals.{skip, stop, done, passed, apart, given-one, refused-one, first-then, through}
+use Rattle.basis.specs.Lists.{pairAt, new}
+use Rattle.basis.specs.Refusals.{Answer, refused, given, Rule, _when_, first, andThen}
+use Rattle.image.specs.Hex.{isRuleSet}
+use Rattle.stations.specs.Station.{isVersion, followsOf, lastPage, outOfRange, fieldsOf, readRows, readOf, writtenVersion, bytesOf, sizeOf, recordBytes, writeOf}
+use Rattle.stations.specs.Table.{places, placeSize, tableSize, rightTable, startAt, blank, recordLength, standingBy, standingOf, standingAt, suitsAt, lowestOf, lookOf, stationIn, findOf, freedAt, placeFor, storeOf, freedIf, freedFrom, deleteOf, isFree, freeOf, emptyTable, emptyOf}
+use Rattle.stations.specs.declared.station.Station.{Station}
+use Rattle.stations.specs.declared.table.Sought.{Sought}
+use Rattle.stations.specs.declared.table.Standing.{Standing}
+
+-- ---- a field out of range
+
+module _ (s : Station) where
+  pub range-number : 65536 ≤ s .number → true ≡ outOfRange s
+  unfolding outOfRange
+  range-number l = rw (le-leb 65536 (s .number) l)
+
+  module _ (p₁ : s .number < 65536) where
+    pub range-run : 2 < s .run → true ≡ outOfRange s
+    unfolding outOfRange
+    range-run l = rw (lt-leb 65536 (s .number) p₁, lt-ltb 2 (s .run) l)
+
+    module _ (p₂ : s .run ≤ 2) where
+      pub range-rules : isRuleSet (s .rules) ≡ false → true ≡ outOfRange s
+      unfolding outOfRange
+      range-rules e = rw (lt-leb 65536 (s .number) p₁, le-ltb 2 (s .run) p₂, e)
+
+      module _ (p₃ : isRuleSet (s .rules) ≡ true) where
+        pub range-last : lastPage < s .last .0 → true ≡ outOfRange s
+        unfolding outOfRange
+        range-last l =
+            rw (
+              lt-leb 65536 (s .number) p₁,
+              le-ltb 2 (s .run) p₂,
+              p₃,
+              lt-ltb lastPage (s .last .0) l,
+            )
+
+        pub range-first : s .last .0 ≤ lastPage → ltb (s .last .0) (s .first .0) ≡ outOfRange s
+        unfolding outOfRange
+        range-first l =
+            rw (
+              lt-leb 65536 (s .number) p₁,
+              le-ltb 2 (s .run) p₂,
+              p₃,
+              le-ltb lastPage (s .last .0) l,
+            )
+
+-- rule sets are few
+rules-few : (n : ℕ) → isRuleSet n ≡ true → n ≤ 2
+rules-few n e =
+    decide (eqb n 1) (λ t. omega (arith, eqb-true n 1 t))
+    (λ t. omega (arith, eqb-true n 2 (sym (pick-second (eqb n 1) true (eqb n 2) t) ∙ e)))
+
+-- no field is out of range
+pub record Ranges (s : Station) : Type 0 where
+  pub number : s .number < 65536
+  pub run : s .run ≤ 2
+  pub set : isRuleSet (s .rules) ≡ true
+  pub rules : s .rules ≤ 2
+  pub last : s .last .0 ≤ lastPage
+  pub first : s .first .0 ≤ s .last .0
+
+pub in-range : (s : Station) → outOfRange s ≡ false → Ranges s
+unfolding outOfRange
+in-range s e =
+    let n = either-none (leb 65536 (s .number)) _ e in
+    let k = either-none (ltb 2 (s .run)) _ (n .1) in
+    let r = either-none (not (isRuleSet (s .rules))) _ (k .1) in
+    let l = either-none (ltb lastPage (s .last .0)) _ (r .1) in
+    record {
+      number = leb-false 65536 (s .number) (n .0);
+      run = ltb-false 2 (s .run) (k .0);
+      set = not-false _ (r .0);
+      rules = rules-few (s .rules) (not-false _ (r .0));
+      last = ltb-false lastPage (s .last .0) (l .0);
+      first = ltb-false (s .last .0) (s .first .0) (l .1);
+    }
+
+-- ---- reading a record
+
+module _ (r : List ℕ) where
+  pub read-short : length r < 3 → readOf r ≡ refused 63
+  unfolding readOf
+  read-short l = stop 63 _ _ _ (lt-ltb _ _ l)
+
+  module _ (e₁ : 3 ≤ length r) where
+    pub read-version : isVersion (getD r 2 0) ≡ false → readOf r ≡ refused 62
+    unfolding readOf
+    read-version e = skip 63 _ _ _ (le-ltb _ _ e₁) ∙ stop 62 _ _ _ (ap not e)
+
+    module _ (e₂ : isVersion (getD r 2 0) ≡ true) where
+      pub read-length : (pairAt r 0 ≡ followsOf (getD r 2 0) → ⊥) → readOf r ≡ refused 63
+      unfolding readOf
+      read-length n =
+          skip 63 _ _ _ (le-ltb _ _ e₁) ∙ skip 62 _ _ _ (ap not e₂) ∙ stop 63 _ _ _ (ap not (ne-eqb _ _ n))
+
+      module _ (e₃ : pairAt r 0 ≡ followsOf (getD r 2 0)) where
+        pub read-cut : (length r ≡ 2 + pairAt r 0 → ⊥) → readOf r ≡ refused 63
+        unfolding readOf
+        read-cut n =
+            skip 63 _ _ _ (le-ltb _ _ e₁) ∙ skip 62 _ _ _ (ap not e₂)
+            ∙ skip 63 _ _ _ (ap not (eq-eqb _ _ e₃)) ∙ stop 63 _ _ _ (ap not (ne-eqb _ _ n))
+
+        module _ (e₄ : length r ≡ 2 + pairAt r 0) where
+          pub read-wrong : outOfRange (fieldsOf r) ≡ true → readOf r ≡ refused 63
+          unfolding readOf
+          read-wrong e =
+              skip 63 _ _ _ (le-ltb _ _ e₁) ∙ skip 62 _ _ _ (ap not e₂)
+              ∙ skip 63 _ _ _ (ap not (eq-eqb _ _ e₃)) ∙ skip 63 _ _ _ (ap not (eq-eqb _ _ e₄))
+              ∙ stop 63 _ _ _ e
+
+          pub read-right : outOfRange (fieldsOf r) ≡ false → readOf r ≡ given (fieldsOf r)
+          unfolding readOf
+          read-right e =
+              skip 63 _ _ _ (le-ltb _ _ e₁) ∙ skip 62 _ _ _ (ap not e₂)
+              ∙ skip 63 _ _ _ (ap not (eq-eqb _ _ e₃)) ∙ skip 63 _ _ _ (ap not (eq-eqb _ _ e₄))
+              ∙ skip 63 _ _ _ e ∙ done _
+
+-- ---- writing one
+
+-- a record has 8 or 9 bytes
+pub follows-few : (v : ℕ) → (6 ≤ followsOf v) × (followsOf v ≤ 7)
+follows-few v =
+    decide (eqb v 1) (λ t. rw t (lit≤ tt, lit≤ tt)) (λ t. rw t (lit≤ tt, lit≤ tt))
+
+pub record-length : (s : Station) → length (recordBytes s) ≡ sizeOf s
+unfolding recordBytes
+record-length s = length-take-le (sizeOf s) (bytesOf s) (omega (arith, follows-few (writtenVersion s) .1))
+
+-- as code has it
+pub record-is : (s : Station) (n : ℕ) (b : List ℕ) → n ≡ sizeOf s → b ≡ bytesOf s → take n b ≡ recordBytes s
+unfolding recordBytes
+record-is s n b e f = ap (λ (k : ℕ). take k b) e ∙ ap (take (sizeOf s)) f
+
+module _ (room : ℕ) (s : Station) where
+  pub write-small : room < sizeOf s → writeOf room s ≡ refused 20
+  unfolding writeOf
+  write-small l = stop 20 _ _ _ (lt-ltb _ _ l)
+
+  module _ (e₁ : sizeOf s ≤ room) where
+    pub write-version : isVersion (s .version) ≡ false → writeOf room s ≡ refused 62
+    unfolding writeOf
+    write-version e = skip 20 _ _ _ (le-ltb _ _ e₁) ∙ stop 62 _ _ _ (ap not e)
+
+    module _ (e₂ : isVersion (s .version) ≡ true) where
+      pub write-wrong : outOfRange s ≡ true → writeOf room s ≡ refused 63
+      unfolding writeOf
+      write-wrong e = skip 20 _ _ _ (le-ltb _ _ e₁) ∙ skip 62 _ _ _ (ap not e₂) ∙ stop 63 _ _ _ e
+
+      pub write-right : outOfRange s ≡ false → writeOf room s ≡ given (recordBytes s)
+      unfolding writeOf
+      write-right e = skip 20 _ _ _ (le-ltb _ _ e₁) ∙ skip 62 _ _ _ (ap not e₂) ∙ skip 63 _ _ _ e ∙ done _
+
+-- no record that is read has more than 9 bytes
+pub read-few : {s : Station} (r : List ℕ) → readOf r ≡ given s → length r ≤ 9
+unfolding readOf
+read-few r e =
+    let short = passed 63 _ _ _ e in
+    let known = passed 62 _ _ _ (short .1) in
+    let right = passed 63 _ _ _ (known .1) in
+    let whole = passed 63 _ _ _ (right .1) in
+    let v = getD r 2 0 in
+    omega (
+      arith,
+      eqb-true (pairAt r 0) (followsOf v) (not-false _ (right .0)),
+      eqb-true (length r) (2 + pairAt r 0) (not-false _ (whole .0)),
+      follows-few v .1,
+    )
+
+-- ---- what is at a place
+
+-- going through bytes: here one is not 0, or the rest tells, until there is none left
+module _ (s : List ℕ) (i : ℕ) where
+  pub blank-here : i < length s → (getD s i 0 ≡ 0 → ⊥) → blank (drop i s) ≡ false
+  unfolding blank
+  blank-here l n = rw (drop-cons s i 0 l, ne-eqb (getD s i 0) 0 n)
+
+  pub blank-on : i < length s → getD s i 0 ≡ 0 → blank (drop i s) ≡ blank (drop (i + 1) s)
+  unfolding blank
+  blank-on l e = rw (drop-cons s i 0 l, eq-eqb (getD s i 0) 0 e, add-one)
+
+  pub blank-end : length s ≤ i → blank (drop i s) ≡ true
+  unfolding blank
+  blank-end l = rw (drop-of-length-le s l)
+
+module _ (p : List ℕ) where
+  pub standing-blank : blank p ≡ true → standingOf p ≡ Standing.Free
+  unfolding standingOf
+  standing-blank e = rw e
+
+  module _ (e₁ : blank p ≡ false) where
+    pub standing-marred : blank (drop (recordLength p) p) ≡ false → standingOf p ≡ Standing.Damaged
+    unfolding standingOf
+    standing-marred e = rw (e₁, e)
+
+    pub standing-told : blank (drop (recordLength p) p) ≡ true
+        → standingOf p ≡ standingBy (readOf (take (recordLength p) p))
+    unfolding standingOf
+    standing-told e = rw (e₁, e)
+
+-- ---- the table
+
+pub right-table : (t : List ℕ) → length t ≡ tableSize → not (rightTable t) ≡ false
+right-table t e = ap not (eq-eqb _ _ e)
+
+pub wrong-table : (t : List ℕ) → (length t ≡ tableSize → ⊥) → not (rightTable t) ≡ true
+wrong-table t n = ap not (ne-eqb _ _ n)
+
+module _ (t : List ℕ) (i : ℕ) where
+  pub look-size : (length t ≡ tableSize → ⊥) → lookOf t i ≡ refused 60
+  unfolding lookOf
+  look-size n = stop 60 _ _ _ (wrong-table t n)
+
+  pub free-size : (length t ≡ tableSize → ⊥) → freeOf t i ≡ refused 60
+  unfolding freeOf
+  free-size n = stop 60 _ _ _ (wrong-table t n)
+
+  module _ (e₁ : length t ≡ tableSize) where
+    pub look-past : places ≤ i → lookOf t i ≡ refused 60
+    unfolding lookOf
+    look-past l = skip 60 _ _ _ (right-table t e₁) ∙ stop 60 _ _ _ (le-leb _ _ l)
+
+    pub free-past : places ≤ i → freeOf t i ≡ refused 60
+    unfolding freeOf
+    free-past l = skip 60 _ _ _ (right-table t e₁) ∙ stop 60 _ _ _ (le-leb _ _ l)
+
+    module _ (e₂ : i < places) where
+      pub look-given : lookOf t i ≡ given (standingAt t i)
+      unfolding lookOf
+      look-given = skip 60 _ _ _ (right-table t e₁) ∙ skip 60 _ _ _ (lt-leb _ _ e₂) ∙ done _
+
+      pub free-none : isFree t i ≡ true → freeOf t i ≡ refused 60
+      unfolding freeOf
+      free-none e =
+          skip 60 _ _ _ (right-table t e₁) ∙ skip 60 _ _ _ (lt-leb _ _ e₂) ∙ stop 60 _ _ _ e
+
+      pub free-given : isFree t i ≡ false → freeOf t i ≡ given (freedAt t i)
+      unfolding freeOf
+      free-given e =
+          skip 60 _ _ _ (right-table t e₁) ∙ skip 60 _ _ _ (lt-leb _ _ e₂) ∙ skip 60 _ _ _ e ∙ done _
+
+pub find-size : (t : List ℕ) (n : ℕ) → (length t ≡ tableSize → ⊥) → findOf t n ≡ refused 60
+unfolding findOf
+find-size t n e = ap stationIn (look-size t _ e)
+
+module _ (t : List ℕ) (n : ℕ) where
+  pub delete-size : (length t ≡ tableSize → ⊥) → deleteOf t n ≡ refused 60
+  unfolding deleteOf
+  delete-size e = stop 60 _ _ _ (wrong-table t e)
+
+  module _ (e₁ : length t ≡ tableSize) where
+    pub delete-none : places ≤ lowestOf t (Sought.Number n) → deleteOf t n ≡ refused 60
+    unfolding deleteOf
+    delete-none l = skip 60 _ _ _ (right-table t e₁) ∙ stop 60 _ _ _ (le-leb _ _ l)
+
+    pub delete-given : lowestOf t (Sought.Number n) < places → deleteOf t n ≡ given (freedFrom t n 0 places)
+    unfolding deleteOf
+    delete-given l = skip 60 _ _ _ (right-table t e₁) ∙ skip 60 _ _ _ (lt-leb _ _ l) ∙ done _
+
+pub empty-size : (t : List ℕ) → (length t ≡ tableSize → ⊥) → emptyOf t ≡ refused 20
+unfolding emptyOf
+empty-size t n = stop 20 _ _ _ (wrong-table t n)
+
+pub empty-given : (t : List ℕ) → length t ≡ tableSize → emptyOf t ≡ given emptyTable
+unfolding emptyOf
+empty-given t e = skip 20 _ _ _ (right-table t e) ∙ done _
+
+-- freeing each place: one turn, and the end, in the loop's own terms
+module _ (t : List ℕ) (n i : ℕ) where
+  pub freed-length : length (freedIf t n i) ≡ length t
+  freed-length =
+      decide (suitsAt t (Sought.Number n) i)
+      (λ e. rw e (length-stored new t (startAt i) (replicate placeSize 0)))
+      (λ e. rw e)
+
+  pub freed-turn : i < places
+      → freedFrom (freedIf t n i) n (i + 1) (places - (i + 1)) ≡ freedFrom t n i (places - i)
+  unfolding freedFrom
+  freed-turn l = let e : places - i ≡ suc (places - (i + 1)) = omega arith in rw e
+
+  pub freed-ended : places ≤ i → freedFrom t n i (places - i) ≡ t
+  unfolding freedFrom
+  freed-ended l = let e : places - i ≡ 0 = omega arith in rw e
+
+-- ---- storing: the record's rows, and then whether there is a place
+
+module _ {A : Type 0} where
+  -- some rows, then others
+  first-append : (l k : List Rule) (r : Answer A) → first (l ++ k) r ≡ first l (first k r)
+  unfolding first
+  first-append [] k r = refl
+  first-append (x ∷ l) k r = ap (pick (x .holds) (refused (x .number))) (first-append l k r)
+
+  -- what they refuse is refused whatever follows
+  first-refused : {B : Type 0} {n : ℕ} (l : List Rule) (x : B) (r : Answer A) → first l (given x) ≡ refused n
+      → first l r ≡ refused n
+  first-refused {B} {n} l x r e = first-then l r ∙ go (first l (given tt)) (sym (first-then l (given x)) ∙ e)
+    where
+      go : (a : Answer (Unit {0})) → andThen a (given x) ≡ refused n → andThen a r ≡ refused n
+      go (refused m) e = ap refused (refused-one e)
+      go (given u) e = absurd (apart (sym e))
+
+module _ (t r : List ℕ) where
+  pub store-size : (length t ≡ tableSize → ⊥) → storeOf t r ≡ refused 20
+  unfolding storeOf
+  store-size n = stop 20 _ _ _ (wrong-table t n)
+
+  module _ (e₁ : length t ≡ tableSize) where
+    pub store-unread : {n : ℕ} → readOf r ≡ refused n → storeOf t r ≡ refused n
+    unfolding storeOf readOf
+    store-unread e =
+        skip 20 _ _ _ (right-table t e₁) ∙ first-append (readRows r) _ _
+        ∙ first-refused (readRows r) (fieldsOf r) _ e
+
+    module _ {s : Station} (e₂ : readOf r ≡ given s) where
+      -- the station is what the record tells
+      read-fields : fieldsOf r ≡ s
+      unfolding readOf
+      read-fields = given-one (sym (through (readRows r) (fieldsOf r) (given (fieldsOf r)) e₂) ∙ e₂)
+
+      store-read : storeOf t r
+          ≡ (let i = placeFor t (s .number) in first (61 when leb places i ∷ []) (given i))
+      unfolding storeOf readOf
+      store-read =
+          skip 20 _ _ _ (right-table t e₁) ∙ first-append (readRows r) _ _
+          ∙ through (readRows r) (fieldsOf r) _ e₂
+          ∙ ap (λ (x : Station). let i = placeFor t (x .number) in first (61 when leb places i ∷ []) (given i))
+          read-fields
+
+      pub store-full : places ≤ placeFor t (s .number) → storeOf t r ≡ refused 61
+      store-full l = store-read ∙ stop 61 _ _ _ (le-leb _ _ l)
+
+      pub store-given : placeFor t (s .number) < places → storeOf t r ≡ given (placeFor t (s .number))
+      store-given l = store-read ∙ skip 61 _ _ _ (lt-leb _ _ l) ∙ done _
