@@ -11,7 +11,7 @@ use Rattle.session.specs.Session.{Sent, measured, sentBytes}
 use Rattle.session.specs.declared.session.Stepped.{Stepped}
 
 -- starting and stepping
-stepped-one : (r s : Stepped) → paperStepped r ≡ paperStepped s → r ≡ s
+pub stepped-one : (r s : Stepped) → paperStepped r ≡ paperStepped s → r ≡ s
 stepped-one (Stepped.Next x) (Stepped.Next y) e = ap Stepped.Next (given-one e)
 stepped-one (Stepped.Next x) (Stepped.Refused y) e = absurd (apart (sym e))
 stepped-one (Stepped.Refused x) (Stepped.Next y) e = absurd (apart e)

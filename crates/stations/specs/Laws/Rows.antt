@@ -5,7 +5,7 @@ use mathlib.Core.List.{List, [], _∷_, _++_}
 use mathlib.Core.Path.{_≡_, refl, sym, ap, _∙_}
 use native.Mathlib.Numerals.{add-one}
 use native.Mathlib.Omega.{arith}
-use borrow.Author.Tests.{eq-eqb, ne-eqb, eqb-true, lt-ltb, le-ltb, ltb-false, le-leb, lt-leb, leb-false, not-false}
+use borrow.Author.Tests.{eq-eqb, ne-eqb, eqb-true, eqb-false, lt-ltb, le-ltb, ltb-false, le-leb, lt-leb, leb-true, leb-false, not-false}
 use lib.Dec.{eqb, leb, ltb, lit≤}
 use lib.ListN.{length, getD, take, drop, replicate, drop-of-length-le}
 use lib.Seq.{length-take-le, drop-cons}
@@ -17,7 +17,7 @@ use Rattle.basis.specs.Lists.{pairAt, new}
 use Rattle.basis.specs.Refusals.{Answer, refused, given, Rule, _when_, first, andThen}
 use Rattle.image.specs.Hex.{isRuleSet}
 use Rattle.stations.specs.Station.{isVersion, followsOf, lastPage, outOfRange, fieldsOf, readRows, readOf, writtenVersion, bytesOf, sizeOf, recordBytes, writeOf}
-use Rattle.stations.specs.Table.{places, placeSize, tableSize, rightTable, startAt, blank, recordLength, standingBy, standingOf, standingAt, suitsAt, lowestOf, lookOf, stationIn, findOf, freedAt, placeFor, storeOf, freedIf, freedFrom, deleteOf, isFree, freeOf, emptyTable, emptyOf}
+use Rattle.stations.specs.Table.{places, placeSize, tableSize, rightTable, startAt, blank, recordLength, standingBy, standingOf, standingAt, suitsAt, lowestOf, lookOf, stationIn, listOf, findOf, freedAt, placeFor, storeOf, freedIf, freedFrom, deleteOf, isFree, freeOf, emptyTable, emptyOf}
 use Rattle.stations.specs.declared.station.Station.{Station}
 use Rattle.stations.specs.declared.table.Sought.{Sought}
 use Rattle.stations.specs.declared.table.Standing.{Standing}
@@ -257,6 +257,25 @@ module _ (t : List ℕ) (i : ℕ) where
 pub find-size : (t : List ℕ) (n : ℕ) → (length t ≡ tableSize → ⊥) → findOf t n ≡ refused 60
 unfolding findOf
 find-size t n e = ap stationIn (look-size t _ e)
+
+-- what is not listed, or not found, is 60
+list-refused : {k : ℕ} (t : List ℕ) (i : ℕ) → listOf t i ≡ refused k → k ≡ 60
+list-refused {k} t i e =
+    decide (rightTable t)
+    (λ r. let l = eqb-true (length t) tableSize r in
+    decide (leb places i)
+    (λ p. refused-one (sym e ∙ ap stationIn (look-past t i l (leb-true places i p))))
+    (λ p. go (standingAt t i) (sym (ap stationIn (look-given t i l (leb-false places i p))) ∙ e)))
+    (λ r. refused-one (sym e ∙ ap stationIn (look-size t i (eqb-false (length t) tableSize r))))
+  where
+    go : (x : Standing) → stationIn (given x) ≡ refused k → k ≡ 60
+    go Standing.Free e = sym (refused-one e)
+    go (Standing.Station s) e = absurd (apart (sym e))
+    go Standing.Damaged e = sym (refused-one e)
+
+pub find-refused : {k : ℕ} (t : List ℕ) (n : ℕ) → findOf t n ≡ refused k → k ≡ 60
+unfolding findOf
+find-refused t n e = list-refused t (lowestOf t (Sought.Number n)) e
 
 module _ (t : List ℕ) (n : ℕ) where
   pub delete-size : (length t ≡ tableSize → ⊥) → deleteOf t n ≡ refused 60
