@@ -9,10 +9,10 @@
  * the function says otherwise, and leaves all lent bytes as they were unless the function says otherwise. A function
  * that cannot refuse gives its value itself.
  *
- * States. gremolunde_loader, gremolunde_receiver, gremolunde_port, gremolunde_hex, gremolunde_session and
- * gremolunde_plain are values that the caller keeps, copies and stores. Every value of every field is safe to pass.
- * Where a field is a flag, 0 is false and all else is true; an answer has 0 or 1 there. One function,
- * gremolunde_receiver_byte, works on a state where it stands.
+ * States. gremolunde_loader, gremolunde_receiver, gremolunde_port, gremolunde_hex, gremolunde_session,
+ * gremolunde_plain and gremolunde_station are values that the caller keeps, copies and stores. Every value of every
+ * field is safe to pass. Where a field is a flag, 0 is false and all else is true; an answer has 0 or 1 there. One
+ * function, gremolunde_receiver_byte, works on a state where it stands.
  *
  * Lent bytes. A pointer and the length after it lend so many bytes for the time of the call. With a length of 0 the
  * pointer may be null. Bytes that a function may write (a pointer without const) must not overlap other bytes that
@@ -49,6 +49,11 @@ enum { GREMOLUNDE_SHORT = 124, GREMOLUNDE_LONG = 248 };
 #define GREMOLUNDE_PACKET 259
 #define GREMOLUNDE_ANSWER 24
 #define GREMOLUNDE_HEX_RECORD 44
+#define GREMOLUNDE_STATION_RECORD 9
+
+/* A table of stations: exactly so many bytes, so many places. */
+#define GREMOLUNDE_TABLE 1024
+#define GREMOLUNDE_PLACES 64
 
 /* A loader, without its flash; the flash that it is lent is its board's. */
 typedef struct gremolunde_loader {
@@ -157,6 +162,26 @@ typedef struct gremolunde_plain {
     uint32_t named;        /* named bytes of the file */
 } gremolunde_plain;
 
+/* A station's settings. A record of them has big-endian two bytes for the length of what follows (6 or 7), then the
+ * version, the station's number (two bytes), run kind, rule set and first page, and in version 2 the last page, a byte
+ * each: 8 bytes in version 1, 9 in version 2. A station of version 1 whose `last` is 123 is written in version 1, with
+ * any other `last`, and of version 2, in version 2. Stations are of the short board. */
+typedef struct gremolunde_station {
+    uint32_t version; /* of the record that it was read from: 1 or 2; any other value is 62 */
+    uint32_t station; /* its number, 0 to 65,535 */
+    uint32_t run;     /* GREMOLUNDE_RESET, GREMOLUNDE_JUMP or GREMOLUNDE_HOLD */
+    uint32_t rules;   /* GREMOLUNDE_RULES_1 or GREMOLUNDE_RULES_2 */
+    uint32_t first;   /* the first page that a session may touch, at most `last` */
+    uint32_t last;    /* the last one, at most 123; a record of version 1 reads as 123 */
+} gremolunde_station;
+
+/* A table of stations is GREMOLUNDE_TABLE bytes that the caller keeps: GREMOLUNDE_PLACES places of 16 bytes each, place
+ * 0 first. A place is free where its 16 bytes are 0. It has a station where a record stands at its start, as long as
+ * its length field says, and all bytes behind that are 0. Any other place is damaged, one with the record of a later
+ * version among them: it is no station, no store takes it, and gremolunde_stations_free alone frees it. A number is
+ * held by the lowest place that has a station of that number. */
+enum { GREMOLUNDE_PLACE_FREE = 0, GREMOLUNDE_PLACE_STATION = 1, GREMOLUNDE_PLACE_DAMAGED = 2 };
+
 /* How many bytes were written. */
 typedef struct gremolunde_length {
     uint32_t number;
@@ -239,6 +264,29 @@ typedef struct gremolunde_log {
     uint32_t total;
     uint32_t bytes;
 } gremolunde_log;
+
+/* A station; all 0 where it is refused. */
+typedef struct gremolunde_station_answer {
+    uint32_t number;
+    gremolunde_station station;
+} gremolunde_station_answer;
+
+/* The place where a record was stored. */
+typedef struct gremolunde_station_stored {
+    uint32_t number;
+    uint32_t place;
+} gremolunde_station_stored;
+
+/* GREMOLUNDE_PLACE_FREE, GREMOLUNDE_PLACE_STATION or GREMOLUNDE_PLACE_DAMAGED. */
+typedef struct gremolunde_station_place {
+    uint32_t number;
+    uint32_t condition;
+} gremolunde_station_place;
+
+/* Whether it was done. */
+typedef struct gremolunde_done {
+    uint32_t number;
+} gremolunde_done;
 
 /* Loader and session at the end of a rehearsal. */
 typedef struct gremolunde_rehearsal {
@@ -401,6 +449,52 @@ gremolunde_rehearsal gremolunde_rehearse_noisy(uint32_t board, uint32_t run, gre
                                                size_t rubbish_length, size_t each, const uint8_t *image,
                                                size_t image_length, const uint8_t *map, size_t map_length,
                                                uint8_t *flash, size_t flash_length);
+
+/* Reads a station's record. 63 under three bytes; 62 a version other than 1 and 2; 63 a length field that is not the
+ * version's, an input that is not two bytes longer than it says, a run kind above 2, a rule set other than 1 and 2, a
+ * page above 123, or a first page above the last. */
+gremolunde_station_answer gremolunde_station_read(const uint8_t *input, size_t input_length);
+
+/* Writes a station's record. 20 buffer under 9, or under 8 where `version` is 1 and `last` is 123; 62 a version other
+ * than 1 and 2; 63 a field out of range. What is written reads back with the same number, run kind, rule set, first and
+ * last; a record that was read is written with the same bytes. */
+gremolunde_length gremolunde_station_write(gremolunde_station station, uint8_t *buffer, size_t buffer_length);
+
+/* Makes a table empty, whatever its bytes are. 20 a table of another size. */
+gremolunde_done gremolunde_stations_empty(uint8_t *table, size_t table_length);
+
+/* The station that holds a number. 60 none does, or a table of another size. */
+gremolunde_station_answer gremolunde_stations_find(const uint8_t *table, size_t table_length, uint32_t station);
+
+/* The station at a place. 60 none is there, a place past 63, or a table of another size. */
+gremolunde_station_answer gremolunde_stations_list(const uint8_t *table, size_t table_length, uint32_t place);
+
+/* What is at a place. 60 a place past 63, or a table of another size. */
+gremolunde_station_place gremolunde_stations_place(const uint8_t *table, size_t table_length, uint32_t place);
+
+/* Stores a record: in the place that holds its number, else in the lowest free one. 20 a table of another size; 63, 62,
+ * 63 as gremolunde_station_read says; 61 no place holds the number and none is free. */
+gremolunde_station_stored gremolunde_stations_store(uint8_t *table, size_t table_length, const uint8_t *input,
+                                                    size_t input_length);
+
+/* Deletes a number: frees every place that has a station of that number. 60 there is none, or a table of another
+ * size. */
+gremolunde_done gremolunde_stations_delete(uint8_t *table, size_t table_length, uint32_t station);
+
+/* Frees a place, whether it has a station or is damaged. 60 it is free, a place past 63, or a table of another size. */
+gremolunde_done gremolunde_stations_free(uint8_t *table, size_t table_length, uint32_t place);
+
+/* Opens a file for a station, on the short board under its rule set, as gremolunde_hex_start does. 60 no place of the
+ * table holds the number, 20 wrong sizes; the reader is then all 0. */
+gremolunde_hex_read gremolunde_station_open(const uint8_t *table, size_t table_length, uint32_t station,
+                                            uint8_t *image, size_t image_length, uint8_t *map, size_t map_length);
+
+/* Starts a session for a station, on the short board with its run kind, as gremolunde_session_start does. 60 no place
+ * of the table holds the number, 20 wrong sizes, 32 nothing named, 64 a page that holds a named byte is below `first`
+ * or above `last`; the session is then all 0. Step it with gremolunde_session_step. */
+gremolunde_session_stepped gremolunde_station_start(const uint8_t *table, size_t table_length, uint32_t station,
+                                                    const uint8_t *image, size_t image_length, const uint8_t *map,
+                                                    size_t map_length, uint8_t *buffer, size_t buffer_length);
 
 #ifdef __cplusplus
 }

@@ -168,6 +168,16 @@ static int number_of(word w, uint64_t most, uint64_t *n) {
     return 1;
 }
 
+/* A number of 32 bits. */
+static int number32_of(word w, uint32_t *n) {
+    uint64_t value;
+    if (!number_of(w, UINT32_MAX, &value)) {
+        return 0;
+    }
+    *n = (uint32_t)value;
+    return 1;
+}
+
 static int digit_of(char c) {
     return c >= '0' && c <= '9' ? c - '0' : c >= 'A' && c <= 'F' ? c - 'A' + 10 : -1;
 }
@@ -235,11 +245,11 @@ static int kind_of(word w, uint32_t *kind) {
 
 #define CAPACITY 131072
 
-/* The first seven have parts that calls lend; what a line brings is lent from the eighth. */
-enum { FLASH, ANSWER, IMAGE, MAP, PACKET, RECORD, LOG, INPUT, OTHER, SPARE, BUFFERS };
+/* The first eight have parts that calls lend; what a line brings is lent from the ninth. */
+enum { FLASH, ANSWER, IMAGE, MAP, PACKET, RECORD, LOG, TABLE, INPUT, OTHER, SPARE, BUFFERS };
 
-static const char *const buffers[] = {"flash",  "answer", "image", "map",   "packet",
-                                      "record", "log",    "input", "other", "spare"};
+static const char *const buffers[] = {"flash", "answer", "image", "map",   "packet", "record",
+                                      "log",   "table",  "input", "other", "spare"};
 
 /* What each buffer holds, and what it held before the last call. */
 static uint8_t held[BUFFERS][CAPACITY], before[BUFFERS][CAPACITY];
@@ -614,11 +624,11 @@ static int ask_changed(const word *words) {
 }
 
 static int ask_board(const word *words) {
-    uint64_t pages;
-    if (!number_of(words[0], UINT32_MAX, &pages)) {
+    uint32_t pages;
+    if (!number32_of(words[0], &pages)) {
         return 0;
     }
-    board = (uint32_t)pages;
+    board = pages;
     give_number(0);
     return 1;
 }
@@ -1081,6 +1091,104 @@ static int ask_logread(const word *words) {
     return 1;
 }
 
+/* Requests: stations. */
+
+/* The fields of a station; a refusal has none. */
+static int give_station(gremolunde_station_answer given) {
+    give_number(given.number);
+    if (given.number == 0) {
+        give_fields(gremolunde_station_fields, &given.station);
+    }
+    hold(given.number == 0 || ZERO(gremolunde_station, given.station));
+    return 1;
+}
+
+/* A number that a refusal does not have. */
+static int give_value(uint32_t number, uint32_t value) {
+    give_number(number);
+    if (number == 0) {
+        give_number(value);
+    }
+    hold(number == 0 || value == 0);
+    return 1;
+}
+
+static int give_done(gremolunde_done done) {
+    give_number(done.number);
+    return 1;
+}
+
+static int ask_station_read(const word *words) {
+    return bring_bytes(words[0]) && lend(BIT(INPUT), 0) && give_station(gremolunde_station_read(LENT(INPUT)));
+}
+
+static int ask_station_write(const word *words) {
+    gremolunde_station station;
+    return fields_of(words, gremolunde_station_fields, &station) && lend(0, BIT(RECORD)) &&
+           give_length(gremolunde_station_write(station, LENT(RECORD)), parts[RECORD]);
+}
+
+static int ask_station_open(const word *words) {
+    uint32_t station;
+    return number32_of(words[0], &station) && lend(BIT(TABLE), BIT(IMAGE) | BIT(MAP)) &&
+           give_reader(gremolunde_station_open(LENT(TABLE), station, LENT(IMAGE), LENT(MAP)), (gremolunde_hex){0});
+}
+
+static int ask_station_start(const word *words) {
+    uint32_t station;
+    return number32_of(words[0], &station) && lend(BIT(TABLE) | BIT(IMAGE) | BIT(MAP), BIT(PACKET)) &&
+           give_session(gremolunde_station_start(LENT(TABLE), station, LENT(IMAGE), LENT(MAP), LENT(PACKET)),
+                        (gremolunde_session){0});
+}
+
+static int ask_stations_empty(const word *words) {
+    (void)words;
+    return lend(0, BIT(TABLE)) && give_done(gremolunde_stations_empty(LENT(TABLE)));
+}
+
+static int ask_stations_find(const word *words) {
+    uint32_t station;
+    return number32_of(words[0], &station) && lend(BIT(TABLE), 0) &&
+           give_station(gremolunde_stations_find(LENT(TABLE), station));
+}
+
+static int ask_stations_list(const word *words) {
+    uint32_t place;
+    return number32_of(words[0], &place) && lend(BIT(TABLE), 0) &&
+           give_station(gremolunde_stations_list(LENT(TABLE), place));
+}
+
+static int ask_stations_place(const word *words) {
+    gremolunde_station_place found;
+    uint32_t place;
+    if (!number32_of(words[0], &place) || !lend(BIT(TABLE), 0)) {
+        return 0;
+    }
+    found = gremolunde_stations_place(LENT(TABLE), place);
+    return give_value(found.number, found.condition);
+}
+
+static int ask_stations_store(const word *words) {
+    gremolunde_station_stored stored;
+    if (!bring_bytes(words[0]) || !lend(BIT(INPUT), BIT(TABLE))) {
+        return 0;
+    }
+    stored = gremolunde_stations_store(LENT(TABLE), LENT(INPUT));
+    return give_value(stored.number, stored.place);
+}
+
+static int ask_stations_delete(const word *words) {
+    uint32_t station;
+    return number32_of(words[0], &station) && lend(0, BIT(TABLE)) &&
+           give_done(gremolunde_stations_delete(LENT(TABLE), station));
+}
+
+static int ask_stations_free(const word *words) {
+    uint32_t place;
+    return number32_of(words[0], &place) && lend(0, BIT(TABLE)) &&
+           give_done(gremolunde_stations_free(LENT(TABLE), place));
+}
+
 /* Lines. */
 
 /* A record has no more fields. */
@@ -1135,6 +1243,24 @@ static const struct request of_sessions[] = {
     {"log", 0, 0, ask_log},
 };
 
+/* The same of those behind the word `station`, and behind `stations`. */
+static const struct request of_station[] = {
+    {"read", 1, 1, ask_station_read},
+    {"write", 6, 6, ask_station_write},
+    {"open", 1, 1, ask_station_open},
+    {"start", 1, 1, ask_station_start},
+};
+
+static const struct request of_stations[] = {
+    {"empty", 0, 0, ask_stations_empty},
+    {"find", 1, 1, ask_stations_find},
+    {"list", 1, 1, ask_stations_list},
+    {"place", 1, 1, ask_stations_place},
+    {"store", 1, 1, ask_stations_store},
+    {"delete", 1, 1, ask_stations_delete},
+    {"free", 1, 1, ask_stations_free},
+};
+
 /* The request of that name, or NULL. */
 static const struct request *find(const struct request *r, size_t count, word name) {
     while (count > 0 && !is(name, r->name)) {
@@ -1175,11 +1301,22 @@ static const struct request *of_session(const struct host *host, word name) {
     return FIND(of_sessions, name);
 }
 
+/* What a line asks by its first two words, or NULL. */
+static const struct request *of_two(word first, word second) {
+    if (is(first, "plain")) {
+        return of_session(&host_plain, second);
+    }
+    if (is(first, "station")) {
+        return FIND(of_station, second);
+    }
+    return is(first, "stations") ? FIND(of_stations, second) : NULL;
+}
+
 static int ask(word line) {
     word name = split(&line), left = line;
     const struct request *r = NULL;
-    if (is(name, "plain") && line.at != NULL) {
-        r = of_session(&host_plain, split(&left));
+    if (line.at != NULL) {
+        r = of_two(name, split(&left));
     }
     if (r == NULL) {
         left = line;
@@ -1208,10 +1345,10 @@ static void answer(word line) {
 }
 
 static void begin(void) {
-    static const uint8_t bytes[] = {0xFF, 0xAA, 0xFF, 0x00, 0xAA, 0xAA, 0xAA, 0xAA, 0xAA, 0xAA};
+    static const uint8_t bytes[] = {0xFF, 0xAA, 0xFF, 0x00, 0xAA, 0xAA, 0xAA, 0x00, 0xAA, 0xAA, 0xAA};
     static const size_t lengths[] = {GREMOLUNDE_SHORT_FLASH, GREMOLUNDE_ANSWER, GREMOLUNDE_SHORT_IMAGE,
                                      GREMOLUNDE_SHORT_MAP,   GREMOLUNDE_PACKET, GREMOLUNDE_HEX_RECORD,
-                                     GREMOLUNDE_SHORT_LOG};
+                                     GREMOLUNDE_SHORT_LOG,   GREMOLUNDE_TABLE};
     int b;
     for (b = 0; b < BUFFERS; b++) {
         fill(part_at(b, 0, CAPACITY), bytes[b]);

@@ -48,6 +48,14 @@ FIELD(gremolunde_plain, acknowledged, 16, 4)
 FIELD(gremolunde_plain, total, 20, 4)
 FIELD(gremolunde_plain, named, 24, 4)
 
+STRUCT(gremolunde_station, 24)
+FIELD(gremolunde_station, version, 0, 4)
+FIELD(gremolunde_station, station, 4, 4)
+FIELD(gremolunde_station, run, 8, 4)
+FIELD(gremolunde_station, rules, 12, 4)
+FIELD(gremolunde_station, first, 16, 4)
+FIELD(gremolunde_station, last, 20, 4)
+
 STRUCT(gremolunde_length, 16)
 FIELD(gremolunde_length, number, 0, 4)
 FIELD(gremolunde_length, length, 8, 8)
@@ -107,6 +115,21 @@ FIELD(gremolunde_log, outcome, 5, 1)
 FIELD(gremolunde_log, acknowledged, 8, 4)
 FIELD(gremolunde_log, total, 12, 4)
 FIELD(gremolunde_log, bytes, 16, 4)
+
+STRUCT(gremolunde_station_answer, 28)
+FIELD(gremolunde_station_answer, number, 0, 4)
+FIELD(gremolunde_station_answer, station, 4, 24)
+
+STRUCT(gremolunde_station_stored, 8)
+FIELD(gremolunde_station_stored, number, 0, 4)
+FIELD(gremolunde_station_stored, place, 4, 4)
+
+STRUCT(gremolunde_station_place, 8)
+FIELD(gremolunde_station_place, number, 0, 4)
+FIELD(gremolunde_station_place, condition, 4, 4)
+
+STRUCT(gremolunde_done, 4)
+FIELD(gremolunde_done, number, 0, 4)
 
 STRUCT(gremolunde_rehearsal, 72)
 FIELD(gremolunde_rehearsal, number, 0, 4)

@@ -16,7 +16,7 @@ static void hold(int holds, const char *what) {
 #define HOLD(fact) hold((fact) ? 1 : 0, #fact)
 
 static void structs(void) {
-    /* whoever changes fields.h, or the meaning of a number in a struct, raises it */
+    /* whoever changes a struct that fields.h has, or the meaning of a number in one, raises it */
     HOLD(GREMOLUNDE_VERSION == 5);
     HOLD(sizeof(size_t) == 8);
 #define STRUCT(type, size) HOLD(sizeof(type) == (size));
@@ -43,6 +43,7 @@ static const uint8_t both[GREMOLUNDE_LONG_IMAGE] = {0x01};
 /* As long as the longer board asks for; the other is lent their first bytes. */
 static uint8_t image[GREMOLUNDE_LONG_IMAGE], map[GREMOLUNDE_LONG_MAP], flash[GREMOLUNDE_LONG_FLASH];
 static uint8_t packet[GREMOLUNDE_PACKET], answer[GREMOLUNDE_ANSWER], text[GREMOLUNDE_HEX_RECORD];
+static uint8_t table[GREMOLUNDE_TABLE];
 
 static void packets(void) {
     static const uint8_t plain[] = {0x12};
@@ -91,11 +92,28 @@ static void logs(void) {
     HOLD(gremolunde_log_read(second, sizeof second).number == 0);
 }
 
+/* A table with station 7 alone, which is an image and its map too: seven bytes of page 0 are named. */
+static const uint8_t station[GREMOLUNDE_SHORT_IMAGE] = {0, 6, 1, 0, 7, 0, 1, 0};
+
+static void stations(void) {
+    const size_t image_length = GREMOLUNDE_SHORT_IMAGE, map_length = GREMOLUNDE_SHORT_MAP;
+    gremolunde_session_stepped now = gremolunde_station_start(station, GREMOLUNDE_TABLE, 7, station, image_length,
+                                                              station, map_length, packet, sizeof packet);
+    HOLD(now.number == 0 && now.session.named == 7);
+    HOLD(gremolunde_station_read(station, 8).station.station == 7);
+    HOLD(gremolunde_stations_find(station, GREMOLUNDE_TABLE, 7).number == 0);
+    HOLD(gremolunde_stations_list(station, GREMOLUNDE_TABLE, 0).number == 0);
+    HOLD(gremolunde_stations_place(station, GREMOLUNDE_TABLE, 0).condition == GREMOLUNDE_PLACE_STATION);
+    HOLD(gremolunde_station_open(station, GREMOLUNDE_TABLE, 7, image, image_length, map, map_length).number == 0);
+    HOLD(gremolunde_stations_store(table, sizeof table, station, 8).number == 0);
+}
+
 int main(void) {
     size_t i;
     structs();
     packets();
     logs();
+    stations();
     for (i = 0; i < sizeof boards / sizeof *boards; i++) {
         loaders(boards[i]);
         files(boards[i], GREMOLUNDE_RULES_1);

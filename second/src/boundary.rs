@@ -9,6 +9,7 @@ use crate::port::Port;
 use crate::receiver::Receiver;
 use crate::refusal::Refusal;
 use crate::session::{Outcome, Phase, Run, Session};
+use crate::stations::{Station, Version};
 use crate::units::{Board, ByteAddress, Page};
 
 /// What a record that came from no start counts as: the wait for the erase of
@@ -20,8 +21,8 @@ const NOWHERE: Phase = Phase::Erase(Page(u32::MAX));
 const NEVER: (Stage, u32) = (Stage::Waiting, u32::MAX);
 
 /// The numbers of the rule sets.
-pub const RULES_1: u32 = 1;
-pub const RULES_2: u32 = 2;
+pub const RULES_1: u32 = RuleSet::One as u32;
+pub const RULES_2: u32 = RuleSet::Two as u32;
 
 #[derive(Clone, Copy, Debug, PartialEq, Eq)]
 pub struct LoaderRecord {
@@ -295,10 +296,7 @@ impl From<Reader> for ReaderRecord {
     fn from(reader: Reader) -> ReaderRecord {
         ReaderRecord {
             board: reader.board.pages(),
-            rules: match reader.rules {
-                RuleSet::One => RULES_1,
-                RuleSet::Two => RULES_2,
-            },
+            rules: reader.rules.number().into(),
             linear: reader.linear,
             segment: reader.segment,
             segmented: reader.segmented.into(),
@@ -383,7 +381,7 @@ impl From<Session> for SessionRecord {
     fn from(session: Session) -> SessionRecord {
         let record = SessionRecord {
             board: session.board.pages(),
-            run: run_number(session.run),
+            run: session.run.number().into(),
             acknowledged: session.acknowledged,
             total: session.total,
             named: session.named,
@@ -477,12 +475,85 @@ impl From<Plain> for PlainRecord {
         };
         PlainRecord {
             board: plain.board.pages(),
-            run: run_number(plain.run),
+            run: plain.run.number().into(),
             stage,
             outcome,
             acknowledged: plain.acknowledged,
             total: plain.total,
             named: plain.named,
+        }
+    }
+}
+
+#[derive(Clone, Copy, Debug, Default, PartialEq, Eq)]
+pub struct StationRecord {
+    pub version: u32,
+    pub station: u32,
+    pub run: u32,
+    pub rules: u32,
+    pub first: u32,
+    pub last: u32,
+}
+
+impl StationRecord {
+    pub fn fields(&self) -> [u64; 6] {
+        [
+            self.version,
+            self.station,
+            self.run,
+            self.rules,
+            self.first,
+            self.last,
+        ]
+        .map(u64::from)
+    }
+
+    pub fn of_fields(fields: &[u64]) -> Option<StationRecord> {
+        let [version, station, run, rules, first, last] = words(fields)?[..] else {
+            return None;
+        };
+        Some(StationRecord {
+            version,
+            station,
+            run,
+            rules,
+            first,
+            last,
+        })
+    }
+
+    /// What it means, if its version is known, then its fields in range.
+    pub fn meaning(&self) -> Result<Station, Refusal> {
+        let version = version(self.version).ok_or(Refusal::StationVersion)?;
+        let fields = [self.station, self.run, self.rules, self.first, self.last];
+        Station::of(version, fields).ok_or(Refusal::StationRecord)
+    }
+
+    /// How many bytes its record has; where its version is unknown, as many as
+    /// the longest.
+    fn record_bytes(&self) -> usize {
+        let version = version(self.version).unwrap_or(Version::Two);
+        version.written(Page(self.last)).record_bytes()
+    }
+
+    /// Writes its record; the room for it goes before what it means.
+    pub fn write(&self, buffer: &mut [u8]) -> Result<usize, Refusal> {
+        let room = buffer.get_mut(..self.record_bytes());
+        let room = room.ok_or(Refusal::Size)?;
+        room.copy_from_slice(&self.meaning()?.record());
+        Ok(room.len())
+    }
+}
+
+impl From<Station> for StationRecord {
+    fn from(station: Station) -> StationRecord {
+        StationRecord {
+            version: station.version.number().into(),
+            station: station.number.into(),
+            run: station.run.number().into(),
+            rules: station.rules.number().into(),
+            first: station.first.0,
+            last: station.last.0,
         }
     }
 }
@@ -509,11 +580,8 @@ fn board_of_flash(pages: u32, flash: &[u8], answer: &[u8]) -> Result<Board, Refu
 
 /// The rule set under its number.
 pub fn rule_set(number: u32) -> Result<RuleSet, Refusal> {
-    match number {
-        RULES_1 => Ok(RuleSet::One),
-        RULES_2 => Ok(RuleSet::Two),
-        _ => Err(Refusal::UnknownRuleSet),
-    }
+    let set = u8::try_from(number).ok().and_then(RuleSet::from_number);
+    set.ok_or(Refusal::UnknownRuleSet)
 }
 
 /// Opens a file for a number of pages under the number of a rule set.
@@ -531,20 +599,13 @@ pub fn start_hex(
 
 /// The run kind under its number; any other is the default.
 pub fn run(number: u32) -> Run {
-    match number {
-        0 => Run::Reset,
-        1 => Run::Jump,
-        2 => Run::Hold,
-        _ => Run::default(),
-    }
+    let run = u8::try_from(number).ok().and_then(Run::from_number);
+    run.unwrap_or_default()
 }
 
-fn run_number(run: Run) -> u32 {
-    match run {
-        Run::Reset => 0,
-        Run::Jump => 1,
-        Run::Hold => 2,
-    }
+/// The version of a station's record under its number.
+fn version(number: u32) -> Option<Version> {
+    u8::try_from(number).ok().and_then(Version::from_number)
 }
 
 fn outcome(number: u32) -> Option<Outcome> {
@@ -758,6 +819,45 @@ mod tests {
                 ..ReaderRecord::started(Board::Short)
             };
             assert_eq!(reader.meaning(), Err(Refusal::UnknownRuleSet));
+        }
+    }
+
+    #[test]
+    fn a_station_is_what_its_record_means() {
+        for (version, last) in [(1, 123), (1, 0), (2, 123), (2, 50)] {
+            for (station, run, rules) in [(0, 0, 1), (7, 1, 2), (65_535, 2, 1)] {
+                for first in [0, last] {
+                    let record = StationRecord {
+                        version,
+                        station,
+                        run,
+                        rules,
+                        first,
+                        last,
+                    };
+                    assert_eq!(record.meaning().map(StationRecord::from), Ok(record));
+                    assert_eq!(StationRecord::of_fields(&record.fields()), Some(record));
+                }
+            }
+        }
+    }
+
+    /// No number counts as what its low bits say; the version goes first.
+    #[test]
+    fn what_means_no_station_is_refused() {
+        for fields in [
+            [1, 65_536, 0, 1, 0, 123],
+            [1, 7, 256, 1, 0, 123],
+            [1, 7, 0, 257, 0, 123],
+            [2, 7, 0, 1, 256, 123],
+            [2, 7, 0, 1, 0, 256 + 123],
+        ] {
+            let record = StationRecord::of_fields(&fields).unwrap();
+            assert_eq!(record.meaning(), Err(Refusal::StationRecord));
+            for version in [0, 3, 257, 258, u32::MAX] {
+                let record = StationRecord { version, ..record };
+                assert_eq!(record.meaning(), Err(Refusal::StationVersion));
+            }
         }
     }
 

@@ -1,6 +1,7 @@
 //! Case lines: each line is printed again with what came out.
 
 mod buffers;
+mod stations;
 mod words;
 
 use std::fmt;
@@ -23,6 +24,8 @@ use crate::units::Board;
 pub use buffers::{Buffer, Part, CAPACITY};
 use buffers::{Buffers, Stretch};
 
+/// What is lent of a file.
+const FILE: [Buffer; 2] = [Buffer::Image, Buffer::Map];
 const REMARK: &[u8] = b"#";
 const ARROW: &str = " -> ";
 
@@ -284,8 +287,7 @@ impl Desk {
     }
 
     fn set_record(&mut self, name: &[u8], fields: &[&str]) -> Option<Answer> {
-        let fields: Option<Vec<u64>> = fields.iter().map(|word| words::number(word)).collect();
-        let fields = fields?;
+        let fields = words::numbers(fields)?;
         match name {
             b"loader" => self.loader = LoaderRecord::of_fields(&fields)?,
             b"reader" => self.reader = ReaderRecord::of_fields(&fields)?,
@@ -323,6 +325,8 @@ impl Desk {
                 let (run, each) = (words::run(run)?, words::number(each)?);
                 self.rehearse_noisy(run, each, &words::bytes(losses)?, &words::bytes(rubbish)?)
             }
+            (b"station", [name, words @ ..]) => self.ask_station(name, words),
+            (b"stations", [name, words @ ..]) => self.ask_table(name, words),
             (b"plain", [name, words @ ..]) => self.ask_session::<Plain>(name.as_bytes(), words),
             _ => self.ask_session::<Session>(name, words),
         }
@@ -452,27 +456,29 @@ impl Desk {
 
     fn start_hex(&mut self, rules: u32) -> Option<Answer> {
         let pages = self.board;
-        self.over_file(&[], |image, map| {
+        self.over_file(&[], &[], |image, map| {
             boundary::start_hex(pages, rules, image, map)
         })
     }
 
     fn take_record(&mut self, text: &[u8]) -> Option<Answer> {
         let record = self.reader;
-        self.over_file(text, |image, map| {
+        self.over_file(text, &[], |image, map| {
             let mut reader = record.meaning_over(image, map)?;
             reader.record(text, image, map).map(|()| reader)
         })
     }
 
-    /// Makes a call that gives a reader and may write image and map.
+    /// Makes a call that gives a reader, reads some parts and may write image
+    /// and map.
     fn over_file(
         &mut self,
         brought: &[u8],
+        read: &[Buffer],
         call: impl Fn(&mut [u8], &mut [u8]) -> Result<Reader, HexRefusal>,
     ) -> Option<Answer> {
         self.buffers
-            .call(brought, &[Buffer::Image, Buffer::Map], &[])?;
+            .call(brought, &[Buffer::Image, Buffer::Map], read)?;
         let mut image = self.buffers.lent(Buffer::Image).to_vec();
         let mut map = self.buffers.lent(Buffer::Map).to_vec();
         let given = call(&mut image, &mut map);
@@ -503,8 +509,7 @@ impl Desk {
     }
 
     fn write(&mut self, from: u32, upper: u16) -> Option<Answer> {
-        let file = [Buffer::Image, Buffer::Map];
-        self.buffers.call(&[], &[Buffer::Record], &file)?;
+        self.buffers.call(&[], &[Buffer::Record], &FILE)?;
         let mut record = self.buffers.lent(Buffer::Record).to_vec();
         let (image, map) = self.file();
         let written = boundary::board(self.board)
@@ -521,7 +526,7 @@ impl Desk {
 
     fn start<S: Kept>(&mut self, run: Run) -> Option<Answer> {
         let board = boundary::board(self.board);
-        self.send(&[], |image, map, packet| {
+        self.send(&[], &FILE, |image, map, packet| {
             S::start(board?, run, image, map, packet)
         })
     }
@@ -533,19 +538,19 @@ impl Desk {
             0 => Event::Answer(answer),
             _ => Event::Silence,
         };
-        self.send(answer, |image, map, packet| {
+        self.send(answer, &FILE, |image, map, packet| {
             session?.step(event, image, map, packet)
         })
     }
 
-    /// Makes a call that gives a session and may write a packet.
+    /// Makes a call that gives a session, reads the file and may write a packet.
     fn send<S: Kept>(
         &mut self,
         brought: &[u8],
+        read: &[Buffer],
         call: impl Fn(&[u8], &[u8], &mut [u8]) -> Result<(S, usize), Refusal>,
     ) -> Option<Answer> {
-        let file = [Buffer::Image, Buffer::Map];
-        self.buffers.call(brought, &[Buffer::Packet], &file)?;
+        self.buffers.call(brought, &[Buffer::Packet], read)?;
         let mut packet = self.buffers.lent(Buffer::Packet).to_vec();
         let (image, map) = self.file();
         let given = call(image, map, &mut packet);
@@ -625,8 +630,7 @@ impl Desk {
         brought: &[u8],
         call: impl FnOnce(Board, (&[u8], &[u8]), &mut Loader, &mut [u8]) -> Result<Session, Refusal>,
     ) -> Option<Answer> {
-        let file = [Buffer::Image, Buffer::Map];
-        self.buffers.call(brought, &[Buffer::Flash], &file)?;
+        self.buffers.call(brought, &[Buffer::Flash], &FILE)?;
         let mut loader = self.loader.meaning();
         let mut flash = self.buffers.lent(Buffer::Flash).to_vec();
         let given = boundary::board(self.board)

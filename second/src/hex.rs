@@ -58,11 +58,24 @@ impl Refusal {
 
 /// What the bases make of an offset, chosen when a file is opened.
 #[derive(Clone, Copy, Debug, PartialEq, Eq)]
+#[repr(u8)]
 pub enum RuleSet {
     /// Both bases add up.
-    One,
+    One = 1,
     /// The latest of 02 and 04 governs alone, and 02 keeps to its segment.
-    Two,
+    Two = 2,
+}
+
+impl RuleSet {
+    const ALL: [RuleSet; 2] = [RuleSet::One, RuleSet::Two];
+
+    pub fn number(self) -> u8 {
+        self as u8
+    }
+
+    pub fn from_number(number: u8) -> Option<RuleSet> {
+        RuleSet::ALL.into_iter().find(|set| set.number() == number)
+    }
 }
 
 #[derive(Clone, Copy, Debug, PartialEq, Eq)]

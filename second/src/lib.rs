@@ -16,6 +16,7 @@ pub mod port;
 pub mod receiver;
 pub mod refusal;
 pub mod session;
+pub mod stations;
 pub mod units;
 
 pub use refusal::Refusal;

@@ -52,6 +52,14 @@ pub enum Refusal {
     LogVersion = 52,
     /// A false log record.
     LogFalse = 53,
+    /// No station holds the number, or none is at the place.
+    NoStation = 60,
+    TableFull = 61,
+    StationVersion = 62,
+    /// A station's record of a wrong length, or with a field out of range.
+    StationRecord = 63,
+    /// A touched page outside a station's bounds.
+    PageOutside = 64,
     /// A number of pages that no board has.
     UnknownBoard = 65,
 }

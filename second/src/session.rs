@@ -14,15 +14,26 @@ const GREETING_FIXED: usize = 15;
 
 /// What the board is told once every byte is proved.
 #[derive(Clone, Copy, Debug, Default, PartialEq, Eq)]
+#[repr(u8)]
 pub enum Run {
-    Reset,
-    Jump,
+    Reset = 0,
+    Jump = 1,
     /// Nothing, so that no board starts unless asked to.
     #[default]
-    Hold,
+    Hold = 2,
 }
 
 impl Run {
+    const ALL: [Run; 3] = [Run::Reset, Run::Jump, Run::Hold];
+
+    pub fn number(self) -> u8 {
+        self as u8
+    }
+
+    pub fn from_number(number: u8) -> Option<Run> {
+        Run::ALL.into_iter().find(|run| run.number() == number)
+    }
+
     /// The address that R carries; hold has no R.
     pub fn address(self) -> Option<u32> {
         match self {

@@ -1,7 +1,7 @@
 //! The paper's printed cases and limits.
 
 use second::bench;
-use second::boundary::{PortRecord, ReceiverRecord};
+use second::boundary::{PortRecord, ReceiverRecord, StationRecord};
 use second::cases;
 use second::hex::{self, HexRefusal, Reader, RuleSet};
 use second::line::{rehearse, rehearse_noisy, Exchange, Noise};
@@ -13,6 +13,7 @@ use second::plain::{Plain, Stage};
 use second::port::Port;
 use second::receiver::Receiver;
 use second::session::{Event, Host, Outcome, Phase, Run, Session};
+use second::stations::{self, Place, Station};
 use second::units::{Board, ByteAddress, Page};
 use second::Refusal;
 
@@ -5593,4 +5594,674 @@ fn plan_of_ten_million_digits() {
         (&format!(":{digits}\r\n"), "REFUSED 1 23 10000001"),
         (&digits, "REFUSED 1 22 0"),
     ]);
+}
+
+/// What a record says as the six numbers of a station, in the order of the
+/// header.
+fn station_read(record: &[u8]) -> Result<[u64; 6], u8> {
+    numbers(stations::read(record))
+}
+
+fn numbers(given: Result<Station, Refusal>) -> Result<[u64; 6], u8> {
+    given
+        .map(|station| StationRecord::from(station).fields())
+        .map_err(Refusal::number)
+}
+
+/// The record of the station with these numbers, written into so many bytes; a
+/// refusal leaves them, and bytes past the record stay.
+fn station_written(fields: [u64; 6], room: usize) -> Result<Vec<u8>, u8> {
+    let mut buffer = vec![0xAA; room];
+    let station = StationRecord::of_fields(&fields).unwrap();
+    let written = station.write(&mut buffer);
+    let length = written.unwrap_or(0);
+    assert!(buffer[length..].iter().all(|byte| *byte == 0xAA));
+    written
+        .map(|length| buffer[..length].to_vec())
+        .map_err(Refusal::number)
+}
+
+const STATION_7: [u8; 8] = [0, 6, 1, 0, 7, 0, 1, 0];
+
+#[test]
+fn record_of_a_station_reads_by_its_version() {
+    for (record, fields) in [
+        (&STATION_7[..], [1, 7, 0, 1, 0, 123]),
+        (&[0, 6, 1, 0x12, 0x34, 1, 2, 10], [1, 0x1234, 1, 2, 10, 123]),
+        (
+            &[0, 6, 1, 0xFF, 0xFF, 2, 1, 123],
+            [1, 65_535, 2, 1, 123, 123],
+        ),
+        (&[0, 7, 2, 0, 7, 0, 1, 0, 50], [2, 7, 0, 1, 0, 50]),
+        (&[0, 7, 2, 0, 7, 0, 1, 0, 123], [2, 7, 0, 1, 0, 123]),
+        (&[0, 7, 2, 0, 0, 2, 2, 50, 50], [2, 0, 2, 2, 50, 50]),
+    ] {
+        assert_eq!(station_read(record), Ok(fields), "{record:?}");
+        let station = stations::read(record).unwrap();
+        assert_eq!(station.record(), record);
+    }
+}
+
+/// 63 under three bytes, then 62, then 63 for each length but the version's.
+#[test]
+fn lengths_of_a_stations_record() {
+    for length in 0..=20 {
+        let numbers: Vec<Result<[u64; 6], u8>> = [(6, 0), (6, 1), (7, 2), (7, 3)]
+            .into_iter()
+            .map(|(field, version)| {
+                let mut record = vec![0, field, version, 0, 7, 0, 1, 0, 123];
+                record.resize(length, 0);
+                station_read(&record)
+            })
+            .collect();
+        let expected = match length {
+            ..3 => [Err(63); 4],
+            8 => [Err(62), Ok([1, 7, 0, 1, 0, 123]), Err(63), Err(62)],
+            9 => [Err(62), Err(63), Ok([2, 7, 0, 1, 0, 123]), Err(62)],
+            _ => [Err(62), Err(63), Err(63), Err(62)],
+        };
+        assert_eq!(numbers, expected, "{length} bytes");
+    }
+}
+
+#[test]
+fn every_version_but_1_and_2_is_62() {
+    for version in (0..=0).chain(3..=255) {
+        for record in [
+            &[0, 6, version, 0, 7, 0, 1, 0][..],
+            &[0, 7, version, 0, 7, 0, 1, 0, 50],
+            &[0, 7, version, 0, 7, 3, 3, 124, 124],
+            &[0xFF, 0xFF, version],
+            &[0, 6, version, 0, 7],
+        ] {
+            assert_eq!(station_read(record), Err(62), "{record:?}");
+        }
+    }
+}
+
+#[test]
+fn length_field_must_be_the_versions() {
+    for field in 0..=0xFFFF_u16 {
+        let [high, low] = field.to_be_bytes();
+        let first = station_read(&[high, low, 1, 0, 7, 0, 1, 0]);
+        assert_eq!(first.is_ok(), field == 6, "{field}");
+        let second = station_read(&[high, low, 2, 0, 7, 0, 1, 0, 50]);
+        assert_eq!(second.is_ok(), field == 7, "{field}");
+        assert_eq!([first, second].iter().find_map(|read| read.err()), Some(63));
+    }
+}
+
+#[test]
+fn run_kind_and_rule_set_of_a_record() {
+    for value in 0..=255 {
+        let run = station_read(&[0, 6, 1, 0, 7, value, 1, 0]);
+        let expected = [1, 7, value.into(), 1, 0, 123];
+        assert_eq!(run, (value <= 2).then_some(expected).ok_or(63));
+        let rules = station_read(&[0, 7, 2, 0, 7, 0, value, 0, 50]);
+        let expected = [2, 7, 0, value.into(), 0, 50];
+        let known = value == 1 || value == 2;
+        assert_eq!(rules, known.then_some(expected).ok_or(63));
+    }
+}
+
+#[test]
+fn pages_of_a_record() {
+    for first in 0..=255 {
+        let read = station_read(&[0, 6, 1, 0, 7, 0, 1, first]);
+        let expected = [1, 7, 0, 1, first.into(), 123];
+        assert_eq!(read, (first <= 123).then_some(expected).ok_or(63));
+        for last in 0..=255 {
+            let read = station_read(&[0, 7, 2, 0, 7, 0, 1, first, last]);
+            let expected = [2, 7, 0, 1, first.into(), last.into()];
+            let within = first <= last && last <= 123;
+            assert_eq!(read, within.then_some(expected).ok_or(63));
+        }
+    }
+}
+
+#[test]
+fn version_1_is_written_back_if_only_old_fields_changed() {
+    for (fields, record) in [
+        ([1, 7, 0, 1, 0, 123], STATION_7),
+        ([1, 8, 0, 1, 0, 123], [0, 6, 1, 0, 8, 0, 1, 0]),
+        ([1, 0x1234, 0, 1, 0, 123], [0, 6, 1, 0x12, 0x34, 0, 1, 0]),
+        ([1, 7, 2, 1, 0, 123], [0, 6, 1, 0, 7, 2, 1, 0]),
+        ([1, 7, 0, 2, 0, 123], [0, 6, 1, 0, 7, 0, 2, 0]),
+        ([1, 7, 0, 1, 123, 123], [0, 6, 1, 0, 7, 0, 1, 123]),
+    ] {
+        assert_eq!(station_written(fields, 8), Ok(record.to_vec()));
+        assert_eq!(station_written(fields, 30), Ok(record.to_vec()));
+    }
+}
+
+/// A changed last page makes version 2, and so does version 2 by itself.
+#[test]
+fn version_2_is_written_with_its_last_page() {
+    for last in 0..=123 {
+        let record = vec![0, 7, 2, 0, 7, 0, 1, 0, last];
+        let fields = [2, 7, 0, 1, 0, last.into()];
+        assert_eq!(station_written(fields, 9), Ok(record.clone()));
+        assert_eq!(station_read(&record), Ok(fields));
+        if last != 123 {
+            let changed = [1, 7, 0, 1, 0, last.into()];
+            assert_eq!(station_written(changed, 9), Ok(record));
+        }
+    }
+}
+
+#[test]
+fn writing_a_station_refuses_20_then_62_then_63() {
+    for (fields, rooms) in [
+        ([1, 7, 0, 1, 0, 123], [20, 0, 0]),
+        ([1, 7, 0, 1, 0, 122], [20, 20, 0]),
+        ([2, 7, 0, 1, 0, 123], [20, 20, 0]),
+        ([1, 7, 3, 1, 0, 123], [20, 63, 63]),
+        ([1, 7, 3, 1, 0, 122], [20, 20, 63]),
+        ([1, 7, 0, 1, 0, 124], [20, 20, 63]),
+        ([2, 7, 3, 1, 0, 123], [20, 20, 63]),
+        ([0, 7, 0, 1, 0, 123], [20, 20, 62]),
+        ([3, 65_536, 3, 0, 124, 124], [20, 20, 62]),
+        ([257, 7, 0, 1, 0, 123], [20, 20, 62]),
+    ] {
+        for (room, number) in (7..).zip(rooms) {
+            let written = station_written(fields, room);
+            assert_eq!(written.err().unwrap_or(0), number, "{fields:?} in {room}");
+        }
+    }
+}
+
+#[test]
+fn made_up_station_with_a_field_out_of_range_is_63() {
+    for fields in [
+        [1, 65_536, 0, 1, 0, 123],
+        [2, 65_543, 0, 1, 0, 123],
+        [1, 7, 3, 1, 0, 123],
+        [1, 7, 256, 1, 0, 123],
+        [1, 7, 0, 0, 0, 123],
+        [1, 7, 0, 3, 0, 123],
+        [2, 7, 0, 257, 0, 123],
+        [1, 7, 0, 1, 124, 123],
+        [1, 7, 0, 1, 0, 124],
+        [2, 7, 0, 1, 124, 124],
+        [2, 7, 0, 1, 51, 50],
+        [1, 7, 0, 1, 51, 50],
+        [2, 7, 0, 1, 256, 123],
+        [2, 7, 0, 1, 0, 379],
+        [2, 0xFFFF_FFFF, 0xFFFF_FFFF, 0xFFFF_FFFF, 0, 0xFFFF_FFFF],
+    ] {
+        assert_eq!(station_written(fields, 9), Err(63), "{fields:?}");
+    }
+}
+
+/// A table of stations, with what comes of calls as numbers.
+struct Table(Vec<u8>);
+
+impl Table {
+    fn new() -> Table {
+        let mut bytes = vec![0xAA; 1024];
+        stations::empty(&mut bytes).unwrap();
+        assert_eq!(bytes, [0; 1024]);
+        Table(bytes)
+    }
+
+    /// One with these bytes at the start of some places.
+    fn with(places: &[(usize, &[u8])]) -> Table {
+        let mut table = Table::new();
+        for (place, bytes) in places {
+            table.0[16 * place..][..bytes.len()].copy_from_slice(bytes);
+        }
+        table
+    }
+
+    /// Refusals change no byte.
+    fn change<T>(&mut self, call: impl Fn(&mut [u8]) -> Result<T, Refusal>) -> Result<T, u8> {
+        let before = self.0.clone();
+        let done = call(&mut self.0);
+        assert!(done.is_ok() || self.0 == before);
+        done.map_err(Refusal::number)
+    }
+
+    fn store(&mut self, record: &[u8]) -> Result<u32, u8> {
+        self.change(|table| stations::store(table, record))
+    }
+
+    fn delete(&mut self, number: u32) -> Result<(), u8> {
+        self.change(|table| stations::delete(table, number))
+    }
+
+    fn free(&mut self, place: u32) -> Result<(), u8> {
+        self.change(|table| stations::free(table, place))
+    }
+
+    fn find(&self, number: u32) -> Result<[u64; 6], u8> {
+        numbers(stations::find(&self.0, number))
+    }
+
+    fn list(&self, place: u32) -> Result<[u64; 6], u8> {
+        numbers(stations::list(&self.0, place))
+    }
+
+    fn at(&self, place: u32) -> Result<Place, u8> {
+        stations::at(&self.0, place).map_err(Refusal::number)
+    }
+
+    fn bytes(&self, place: usize) -> &[u8] {
+        &self.0[16 * place..16 * (place + 1)]
+    }
+}
+
+/// A version 1 record of a station.
+fn record_of(number: u16) -> Vec<u8> {
+    let [high, low] = number.to_be_bytes();
+    vec![0, 6, 1, high, low, 0, 1, 0]
+}
+
+#[test]
+fn empty_table_has_64_free_places_and_no_station() {
+    let mut table = Table::new();
+    for place in 0..64 {
+        assert_eq!(table.at(place), Ok(Place::Free));
+        assert_eq!(table.list(place), Err(60));
+        assert_eq!(table.free(place), Err(60));
+    }
+    for place in [64, 65, 256, u32::MAX] {
+        assert_eq!(table.at(place), Err(60));
+        assert_eq!(table.list(place), Err(60));
+        assert_eq!(table.free(place), Err(60));
+    }
+    assert_eq!((table.find(0), table.delete(0)), (Err(60), Err(60)));
+}
+
+#[test]
+fn record_is_stored_in_the_lowest_free_place_with_00_behind_it() {
+    let mut table = Table::new();
+    assert_eq!(table.store(&STATION_7), Ok(0));
+    assert_eq!(table.store(&[0, 7, 2, 0, 8, 2, 2, 10, 20]), Ok(1));
+    let first = [0, 6, 1, 0, 7, 0, 1, 0, 0, 0, 0, 0, 0, 0, 0, 0];
+    let second = [0, 7, 2, 0, 8, 2, 2, 10, 20, 0, 0, 0, 0, 0, 0, 0];
+    assert_eq!((table.bytes(0), table.bytes(1)), (&first[..], &second[..]));
+    assert!(table.0[32..].iter().all(|byte| *byte == 0));
+    assert_eq!(table.find(7), Ok([1, 7, 0, 1, 0, 123]));
+    assert_eq!(table.find(8), Ok([2, 8, 2, 2, 10, 20]));
+    assert_eq!(table.list(1), table.find(8));
+    assert_eq!(table.find(0), Err(60));
+}
+
+#[test]
+fn storing_a_number_already_held_replaces_its_record() {
+    let mut table = Table::new();
+    assert_eq!(table.store(&record_of(6)), Ok(0));
+    assert_eq!(table.store(&[0, 7, 2, 0, 7, 1, 2, 122, 123]), Ok(1));
+    assert_eq!(table.store(&record_of(8)), Ok(2));
+    assert_eq!(table.store(&STATION_7), Ok(1));
+    let alone = [0, 6, 1, 0, 7, 0, 1, 0, 0, 0, 0, 0, 0, 0, 0, 0];
+    assert_eq!(table.bytes(1), alone);
+    assert_eq!(table.at(3), Ok(Place::Free));
+    // the lower place that is free then does not draw it away
+    assert_eq!(table.delete(6), Ok(()));
+    assert_eq!(table.store(&[0, 6, 1, 0, 7, 2, 1, 0]), Ok(1));
+    assert_eq!(table.at(0), Ok(Place::Free));
+}
+
+#[test]
+fn deleted_place_is_used_again() {
+    let mut table = Table::new();
+    for number in 0..5 {
+        assert_eq!(table.store(&record_of(number)), Ok(number.into()));
+    }
+    assert_eq!((table.delete(3), table.delete(1)), (Ok(()), Ok(())));
+    assert_eq!((table.find(1), table.delete(1)), (Err(60), Err(60)));
+    assert_eq!(table.bytes(1), [0; 16]);
+    assert_eq!(table.store(&record_of(9)), Ok(1));
+    assert_eq!(table.store(&record_of(10)), Ok(3));
+    assert_eq!(table.store(&record_of(11)), Ok(5));
+}
+
+#[test]
+fn full_table_is_61_unless_it_holds_the_number() {
+    let mut table = Table::new();
+    for number in 0..64 {
+        assert_eq!(table.store(&record_of(number)), Ok(number.into()));
+    }
+    assert_eq!(table.store(&record_of(64)), Err(61));
+    for number in [0, 31, 63] {
+        let replaced = [0, 7, 2, 0, number, 2, 2, 5, 10];
+        assert_eq!(table.store(&replaced), Ok(number.into()));
+        let fields = [2, number.into(), 2, 2, 5, 10];
+        assert_eq!(table.find(number.into()), Ok(fields));
+    }
+    for (record, number) in [
+        (&[][..], 63),
+        (&[0, 6], 63),
+        (&[0, 6, 3], 62),
+        (&[0, 6, 1, 0, 64, 0, 1], 63),
+        (&[0, 6, 1, 0, 64, 3, 1, 0], 63),
+        (&[0, 7, 2, 0, 64, 0, 1, 51, 50], 63),
+    ] {
+        assert_eq!(table.store(record), Err(number), "{record:?}");
+    }
+    assert_eq!(table.delete(40), Ok(()));
+    assert_eq!(table.store(&record_of(64)), Ok(40));
+    assert_eq!(table.store(&record_of(40)), Err(61));
+}
+
+#[test]
+fn table_of_another_size_holds_no_station() {
+    for size in [0, 1, 16, 1008, 1023, 1025, 1040, 2048] {
+        let mut table = Table(Table::with(&[(0, &STATION_7)]).0.repeat(2));
+        table.0.truncate(size);
+        assert_eq!((table.find(7), table.list(0)), (Err(60), Err(60)));
+        assert_eq!(table.at(0), Err(60));
+        assert_eq!((table.delete(7), table.free(0)), (Err(60), Err(60)));
+        for record in [&[][..], &[0, 6, 3], &STATION_7] {
+            assert_eq!(table.store(record), Err(20));
+        }
+        assert_eq!(table.change(stations::empty), Err(20));
+    }
+}
+
+#[test]
+fn number_above_65535_is_held_by_no_place() {
+    let mut table = Table::new();
+    for number in [0, 7, 65_535] {
+        table.store(&record_of(number)).unwrap();
+    }
+    assert_eq!(table.find(65_535), Ok([1, 65_535, 0, 1, 0, 123]));
+    for number in [65_536, 65_543, 131_071, u32::MAX] {
+        assert_eq!(table.find(number), Err(60));
+        assert_eq!(table.delete(number), Err(60));
+    }
+    assert_eq!((table.delete(65_535), table.delete(0)), (Ok(()), Ok(())));
+}
+
+/// Places that are neither free nor have a station.
+const DAMAGED: [&[u8]; 12] = [
+    // later versions
+    &[0, 6, 3, 0, 7, 0, 1, 0],
+    &[0, 8, 3, 0, 7, 0, 1, 0, 50, 1],
+    // a byte behind a record
+    &[0, 6, 1, 0, 7, 0, 1, 0, 1],
+    &[0, 6, 1, 0, 7, 0, 1, 0, 0, 0, 0, 0, 0, 0, 0, 1],
+    &[0, 7, 2, 0, 7, 0, 1, 0, 50, 0, 0, 0, 0, 0, 0, 1],
+    // records cut short
+    &[0, 6, 1, 0, 7],
+    &[0, 7, 2, 0, 7, 0, 1, 1],
+    // a length that is not the version's
+    &[0, 7, 1, 0, 7, 0, 1, 0, 123],
+    &[0, 6, 2, 0, 7, 0, 1, 0],
+    // a field out of range
+    &[0, 6, 1, 0, 7, 0, 1, 124],
+    &[0xFF; 16],
+    &[0, 0, 0, 0, 0, 0, 0, 0, 0, 0, 0, 0, 0, 0, 0, 1],
+];
+
+#[test]
+fn damaged_place_is_no_station_and_no_store_takes_it() {
+    for damaged in DAMAGED {
+        let mut table = Table::with(&[(0, damaged)]);
+        let before = table.bytes(0).to_vec();
+        assert_eq!(table.at(0), Ok(Place::Damaged), "{damaged:?}");
+        assert_eq!((table.list(0), table.find(7)), (Err(60), Err(60)));
+        assert_eq!(table.delete(7), Err(60));
+        assert_eq!(table.store(&STATION_7), Ok(1));
+        assert_eq!(table.find(7), Ok([1, 7, 0, 1, 0, 123]));
+        assert_eq!(table.delete(7), Ok(()));
+        assert_eq!(table.bytes(0), before);
+    }
+}
+
+#[test]
+fn damaged_place_is_freed_by_its_place_alone() {
+    let places: Vec<(usize, &[u8])> = (0..).zip(DAMAGED.into_iter().cycle().take(64)).collect();
+    let mut table = Table::with(&places);
+    assert_eq!(table.store(&STATION_7), Err(61));
+    assert_eq!(table.store(&[0, 6, 3]), Err(62));
+    assert_eq!(table.free(64), Err(60));
+    for (number, place) in (100..).zip([63, 5, 40]) {
+        assert_eq!(table.free(place), Ok(()));
+        assert_eq!(table.at(place), Ok(Place::Free));
+        assert_eq!(table.free(place), Err(60));
+        assert_eq!(table.store(&record_of(number)), Ok(place));
+        assert_eq!(table.store(&record_of(99)), Err(61));
+    }
+}
+
+#[test]
+fn lowest_readable_place_holds_a_number() {
+    let record = |run| [0, 6, 1, 0, 7, run, 1, 0];
+    let mut table = Table::with(&[
+        (1, DAMAGED[2]),
+        (3, &record(0)),
+        (6, &record(1)),
+        (63, &record(2)),
+    ]);
+    assert_eq!(table.find(7), Ok([1, 7, 0, 1, 0, 123]));
+    assert_eq!(table.store(&[0, 6, 1, 0, 7, 0, 2, 9]), Ok(3));
+    assert_eq!(table.list(6), Ok([1, 7, 1, 1, 0, 123]));
+    assert_eq!(table.free(3), Ok(()));
+    assert_eq!(table.find(7), Ok([1, 7, 1, 1, 0, 123]));
+    assert_eq!(table.store(&record(0)), Ok(6));
+    assert_eq!(table.at(3), Ok(Place::Free));
+}
+
+#[test]
+fn deleting_frees_every_readable_place_with_the_number() {
+    let mut table = Table::with(&[
+        (0, DAMAGED[2]),
+        (1, &record_of(8)),
+        (2, &STATION_7),
+        (30, &[0, 7, 2, 0, 7, 2, 2, 1, 2]),
+        (63, &STATION_7),
+    ]);
+    let left = Table::with(&[(0, DAMAGED[2]), (1, &record_of(8))]);
+    assert_eq!(table.delete(7), Ok(()));
+    assert_eq!(table.0, left.0);
+    assert_eq!(table.delete(7), Err(60));
+}
+
+/// Which values of one byte of a place leave it readable.
+#[test]
+fn place_with_one_byte_changed() {
+    let base = Table::with(&[(0, &[0, 6, 1, 0, 7, 0, 1, 10]), (1, &record_of(8))]);
+    for index in 0..16 {
+        for byte in 0..=255 {
+            let mut table = Table(base.0.clone());
+            table.0[index] = byte;
+            let readable = match index {
+                3 | 4 => true,
+                5 => byte <= 2,
+                6 => byte == 1 || byte == 2,
+                7 => byte <= 123,
+                _ => byte == base.0[index],
+            };
+            let found = matches!(table.at(0), Ok(Place::Station(_)));
+            assert_eq!(found, readable, "{byte} at {index}");
+            assert!(readable || table.at(0) == Ok(Place::Damaged));
+            assert!(table.find(8).is_ok());
+        }
+    }
+}
+
+/// A table with the station 7 of this run kind and these bounds.
+fn bounded(run: Run, first: u8, last: u8) -> Table {
+    Table::with(&[(0, &[0, 7, 2, 0, 7, run.number(), 1, first, last])])
+}
+
+/// Starts a session for a station; a refusal writes nothing.
+fn start_for(table: &Table, number: u32, reading: &Reading) -> Result<Session, u8> {
+    let mut packet = [0xAA; 300];
+    let (image, map) = (&reading.image, &reading.map);
+    let started = stations::start(&table.0, number, image, map, &mut packet);
+    let length = started.map_or(0, |(_, length)| length);
+    assert_eq!(packet[..length], [0x08][..length]);
+    assert!(packet[length..].iter().all(|byte| *byte == 0xAA));
+    started.map(|(session, _)| session).map_err(Refusal::number)
+}
+
+/// Pages 10, 15 and 20, each by one byte.
+fn three_pages() -> Reading {
+    let records = [0x1400, 0x1E00, 0x29FF].map(|at| hex_record(0, at, &[0x11]));
+    Reading::of(Board::Short, &texts(&records))
+}
+
+#[test]
+fn session_starts_within_the_bounds_of_its_station() {
+    let reading = three_pages();
+    for first in 0..=123 {
+        for last in first..=123 {
+            let table = bounded(Run::Reset, first, last);
+            let started = start_for(&table, 7, &reading);
+            let within = first <= 10 && last >= 20;
+            let expected = within.then(|| reading.session(Run::Reset)).ok_or(64);
+            assert_eq!(started, expected, "{first} to {last}");
+        }
+    }
+}
+
+#[test]
+fn each_page_is_allowed_by_bounds_that_reach_it() {
+    for page in [0, 1, 2, 60, 122, 123] {
+        for at in [512 * page, 512 * page + 511] {
+            let record = hex_record(0, at, &[0x11]);
+            let reading = Reading::of(Board::Short, &[&record]);
+            let page = page as u8;
+            for (first, last) in [(0, page), (page, page), (page, 123)] {
+                let table = bounded(Run::Hold, first, last);
+                let session = reading.session(Run::Hold);
+                assert_eq!(start_for(&table, 7, &reading), Ok(session));
+            }
+            if page > 0 {
+                let below = bounded(Run::Hold, 0, page - 1);
+                assert_eq!(start_for(&below, 7, &reading), Err(64));
+            }
+            if page < 123 {
+                let above = bounded(Run::Hold, page + 1, 123);
+                assert_eq!(start_for(&above, 7, &reading), Err(64));
+            }
+        }
+    }
+}
+
+#[test]
+fn start_for_a_station_refuses_60_20_32_64() {
+    let (outside, within) = (bounded(Run::Reset, 11, 20), bounded(Run::Reset, 10, 20));
+    let (file, nothing) = (three_pages(), Reading::new(Board::Short));
+    let mut wrong = Table(within.0.clone());
+    wrong.0.pop();
+    let started = |table: &Table, number, reading: &Reading, room: usize| {
+        let mut packet = vec![0xAA; room];
+        let (image, map) = (&reading.image, &reading.map);
+        let given = stations::start(&table.0, number, image, map, &mut packet);
+        assert!(given.is_ok() || packet.iter().all(|byte| *byte == 0xAA));
+        given.map_or_else(Refusal::number, |_| 0)
+    };
+    for (table, number, reading, room, expected) in [
+        (&within, 8, &nothing, 258, 60),
+        (&wrong, 7, &nothing, 258, 60),
+        (&within, 65_543, &file, 259, 60),
+        (&outside, 7, &nothing, 258, 20),
+        (&outside, 7, &file, 258, 20),
+        (&outside, 7, &nothing, 259, 32),
+        (&within, 7, &nothing, 259, 32),
+        (&outside, 7, &file, 259, 64),
+        (&within, 7, &file, 259, 0),
+    ] {
+        assert_eq!(started(table, number, reading, room), expected);
+    }
+    let long = Reading::of(Board::Long, &[&hex_record(0, 0x1400, &[0x11])]);
+    assert_eq!(started(&within, 7, &long, 259), 20);
+    assert_eq!(started(&within, 8, &long, 259), 60);
+}
+
+/// From its start to its end a session for a station is that of its run kind.
+#[test]
+fn session_for_a_station_has_its_run_kind() {
+    let reading = Reading::of(Board::Short, &[":020200001234B6"]);
+    for (run, packets, outcome) in [
+        (Run::Reset, 4, Outcome::Valid),
+        (Run::Jump, 4, Outcome::Valid),
+        (Run::Hold, 3, Outcome::Held),
+    ] {
+        let table = bounded(run, 1, 1);
+        let mut session = start_for(&table, 7, &reading).unwrap();
+        assert_eq!(session, reading.session(run));
+        assert_eq!((session.run, session.total), (run, packets));
+        let greeting = Event::Answer(Board::Short.greeting());
+        (session, _) = reading.step(session, greeting).unwrap();
+        for _ in 0..packets {
+            let stepped = reading.step(session, Event::Answer(&[0x06]));
+            (session, _) = stepped.unwrap();
+        }
+        assert_eq!(session.outcome(), Some(outcome));
+        assert_eq!(reading.mark(session, 0x201), Ok(true));
+    }
+}
+
+#[test]
+fn file_is_opened_under_the_rule_set_of_a_station() {
+    let table = Table::with(&[(0, &STATION_7), (1, &[0, 7, 2, 0, 8, 0, 2, 123, 123])]);
+    let file = [segment(0x0100), linear(0), hex_record(0, 0, &[0x12])];
+    for (number, rules, place) in [(7, RuleSet::One, 0x1000), (8, RuleSet::Two, 0)] {
+        let mut reading = three_pages();
+        let opened = stations::open(&table.0, number, &mut reading.image, &mut reading.map);
+        reading.reader = opened.unwrap();
+        assert_eq!(reading, Reading::under(rules, Board::Short, &[]));
+        for record in &file {
+            assert_eq!(reading.record(record), 0);
+        }
+        assert_eq!(reading.named(), [(place, 0x12)]);
+    }
+}
+
+#[test]
+fn opening_for_a_station_refuses_60_then_20() {
+    let table = Table::with(&[(0, &STATION_7)]);
+    let (image, map) = (Board::Short.flash_bytes(), Board::Short.map_bytes());
+    for (bytes, number, image, map, expected) in [
+        (&table.0[..], 8, image, map, 60),
+        (&table.0, 65_543, image, map, 60),
+        (&table.0, 8, 0, map, 60),
+        (&table.0[1..], 7, image, 0, 60),
+        (&table.0, 7, image - 1, map, 20),
+        (&table.0, 7, image, map + 1, 20),
+        (&table.0, 7, 2 * image, 2 * map, 20),
+        (&table.0, 7, image, map, 0),
+    ] {
+        let (mut image, mut map) = (vec![0xAA; image], vec![0xAA; map]);
+        let opened = stations::open(bytes, number, &mut image, &mut map);
+        let refused = opened.is_err();
+        assert_eq!(told(opened), (expected, 0));
+        let mut lent = image.iter().chain(&map);
+        assert!(!refused || lent.all(|byte| *byte == 0xAA));
+    }
+}
+
+/// Stations stay with the short board, whatever calls are told.
+#[test]
+fn case_lines_of_stations() {
+    check_lines(
+        "stations store 000702000702020114 -> 0 0\n\
+         stations find 7 -> 0 2 7 2 2 1 20\n\
+         stations place 0 -> 0 1\n\
+         board 248 -> 0\n\
+         station start 7 -> 32\n\
+         session -> ?\n\
+         station open 7 -> 0\n\
+         reader -> 0 124 2 0 0 0 0 0\n\
+         record :020200001234B6 -> 0\n\
+         station start 7 -> 0 08\n\
+         session -> 0 124 2 0 0 0 0 0 3 2\n\
+         station start 8 -> 60\n\
+         station open 8 -> 60 0\n\
+         stations free 0 -> 0\n\
+         stations free 0 -> 60\n\
+         station start 7 -> 60\n\
+         session -> 0 124 2 0 0 0 0 0 3 2\n\
+         lend input table 000003FF -> 0\n\
+         stations store 0006010007000100 -> ?\n\
+         lend table null -> 0\n\
+         stations store 0006010007000100 -> 20\n\
+         stations find 4294967296 -> ?\n\
+         stations find -> ?\n",
+    );
 }

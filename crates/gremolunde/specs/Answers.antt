@@ -17,7 +17,9 @@ use Rattle.receiver.specs.declared.receiver.Receiver.{Receiver}
 use Rattle.receiver.specs.declared.receiver.Stretch.{Stretch}
 use Rattle.service_log.specs.declared.read.Record.{Record}
 use Rattle.session.specs.declared.session.Next.{Next}
-use Rattle.gremolunde.specs.States.{flagOf, loaderShown, hexShown, sessionShown, plainShown}
+use Rattle.stations.specs.declared.station.Station.{Station}
+use Rattle.stations.specs.declared.table.Standing.{Standing}
+use Rattle.gremolunde.specs.States.{flagOf, loaderShown, hexShown, sessionShown, plainShown, stationShown}
 use Rattle.gremolunde.specs.declared.answers.Length.{Length}
 use Rattle.gremolunde.specs.declared.files.HexRead.{HexRead}
 use Rattle.gremolunde.specs.declared.files.HexWritten.{HexWritten}
@@ -30,10 +32,15 @@ use Rattle.gremolunde.specs.declared.records.LogRecord.{LogRecord}
 use Rattle.gremolunde.specs.declared.rehearsals.Rehearsal.{Rehearsal}
 use Rattle.gremolunde.specs.declared.sessions.SessionMark.{SessionMark}
 use Rattle.gremolunde.specs.declared.sessions.SessionStepped.{SessionStepped}
+use Rattle.gremolunde.specs.declared.settings.Finished.{Finished}
+use Rattle.gremolunde.specs.declared.settings.StationAnswer.{StationAnswer}
+use Rattle.gremolunde.specs.declared.settings.StationPlace.{StationPlace}
+use Rattle.gremolunde.specs.declared.settings.StationStored.{StationStored}
 use Rattle.gremolunde.specs.declared.states.HexState.{HexState}
 use Rattle.gremolunde.specs.declared.states.LoaderState.{LoaderState}
 use Rattle.gremolunde.specs.declared.states.PlainState.{PlainState}
 use Rattle.gremolunde.specs.declared.states.SessionState.{SessionState}
+use Rattle.gremolunde.specs.declared.states.StationState.{StationState}
 
 -- how many bytes were written
 abbrev pub lengthAnswer : Answer ℕ → Length
@@ -137,3 +144,31 @@ recordAnswer (given r) =
       total = r .total;
       bytes = r .bytes;
     }
+
+-- a station; where it is refused there is none
+abbrev pub noStation : StationState
+noStation = record { version = 0; station = 0; run = 0; rules = 0; first = 0; last = 0 }
+
+abbrev pub stationAnswer : Answer Station → StationAnswer
+stationAnswer (refused n) = record { number = n; station = noStation }
+stationAnswer (given s) = record { number = 0; station = stationShown s }
+
+-- the place where a record was stored
+abbrev pub storedAnswer : Answer ℕ → StationStored
+storedAnswer (refused n) = record { number = n; place = 0 }
+storedAnswer (given i) = record { number = 0; place = i }
+
+-- what is at a place: 0 free, 1 a station, 2 damaged
+abbrev pub conditionOf : Standing → ℕ
+conditionOf Standing.Free = 0
+conditionOf (Standing.Station s) = 1
+conditionOf Standing.Damaged = 2
+
+abbrev pub placeAnswer : Answer Standing → StationPlace
+placeAnswer (refused n) = record { number = n; condition = 0 }
+placeAnswer (given x) = record { number = 0; condition = conditionOf x }
+
+-- whether it was done
+abbrev pub doneAnswer : Answer (Unit {0}) → Finished
+doneAnswer (refused n) = record { number = n }
+doneAnswer (given u) = record { number = 0 }

@@ -18,11 +18,13 @@ use Rattle.plain.specs.declared.stage.Stage.{Stage}
 use Rattle.port.specs.declared.port.Port.{Port}
 use Rattle.session.specs.declared.phase.Phase.{Phase}
 use Rattle.session.specs.declared.session.Session.{Session}
+use Rattle.stations.specs.declared.station.Station.{Station}
 use Rattle.gremolunde.specs.declared.states.HexState.{HexState}
 use Rattle.gremolunde.specs.declared.states.LoaderState.{LoaderState}
 use Rattle.gremolunde.specs.declared.states.PlainState.{PlainState}
 use Rattle.gremolunde.specs.declared.states.PortState.{PortState}
 use Rattle.gremolunde.specs.declared.states.SessionState.{SessionState}
+use Rattle.gremolunde.specs.declared.states.StationState.{StationState}
 
 -- a flag: 0 is false, all else is true; shown as 0 or 1
 abbrev pub isSet : ℕ → Bool
@@ -231,4 +233,27 @@ plainShown p =
       acknowledged = p .acknowledged;
       total = p .total;
       named = p .named;
+    }
+
+-- a station's settings, each a number as it came
+abbrev pub stationMeant : StationState → Station
+stationMeant s =
+    record {
+      version = s .version;
+      number = s .station;
+      run = s .run;
+      rules = s .rules;
+      first = record { 0 = s .first };
+      last = record { 0 = s .last };
+    }
+
+abbrev pub stationShown : Station → StationState
+stationShown s =
+    record {
+      version = s .version;
+      station = s .number;
+      run = s .run;
+      rules = s .rules;
+      first = s .first .0;
+      last = s .last .0;
     }

@@ -66,7 +66,7 @@ pub extern "C" fn gremolunde_hex_start(
 }
 
 // What a start that is refused hands back.
-fn no_reader() -> HexState
+pub fn no_reader() -> HexState
     ensures { λ r. ⌜ r ≡ noReader ⌝ }
 {
     HexState {
@@ -121,7 +121,7 @@ pub extern "C" fn gremolunde_hex_close(reader: HexState) -> HexRead
     }
 }
 
-fn hex_answer(reader: HexState, board: u32, answer: Read) -> HexRead
+pub fn hex_answer(reader: HexState, board: u32, answer: Read) -> HexRead
     ensures { λ r. ⌜ r ≡ hexAnswer reader board (paperRead answer) ⌝ }
 {
     match answer {

@@ -9,4 +9,6 @@ pub mod receiving;
 pub mod records;
 pub mod rehearsals;
 pub mod sessions;
+pub mod settings;
 pub mod states;
+pub mod visits;

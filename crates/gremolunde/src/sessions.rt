@@ -102,7 +102,7 @@ pub extern "C" fn gremolunde_session_step(
     stepped_answer(session, meant.step(silent != 0, answer, image, map, buffer))
 }
 
-fn stepped_answer(session: SessionState, answer: Stepped) -> SessionStepped
+pub fn stepped_answer(session: SessionState, answer: Stepped) -> SessionStepped
     ensures { λ r. ⌜ r ≡ steppedAnswer session (paperStepped answer) ⌝ }
 {
     match answer {

@@ -1,6 +1,6 @@
 // The states that a C caller keeps, and what each stands for.
 ghost use mathlib.Core.Path.{_≡_};
-ghost use Rattle.gremolunde.specs.States.{conditionMeant, conditionShown, loaderMeant, loaderShown, portMeant, hexMeant, hexShown, nowhere, outcomeMeant, endMeant, phaseMeant, without, phaseShown, pageShown, addressShown, outcomeShown, sessionMeant, sessionShown, stageMeant, stageShown, endingShown, listed, plainAt, plainMeant, plainShown};
+ghost use Rattle.gremolunde.specs.States.{conditionMeant, conditionShown, loaderMeant, loaderShown, portMeant, hexMeant, hexShown, nowhere, outcomeMeant, endMeant, phaseMeant, without, phaseShown, pageShown, addressShown, outcomeShown, sessionMeant, sessionShown, stageMeant, stageShown, endingShown, listed, plainAt, plainMeant, plainShown, stationMeant, stationShown};
 use crate::answers::flag;
 use basis::kind::RunKind;
 use basis::units::Address;
@@ -18,6 +18,7 @@ use port::port::Port;
 use receiver::receiver::Receiver;
 use session::phase::Phase;
 use session::session::Session;
+use stations::station::Station;
 
 // `condition` is 0 waiting, 1 serving, 2 left; what else it may be counts as left.
 #[repr(C)]
@@ -76,6 +77,17 @@ pub struct PlainState {
     pub acknowledged: u32,
     pub total: u32,
     pub named: u32,
+}
+
+// `station` is its number; any value of a field may stand here, and what is out of range is refused.
+#[repr(C)]
+pub struct StationState {
+    pub version: u32,
+    pub station: u32,
+    pub run: u32,
+    pub rules: u32,
+    pub first: u32,
+    pub last: u32,
 }
 
 pub fn loader_meant(state: LoaderState) -> Loader
@@ -404,5 +416,33 @@ fn ending_shown(stage: Stage) -> u32
         Stage::Waiting => 0,
         Stage::UnderWay => 0,
         Stage::Ended(outcome) => outcome.number() as u32,
+    }
+}
+
+pub fn station_meant(state: StationState) -> Station
+    ensures { λ r. ⌜ r ≡ stationMeant state ⌝ }
+{
+    Station {
+        version: state.version,
+        number: state.station,
+        run: state.run,
+        rules: state.rules,
+        first: Page(state.first),
+        last: Page(state.last),
+    }
+}
+
+pub fn station_shown(station: Station) -> StationState
+    ensures { λ r. ⌜ r ≡ stationShown station ⌝ }
+{
+    let first = station.first;
+    let last = station.last;
+    StationState {
+        version: station.version,
+        station: station.number,
+        run: station.run,
+        rules: station.rules,
+        first: first.0,
+        last: last.0,
     }
 }

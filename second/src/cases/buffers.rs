@@ -4,6 +4,7 @@ use std::ops::Range;
 
 use crate::hex::RECORD_BUFFER;
 use crate::packet;
+use crate::stations::TABLE_BYTES;
 use crate::units::{Board, GREETING_BYTES};
 
 pub const CAPACITY: u32 = 131_072;
@@ -19,13 +20,14 @@ pub enum Buffer {
     Packet,
     Record,
     Log,
+    Table,
     Input,
     Other,
     Spare,
 }
 
 impl Buffer {
-    pub const ALL: [Buffer; 10] = [
+    pub const ALL: [Buffer; 11] = [
         Buffer::Flash,
         Buffer::Answer,
         Buffer::Image,
@@ -33,6 +35,7 @@ impl Buffer {
         Buffer::Packet,
         Buffer::Record,
         Buffer::Log,
+        Buffer::Table,
         Buffer::Input,
         Buffer::Other,
         Buffer::Spare,
@@ -47,6 +50,7 @@ impl Buffer {
             Buffer::Packet => "packet",
             Buffer::Record => "record",
             Buffer::Log => "log",
+            Buffer::Table => "table",
             Buffer::Input => "input",
             Buffer::Other => "other",
             Buffer::Spare => "spare",
@@ -61,7 +65,7 @@ impl Buffer {
     fn at_first(self) -> Vec<u8> {
         let filling = match self {
             Buffer::Flash | Buffer::Image => 0xFF,
-            Buffer::Map => 0x00,
+            Buffer::Map | Buffer::Table => 0x00,
             _ => 0xAA,
         };
         vec![filling; CAPACITY as usize]
@@ -77,6 +81,7 @@ impl Buffer {
             Buffer::Packet => packet::LONGEST,
             Buffer::Record => RECORD_BUFFER,
             Buffer::Log => Board::Short.log_bytes(),
+            Buffer::Table => TABLE_BYTES,
             Buffer::Input | Buffer::Other | Buffer::Spare => return None,
         };
         Some(length as u32)

@@ -51,6 +51,11 @@ pub fn number<N: FromStr>(word: &str) -> Option<N> {
     word.parse().ok()
 }
 
+/// The fields of a record, as many as there are words.
+pub fn numbers(words: &[&str]) -> Option<Vec<u64>> {
+    words.iter().map(|word| number(word)).collect()
+}
+
 pub fn run(word: &str) -> Option<Run> {
     match word {
         "reset" => Some(Run::Reset),

@@ -6,6 +6,7 @@ use second::cases::{self, Desk};
 use second::hex;
 use second::listing::hex_digits;
 use second::packet::{self, ADD, CLOSE, OPEN};
+use second::stations::TABLE_BYTES;
 use second::units::{Board, GREETING_BYTES};
 
 use crate::boards;
@@ -16,6 +17,7 @@ use crate::random::Random;
 use crate::root;
 use crate::rules;
 use crate::site::{Site, SITES};
+use crate::tables::{self, KINDS, PLACES};
 use crate::wire::Wire;
 use crate::writer;
 
@@ -29,6 +31,7 @@ type Lent = (&'static str, u32);
 const ANSWER: Lent = ("answer", GREETING_BYTES as u32);
 const PACKET: Lent = ("packet", packet::LONGEST as u32);
 const RECORD: Lent = ("record", hex::RECORD_BUFFER as u32);
+const TABLE: Lent = ("table", TABLE_BYTES as u32);
 
 fn flash(site: Site) -> Lent {
     ("flash", site.end())
@@ -46,12 +49,13 @@ fn log(site: Site) -> Lent {
     ("log", site.board.log_bytes() as u32)
 }
 
-const BUFFERS: [&str; 10] = [
-    "flash", "answer", "image", "map", "packet", "record", "log", "input", "other", "spare",
+const BUFFERS: [&str; 11] = [
+    "flash", "answer", "image", "map", "packet", "record", "log", "table", "input", "other",
+    "spare",
 ];
 
 /// Lines that are no case, and a remark or two.
-const JUNK: [&str; 57] = [
+const JUNK: [&str; 71] = [
     "",
     " ",
     "#",
@@ -109,6 +113,20 @@ const JUNK: [&str; 57] = [
     "plain plain",
     "plain session",
     "session start hold",
+    "station",
+    "station ",
+    "station read",
+    "station read 0",
+    "station write 1 7 0 1 0",
+    "station write 1 7 0 1 0 123 0",
+    "station write 1 7 0 1 0 4294967296",
+    "station open 07",
+    "station start 4294967296",
+    "stations",
+    "stations empty ",
+    "stations find 4294967296",
+    "stations store",
+    "stations store 00 00",
 ];
 
 /// Compares the stored list and gives its number of lines.
@@ -180,6 +198,7 @@ fn script(random: &mut Random) -> Vec<String> {
         loader(random, &mut lines, site);
         receiver(random, &mut lines, site);
         rehearsals(random, &mut lines, site);
+        stations(random, &mut lines, site);
         desk(random, &mut lines);
     }
     lines
@@ -504,6 +523,52 @@ fn rehearsals(random: &mut Random, lines: &mut Vec<String>, site: Site) {
     for line in [format!("rehearse {run} "), format!("noisy {run} 3  0E0808")] {
         wrongly_lent(random, lines, flash(site), &line);
         wrongly_told(random, lines, site, &line);
+    }
+}
+
+/// A table of any kind, with calls for the file that was read before.
+fn stations(random: &mut Random, lines: &mut Vec<String>, site: Site) {
+    let kind = random.below(KINDS);
+    let table = hex_digits(&tables::table(random, kind));
+    lines.push(format!("put table 00000000 {table}"));
+    for _ in 0..20 {
+        let line = station_line(random);
+        match random.once_in(5) {
+            true => wrongly_lent(random, lines, TABLE, &line),
+            false => lines.push(line),
+        }
+        let more = random.pick(&["changed", "reader", "session", "look table 00000000 64"]);
+        lines.push(more.to_string());
+    }
+    let number = tables::number(random);
+    let part = random.pick(&[image(site), map(site), PACKET, TABLE]);
+    wrongly_lent(random, lines, part, &format!("station start {number}"));
+    wrongly_told(random, lines, site, &format!("station start {number}"));
+    let part = random.pick(&[image(site), map(site), TABLE]);
+    wrongly_lent(random, lines, part, &format!("station open {number}"));
+    wrongly_told(random, lines, site, &format!("station open {number}"));
+}
+
+/// One call of stations.
+fn station_line(random: &mut Random) -> String {
+    let (number, place) = (tables::number(random), random.below(PLACES + 2));
+    let record = random.pick(&[tables::record, tables::record, tables::broken])(random);
+    let record = hex_digits(&record);
+    match random.below(11) {
+        0 => format!("station read {record}"),
+        1 => {
+            let fields = tables::made_up(random).fields();
+            let fields: String = fields.iter().map(|field| format!(" {field}")).collect();
+            format!("station write{fields}")
+        }
+        2 => format!("stations find {number}"),
+        3 => format!("stations list {place}"),
+        4 => format!("stations place {place}"),
+        5 | 6 => format!("stations store {record}"),
+        7 => format!("stations delete {number}"),
+        8 => format!("stations free {place}"),
+        9 => format!("station start {number}"),
+        _ => random.pick(&["stations empty", "stations find 7"]).into(),
     }
 }
 

@@ -27,6 +27,8 @@ mod rules;
 mod sessions;
 mod site;
 mod srec;
+mod stations;
+mod tables;
 mod tally;
 mod tools;
 mod wire;
@@ -50,7 +52,7 @@ const OFTEN_IN_PROGRAMS: u64 = 5;
 /// How often each listed column must be seen that is not the same in every line.
 const OFTEN_IN_COLUMNS: u64 = 2;
 
-const PARTS: [(&str, Compare); 14] = [
+const PARTS: [(&str, Compare); 15] = [
     ("packet", packets::compare),
     ("loader", loaders::compare),
     ("receiver", receivers::compare),
@@ -64,6 +66,7 @@ const PARTS: [(&str, Compare); 14] = [
     ("rehearsal", rehearsals::compare),
     ("noisy line", noisy::compare),
     ("boards", boards::compare),
+    ("stations", stations::compare),
     ("examples", examples::compare),
 ];
 

@@ -3,7 +3,9 @@
 
 use std::fmt::Debug;
 
-use second::boundary::{self, LoaderRecord, PlainRecord, ReaderRecord, SessionRecord, RULES_1};
+use second::boundary::{
+    self, LoaderRecord, PlainRecord, ReaderRecord, SessionRecord, StationRecord, RULES_1,
+};
 use second::cases::{self, Answer, Buffer, Desk, Part, CAPACITY};
 use second::hex::RuleSet;
 use second::listing::hex_digits;
@@ -602,8 +604,8 @@ impl Pair {
         }
     }
 
-    /// Counts what came of bytes that no board was told of.
-    pub fn note_received(&mut self, what: &'static str, value: u8) {
+    /// Counts what came of a call that no board was told of.
+    pub fn note_boardless(&mut self, what: &'static str, value: u8) {
         self.tallies.on(On::Nothing).note(what, value);
     }
 
@@ -716,6 +718,128 @@ impl Pair {
         }
         (answer.number, self.desk.loader(), self.session())
     }
+}
+
+/// A table that is lent, and the number of the station that is asked for.
+pub type Wanted = (Part, u32);
+
+/// Calls of stations.
+impl Pair {
+    /// What a record says; none where it is refused.
+    pub fn read_station(&mut self, record: &[u8]) -> Option<StationRecord> {
+        let line = format!("station read {}", hex_digits(record));
+        let answer = self.call(On::Nothing, "station read", line);
+        station_in(&answer)
+    }
+
+    /// The number and the record's bytes, none after a refusal.
+    pub fn write_station(&mut self, station: StationRecord, buffer: Part) -> (u8, Vec<u8>) {
+        self.lend(Buffer::Record, buffer);
+        let line = setting("station write", &station.fields());
+        let answer = self.call(On::Nothing, "station write", line);
+        let record = bytes_in(answer.values.first());
+        if let Some(version) = record.get(2) {
+            self.note_boardless("station written", *version);
+        }
+        (answer.number, record)
+    }
+
+    pub fn empty(&mut self, table: Part) -> u8 {
+        self.ask_table(table, "stations empty", "stations empty".into())
+            .number
+    }
+
+    /// The station that holds a number; none where that is refused.
+    pub fn find(&mut self, table: Part, number: u32) -> Option<StationRecord> {
+        let line = format!("stations find {number}");
+        station_in(&self.ask_table(table, "stations find", line))
+    }
+
+    /// The station at a place; none where that is refused.
+    pub fn list(&mut self, table: Part, place: u32) -> Option<StationRecord> {
+        let line = format!("stations list {place}");
+        station_in(&self.ask_table(table, "stations list", line))
+    }
+
+    /// What is at a place; none where that is refused.
+    pub fn place(&mut self, table: Part, place: u32) -> Option<u8> {
+        let line = format!("stations place {place}");
+        let answer = self.ask_table(table, "stations place", line);
+        let condition = answer.values.first()?.parse().expect("a condition");
+        self.note_boardless("at a place", condition);
+        Some(condition)
+    }
+
+    /// The place where a record is stored; none where that is refused.
+    pub fn store(&mut self, table: Part, record: &[u8]) -> Option<u32> {
+        let line = format!("stations store {}", hex_digits(record));
+        let answer = self.ask_table(table, "stations store", line);
+        Some(answer.values.first()?.parse().expect("a place"))
+    }
+
+    pub fn delete(&mut self, table: Part, number: u32) -> u8 {
+        let line = format!("stations delete {number}");
+        self.ask_table(table, "stations delete", line).number
+    }
+
+    pub fn free(&mut self, table: Part, place: u32) -> u8 {
+        let line = format!("stations free {place}");
+        self.ask_table(table, "stations free", line).number
+    }
+
+    fn ask_table(&mut self, table: Part, function: &'static str, line: String) -> Answer {
+        self.lend(Buffer::Table, table);
+        self.call(On::Nothing, function, line)
+    }
+
+    /// The number and the reader that is kept, whatever board calls are told.
+    pub fn station_open(
+        &mut self,
+        board: u32,
+        (table, number): Wanted,
+        image: Part,
+        map: Part,
+    ) -> (u8, ReaderRecord) {
+        self.set_board(board);
+        self.lend_file(image, map);
+        let line = format!("station open {number}");
+        let answer = self.ask_table(table, "station open", line);
+        self.given(&answer, "reader");
+        let reader = self.desk.reader();
+        if answer.number == 0 {
+            let rules = reader.rules.try_into().expect("a rule set's number");
+            self.note_boardless("opened for a station", rules);
+        }
+        (answer.number, reader)
+    }
+
+    /// The number and the session that is kept, whatever board calls are told.
+    pub fn station_start(
+        &mut self,
+        board: u32,
+        (table, number): Wanted,
+        (image, map, buffer): (Part, Part, Part),
+    ) -> (u8, SessionRecord) {
+        self.set_board(board);
+        self.lend_file(image, map);
+        self.lend(Buffer::Packet, buffer);
+        let line = format!("station start {number}");
+        let answer = self.ask_table(table, "station start", line);
+        self.given(&answer, "session");
+        let session: SessionRecord = self.session();
+        if answer.number == 0 {
+            let kind = session.run.try_into().expect("a run kind's number");
+            self.note_boardless("started for a station", kind);
+        }
+        (answer.number, session)
+    }
+}
+
+/// The station that an answer gives, if it does.
+fn station_in(answer: &Answer) -> Option<StationRecord> {
+    let fields = answer.values.iter().map(|field| field.parse());
+    let fields: Result<Vec<u64>, _> = fields.collect();
+    StationRecord::of_fields(&fields.expect("numbers"))
 }
 
 /// What the numbers of a function under a rule set are counted as; nothing for

@@ -148,20 +148,20 @@ fn note(pair: &mut Pair, stream: &[u8], handed: &Handed) {
     for (end, packet) in handed {
         let start = end - packet.len();
         match packet[..] {
-            [.., count] if packet.len() == 3 => pair.note_received("short count", count),
-            _ => pair.note_received("handed on", 0),
+            [.., count] if packet.len() == 3 => pair.note_boardless("short count", count),
+            _ => pair.note_boardless("handed on", 0),
         }
         if packet.len() == LONGEST {
-            pair.note_received("handed on, the longest", 0);
+            pair.note_boardless("handed on, the longest", 0);
         }
         if packet.windows(2).skip(2).any(|pair| pair == START) {
-            pair.note_received("start inside a packet", 0);
+            pair.note_boardless("start inside a packet", 0);
         }
         if start > before && stream[start - 1] == 0x07 {
-            pair.note_received("07 before a packet", 0);
+            pair.note_boardless("07 before a packet", 0);
         }
         if packet.ends_with(&[0x07]) && stream.get(*end) == Some(&0x0E) {
-            pair.note_received("07 at the end, then 0E", 0);
+            pair.note_boardless("07 at the end, then 0E", 0);
         }
         before = *end;
     }
@@ -346,10 +346,10 @@ fn note_made_up(pair: &mut Pair, made_up: &Receiver) {
     let gathered = made_up.length.min(LONGEST as u64);
     let count = made_up.bytes.get(2).copied().unwrap_or(0);
     if gathered > 2 && gathered > u64::from(count) + 3 {
-        pair.note_received("dropped", 0);
+        pair.note_boardless("dropped", 0);
     }
     if made_up.length > LONGEST as u64 {
-        pair.note_received("longer than there is", 0);
+        pair.note_boardless("longer than there is", 0);
     }
 }
 

@@ -50,8 +50,12 @@ impl On {
 /// Each function that knows of no board and the numbers that it can give, 0
 /// where it was done; a log that is 50 or 51 is no board's. What a receiver hands
 /// on: short counts by their count, and packets by what they stand in or hold; and
-/// receivers that were made up.
-pub const ON_NOTHING: [(&str, &[u8]); 18] = [
+/// receivers that were made up. Stations have one board, so their calls are told
+/// none: the versions of records that were written, what is at places, whether a
+/// store was over another record, the rule sets of files that were opened, the run
+/// kinds of sessions that were started, and on which side of the bounds alone the
+/// pages were that stopped one, 0 below and 1 above.
+pub const ON_NOTHING: [(&str, &[u8]); 35] = [
     ("turned", &[0]),
     ("restored", &[0]),
     ("build", &[0, 5, 6, 20]),
@@ -70,6 +74,23 @@ pub const ON_NOTHING: [(&str, &[u8]); 18] = [
     ("dropped", &[0]),
     ("longer than there is", &[0]),
     ("logread", &[50, 51]),
+    ("station read", &[0, 62, 63]),
+    ("station write", &[0, 20, 62, 63]),
+    ("station written", &[1, 2]),
+    ("stations empty", &[0, 20]),
+    ("stations find", &[0, 60]),
+    ("stations list", &[0, 60]),
+    ("stations place", &[0, 60]),
+    ("at a place", &[0, 1, 2]),
+    ("stations store", &[0, 20, 61, 62, 63]),
+    ("stored over another", &[0, 1]),
+    ("stations delete", &[0, 60]),
+    ("stations free", &[0, 60]),
+    ("station open", &[0, 20, 60]),
+    ("opened for a station", &[1, 2]),
+    ("station start", &[0, 20, 32, 60, 64]),
+    ("started for a station", &[0, 1, 2]),
+    ("outside the bounds", &[0, 1]),
 ];
 
 /// The same of the others, on either board; the endings that steps give and

@@ -20,8 +20,9 @@ use Rattle.plain.specs.declared.plain.Plain.{Plain}
 use Rattle.plain.specs.declared.stage.Stage.{Stage}
 use Rattle.session.specs.declared.phase.Phase.{Phase}
 use Rattle.session.specs.declared.session.Session.{Session}
+use Rattle.stations.specs.declared.station.Station.{Station}
 use Rattle.gremolunde.specs.declared.states.PlainState.{PlainState}
-use Rattle.gremolunde.specs.States.{isSet, flagOf, conditionMeant, conditionShown, loaderMeant, loaderShown, hexMeant, hexShown, outcomeMeant, phaseMeant, phaseShown, pageShown, addressShown, outcomeShown, sessionMeant, sessionShown, stageMeant, stageShown, endingShown, listed, plainAt, plainMeant, plainShown}
+use Rattle.gremolunde.specs.States.{isSet, flagOf, conditionMeant, conditionShown, loaderMeant, loaderShown, hexMeant, hexShown, outcomeMeant, phaseMeant, phaseShown, pageShown, addressShown, outcomeShown, sessionMeant, sessionShown, stageMeant, stageShown, endingShown, listed, plainAt, plainMeant, plainShown, stationMeant, stationShown}
 
 flag-back : (t : Bool) → isSet (flagOf t) ≡ t
 flag-back true = refl
@@ -109,3 +110,6 @@ plain-back p =
 pub unlisted-fits : (board : ℕ) (m : List ℕ) (s : PlainState) → listed (s .stage) (s .outcome) ≡ false
     → fitsOf board m (plainMeant s) ≡ false
 unlisted-fits board m s e = rw e (unreached board m (plainAt s Stage.Waiting 1) refl)
+
+pub station-back : (s : Station) → stationMeant (stationShown s) ≡ s
+station-back s = refl

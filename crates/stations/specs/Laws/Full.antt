@@ -255,16 +255,24 @@ plain-reads k h =
           });
     })
 
+-- the number of each is its place in the list
+plain-number : (n j : ℕ) → j < n → stationAt (plainFrom 0 n) j .number ≡ j
+plain-number n j l = ap (λ (r : List ℕ). fieldsOf r .number) (plain-at n 0 j l) ∙ omega arith
+
 -- up to 256 of them are readable and of different numbers
 pub plain-different : (n : ℕ) → n ≤ 256 → Different (plainFrom 0 n)
 plain-different n h =
     record {
       reads = λ j l. rw (plain-at n 0 j (below l)) (plain-reads (0 + j) (omega (arith, below l)));
-      apart = λ i j l m q e. q (sym (number i (below l)) ∙ e ∙ number j (below m));
+      apart = λ i j l m q e. q (sym (plain-number n i (below l)) ∙ e ∙ plain-number n j (below m));
     }
   where
     below : {j : ℕ} → j < length (plainFrom 0 n) → j < n
     below l = omega (arith, plain-length n 0)
 
-    number : (j : ℕ) → j < n → stationAt (plainFrom 0 n) j .number ≡ j
-    number j l = ap (λ (r : List ℕ). fieldsOf r .number) (plain-at n 0 j l) ∙ omega arith
+-- numbers 0 to 63 fill a table, and 64 is refused
+pub plain-full : storeOf (storedAll emptyTable (plainFrom 0 places)) (plain places) ≡ refused 61
+plain-full =
+    full-refuses (plainFrom 0 places) (plain-different places (omega arith)) (plain-length places 0)
+    (plain places) (fieldsOf (plain places)) (plain-reads places (omega arith))
+    (λ j h e. omega (arith, plain-number places j h))
