@@ -49,8 +49,8 @@ fieldsOf r =
       last = record { 0 = lastOf r };
     }
 
--- why an input is no record: under three bytes; version; length not the version's, cut short or too long, or a
--- field out of range
+-- why an input is no record: under three bytes; version; length not the version's, cut short or too long, or
+-- a field out of range
 abbrev pub readRows : List ℕ → List Rule
 readRows r =
     63 when ltb (length r) 3
@@ -71,7 +71,8 @@ writtenVersion s = pick (both (eqb (s .version) 1) (eqb (s .last .0) lastPage)) 
 abbrev pub bytesOf : Station → List ℕ
 bytesOf s =
     let v = writtenVersion s in
-    0 ∷ followsOf v ∷ v ∷ s .number / 256 ∷ s .number % 256 ∷ s .run ∷ s .rules ∷ s .first .0 ∷ s .last .0 ∷ []
+    0 ∷ followsOf v ∷ v ∷ s .number / 256 ∷ s .number % 256 ∷ s .run ∷ s .rules ∷ s .first .0 ∷ s .last .0
+    ∷ []
 
 abbrev pub sizeOf : Station → ℕ
 sizeOf s = 2 + followsOf (writtenVersion s)

@@ -6,7 +6,7 @@ use lib.Dec.{eqb, leb, ltb}
 use lib.ListN.{length, take, drop, replicate}
 use Rattle.basis.specs.Choice.{pick, both}
 use Rattle.basis.specs.Lists.{pairAt, copyOf}
-use Rattle.basis.specs.Refusals.{Answer, refused, given, Rule, _when_, first, bare}
+use Rattle.basis.specs.Refusals.{Answer, refused, given, _when_, first}
 use Rattle.runs.specs.Runs.{next}
 use Rattle.stations.specs.Station.{fieldsOf, readRows, readOf}
 use Rattle.stations.specs.declared.station.Station.{Station}

@@ -1,4 +1,4 @@
--- For a station: its file opened under its rule set, its session started with its run kind, within its bounds.
+-- For a station: its file opened under its rule set, its session started with its run kind and in its bounds.
 use Prim.Native.Nat.{ℕ}
 use mathlib.Core.Bool.{Bool, not}
 use mathlib.Core.List.{List, [], _∷_}

@@ -73,10 +73,11 @@ fn is_outside(station: Station, map: &[u8]) -> bool
 {
     let first = station.first;
     let last = station.last;
-    let lowest = next_touched(map, Page(0), Page(SHORT_PAGES));
+    let limit = Page(SHORT_PAGES);
+    let lowest = next_touched(map, Page(0), limit);
     if lowest.0 < first.0 {
         return true;
     }
-    let above = next_touched(map, Page(last.0 + 1), Page(SHORT_PAGES));
-    above.0 < SHORT_PAGES
+    let above = next_touched(map, Page(last.0 + 1), limit);
+    above.0 < limit.0
 }

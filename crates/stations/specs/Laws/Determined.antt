@@ -57,7 +57,8 @@ written-one (Written.Refused x) (Written.Refused y) e = ap Written.Refused (refu
 pub write-determined : (b : Answer (List ℕ)) (r s : Written) (x y old : List ℕ)
     → (paperWritten r ≡ counted b) × (x ≡ overlay (written b) old)
     → (paperWritten s ≡ counted b) × (y ≡ overlay (written b) old) → (r ≡ s) × (x ≡ y)
-write-determined b r s x y old p q = (determined paperWritten written-one r s (p .0) (q .0), p .1 ∙ sym (q .1))
+write-determined b r s x y old p q =
+    (determined paperWritten written-one r s (p .0) (q .0), p .1 ∙ sym (q .1))
 
 -- looking at a place
 looked-one : (r s : Looked) → paperLooked r ≡ paperLooked s → r ≡ s

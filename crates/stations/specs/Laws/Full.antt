@@ -8,15 +8,18 @@ use native.Mathlib.Decide.{ℕ-discrete}
 use native.Mathlib.Omega.{arith}
 use borrow.Author.Tests.{eq-eqb, ne-eqb, ltb-true, ltb-false}
 use lib.Dec.{ltb}
-use lib.ListN.{length, getD, take, replicate, length-replicate}
-use lib.Seq.{ext-getD, take-suc, take-length}
+use lib.ListN.{length, getD, take, length-replicate}
+use lib.Seq.{take-suc, take-length}
 use Rattle.basis.specs.Laws.Choice.{decide}
-use Rattle.basis.specs.Laws.Lists.{zero-at}
 use Rattle.basis.specs.Refusals.{refused, given}
+use Rattle.stations.specs.Laws.Deleting.{delete-length, delete-frees, delete-keeps}
+use Rattle.stations.specs.Laws.Finding.{NoneSuits, Lowest, lowest-is}
+use Rattle.stations.specs.Laws.Places.{empty-standing}
 use Rattle.stations.specs.Laws.Record.{ranges-in, tells-read}
-use Rattle.stations.specs.Laws.Table.{place-at, place-length, put-standing, standing-free, NoneSuits, Lowest, IsFor, lowest-is, store-at, store-full, store-length, store-rest, delete-held, delete-length, delete-frees, delete-keeps}
+use Rattle.stations.specs.Laws.Rows.{delete-given}
+use Rattle.stations.specs.Laws.Storing.{IsFor, store-at, store-stands, store-full, store-length, store-rest}
 use Rattle.stations.specs.Station.{fieldsOf, readOf}
-use Rattle.stations.specs.Table.{places, placeSize, tableSize, placeOf, standingOf, standingAt, suits, suitsAt, storeOf, afterStore, freedFrom, deleteOf, emptyTable}
+use Rattle.stations.specs.Table.{places, tableSize, standingOf, standingAt, suits, suitsAt, storeOf, afterStore, freedFrom, deleteOf, emptyTable}
 use Rattle.stations.specs.declared.station.Station.{Station}
 use Rattle.stations.specs.declared.table.Sought.{Sought}
 use Rattle.stations.specs.declared.table.Standing.{Standing}
@@ -55,20 +58,13 @@ pub record Filled (t : List ℕ) (rs : List (List ℕ)) (k : ℕ) : Type 0 where
   pub has : (j : ℕ) → j < k → standingAt t j ≡ Standing.Station (stationAt rs j)
   pub free : (j : ℕ) → k ≤ j → j < places → standingAt t j ≡ Standing.Free
 
--- every place of zeros is all 0
-zeros-place : (n j : ℕ) → n ≡ tableSize → j < places → placeOf (replicate n 0) j ≡ replicate placeSize 0
-zeros-place n j e h =
-    let l = place-length (replicate n 0) j (length-replicate n 0 ∙ e) h in
-    ext-getD 0 (placeOf (replicate n 0) j) (replicate placeSize 0) l
-    (λ k q. place-at (replicate n 0) j k (omega arith) ∙ zero-at n _ ∙ sym (zero-at placeSize k))
-
 -- an empty table is free at every place
-pub empty-filled : (rs : List (List ℕ)) → Filled emptyTable rs 0
+empty-filled : (rs : List (List ℕ)) → Filled emptyTable rs 0
 empty-filled rs =
     record {
       size = length-replicate {A = ℕ} tableSize 0;
       has = λ j l. absurd (omega arith);
-      free = λ j g l. ap standingOf (zeros-place tableSize j refl l) ∙ standing-free;
+      free = λ j g l. empty-standing j l;
     }
 
 module _ (t : List ℕ) (rs : List (List ℕ)) (k : ℕ) (x : Filled t rs k) where
@@ -95,14 +91,14 @@ module _ (t : List ℕ) (rs : List (List ℕ)) (k : ℕ) (x : Filled t rs k) whe
 
   module _ (d : Different rs) (l : k < length rs) (h : k < places) where
     -- the next of the records goes to the next place
-    pub filled-store : storeOf t (recordAt rs k) ≡ given k
+    filled-store : storeOf t (recordAt rs k) ≡ given k
     filled-store =
         store-at t (recordAt rs k) (stationAt rs k) k (x .size) (d .reads k l)
         (filled-for (stationAt rs k .number) h
         (λ j q e. d .apart j k (omega arith) l (λ p. omega arith) e))
 
     -- and stands there
-    pub filled-next : Filled (afterStore t (recordAt rs k) (storeOf t (recordAt rs k))) rs (suc k)
+    filled-next : Filled (afterStore t (recordAt rs k) (storeOf t (recordAt rs k))) rs (suc k)
     filled-next =
         record {
           size = store-length t (recordAt rs k) k filled-store;
@@ -115,8 +111,7 @@ module _ (t : List ℕ) (rs : List (List ℕ)) (k : ℕ) (x : Filled t rs k) whe
             → standingAt (afterStore t (recordAt rs k) (storeOf t (recordAt rs k))) j
             ≡ Standing.Station (stationAt rs j)
         has j q (yes p) =
-            rw (p, filled-store)
-            (put-standing t (recordAt rs k) (stationAt rs k) k (x .size) (d .reads k l) h)
+            rw p (store-stands t (recordAt rs k) k filled-store)
         has j q (no p) =
             ap standingOf (store-rest t (recordAt rs k) k filled-store j (omega arith) p)
             ∙ x .has j (omega arith)
@@ -193,7 +188,7 @@ module _ (rs : List (List ℕ)) (d : Different rs) (e : length rs ≡ places) wh
 
         gone : deleteOf t n ≡ given u
         gone =
-            delete-held t n (all-filled .size) (rw (lowest-is t (Sought.Number n) i h here lower) h)
+            delete-given t n (all-filled .size) (rw (lowest-is t (Sought.Number n) i h here lower) h)
 
         absent : NoneSuits u (Sought.Number (s .number))
         absent j q =
@@ -224,7 +219,7 @@ plainFrom i zero = []
 plainFrom i (suc n) = plain i ∷ plainFrom (suc i) n
 
 -- they are n
-pub plain-length : (n i : ℕ) → length (plainFrom i n) ≡ n
+plain-length : (n i : ℕ) → length (plainFrom i n) ≡ n
 unfolding plainFrom
 plain-length zero i = refl
 plain-length (suc n) i = ap suc (plain-length n (suc i))

@@ -61,10 +61,6 @@ pub rules-most : (n : ℕ) → isRuleSet n ≡ true → n ≤ 2
 rules-most n e =
     decide (eqb n 1) (λ t. omega (arith, eqb-true n 1 t)) (λ t. omega (arith, eqb-true n 2 (rw t at e)))
 
--- a version is 1 or 2
-pub version-most : (n : ℕ) → isVersion n ≡ true → n ≤ 2
-version-most = rules-most
-
 -- ---- reading
 
 -- what follows is at least 6 bytes
@@ -131,7 +127,7 @@ pub record WritesAs (room : ℕ) (s : Station) (b : List ℕ) : Type 0 where
   pub bytes : b ≡ recordBytes s
 
 -- what is written fits the room, and is the station's record
-pub write-tells : (room : ℕ) (s : Station) (b : List ℕ) → writeOf room s ≡ given b → WritesAs room s b
+write-tells : (room : ℕ) (s : Station) (b : List ℕ) → writeOf room s ≡ given b → WritesAs room s b
 unfolding writeOf
 write-tells room s b e =
     let a = passed 20 _ _ _ e in

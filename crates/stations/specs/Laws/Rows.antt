@@ -5,17 +5,18 @@ use mathlib.Core.List.{List, [], _∷_, _++_}
 use mathlib.Core.Path.{_≡_, refl, sym, ap, _∙_}
 use native.Mathlib.Numerals.{add-one}
 use native.Mathlib.Omega.{arith}
-use borrow.Author.Tests.{eq-eqb, ne-eqb, eqb-true, eqb-false, lt-ltb, le-ltb, ltb-false, le-leb, lt-leb, leb-true, leb-false, not-false}
-use lib.Dec.{eqb, leb, ltb, lit≤}
+use borrow.Author.Tests.{eq-eqb, ne-eqb, eqb-true, eqb-false, lt-ltb, le-ltb, le-leb, lt-leb, leb-true, leb-false}
+use lib.Dec.{leb, ltb}
 use lib.ListN.{length, getD, take, drop, replicate, drop-of-length-le}
 use lib.Seq.{length-take-le, drop-cons}
 use Rattle.basis.specs.Choice.{pick}
-use Rattle.basis.specs.Laws.Choice.{decide, pick-second, either-none}
+use Rattle.basis.specs.Laws.Choice.{decide}
 use Rattle.basis.specs.Laws.Lists.{length-stored}
-use Rattle.basis.specs.Laws.Refusals.{skip, stop, done, passed, apart, given-one, refused-one, first-then, through}
+use Rattle.basis.specs.Laws.Refusals.{skip, stop, done, apart, refused-one, first-then, through}
 use Rattle.basis.specs.Lists.{pairAt, new}
 use Rattle.basis.specs.Refusals.{Answer, refused, given, Rule, _when_, first, andThen}
 use Rattle.image.specs.Hex.{isRuleSet}
+use Rattle.stations.specs.Laws.Record.{follows-most, read-tells, tells-read, tells-write}
 use Rattle.stations.specs.Station.{isVersion, followsOf, lastPage, outOfRange, fieldsOf, readRows, readOf, writtenVersion, bytesOf, sizeOf, recordBytes, writeOf}
 use Rattle.stations.specs.Table.{places, placeSize, tableSize, rightTable, startAt, blank, recordLength, standingBy, standingOf, standingAt, suitsAt, lowestOf, lookOf, stationIn, listOf, findOf, freedAt, placeFor, storeOf, freedIf, freedFrom, deleteOf, isFree, freeOf, emptyTable, emptyOf}
 use Rattle.stations.specs.declared.station.Station.{Station}
@@ -60,37 +61,6 @@ module _ (s : Station) where
               le-ltb lastPage (s .last .0) l,
             )
 
--- rule sets are few
-rules-few : (n : ℕ) → isRuleSet n ≡ true → n ≤ 2
-rules-few n e =
-    decide (eqb n 1) (λ t. omega (arith, eqb-true n 1 t))
-    (λ t. omega (arith, eqb-true n 2 (sym (pick-second (eqb n 1) true (eqb n 2) t) ∙ e)))
-
--- no field is out of range
-pub record Ranges (s : Station) : Type 0 where
-  pub number : s .number < 65536
-  pub run : s .run ≤ 2
-  pub set : isRuleSet (s .rules) ≡ true
-  pub rules : s .rules ≤ 2
-  pub last : s .last .0 ≤ lastPage
-  pub first : s .first .0 ≤ s .last .0
-
-pub in-range : (s : Station) → outOfRange s ≡ false → Ranges s
-unfolding outOfRange
-in-range s e =
-    let n = either-none (leb 65536 (s .number)) _ e in
-    let k = either-none (ltb 2 (s .run)) _ (n .1) in
-    let r = either-none (not (isRuleSet (s .rules))) _ (k .1) in
-    let l = either-none (ltb lastPage (s .last .0)) _ (r .1) in
-    record {
-      number = leb-false 65536 (s .number) (n .0);
-      run = ltb-false 2 (s .run) (k .0);
-      set = not-false _ (r .0);
-      rules = rules-few (s .rules) (not-false _ (r .0));
-      last = ltb-false lastPage (s .last .0) (l .0);
-      first = ltb-false (s .last .0) (s .first .0) (l .1);
-    }
-
 -- ---- reading a record
 
 module _ (r : List ℕ) where
@@ -104,9 +74,9 @@ module _ (r : List ℕ) where
     read-version e = skip 63 _ _ _ (le-ltb _ _ e₁) ∙ stop 62 _ _ _ (ap not e)
 
     module _ (e₂ : isVersion (getD r 2 0) ≡ true) where
-      pub read-length : (pairAt r 0 ≡ followsOf (getD r 2 0) → ⊥) → readOf r ≡ refused 63
+      pub read-field : (pairAt r 0 ≡ followsOf (getD r 2 0) → ⊥) → readOf r ≡ refused 63
       unfolding readOf
-      read-length n =
+      read-field n =
           skip 63 _ _ _ (le-ltb _ _ e₁) ∙ skip 62 _ _ _ (ap not e₂) ∙ stop 63 _ _ _ (ap not (ne-eqb _ _ n))
 
       module _ (e₃ : pairAt r 0 ≡ followsOf (getD r 2 0)) where
@@ -125,22 +95,16 @@ module _ (r : List ℕ) where
               ∙ stop 63 _ _ _ e
 
           pub read-right : outOfRange (fieldsOf r) ≡ false → readOf r ≡ given (fieldsOf r)
-          unfolding readOf
           read-right e =
-              skip 63 _ _ _ (le-ltb _ _ e₁) ∙ skip 62 _ _ _ (ap not e₂)
-              ∙ skip 63 _ _ _ (ap not (eq-eqb _ _ e₃)) ∙ skip 63 _ _ _ (ap not (eq-eqb _ _ e₄))
-              ∙ skip 63 _ _ _ e ∙ done _
+              tells-read r (fieldsOf r)
+              (record { fields = refl; version = e₂; field = e₃; size = e₄ ∙ ap (_+_ 2) e₃; range = e })
 
 -- ---- writing one
 
--- a record has 8 or 9 bytes
-pub follows-few : (v : ℕ) → (6 ≤ followsOf v) × (followsOf v ≤ 7)
-follows-few v =
-    decide (eqb v 1) (λ t. rw t (lit≤ tt, lit≤ tt)) (λ t. rw t (lit≤ tt, lit≤ tt))
-
+-- a record is as long as its size
 pub record-length : (s : Station) → length (recordBytes s) ≡ sizeOf s
 unfolding recordBytes
-record-length s = length-take-le (sizeOf s) (bytesOf s) (omega (arith, follows-few (writtenVersion s) .1))
+record-length s = length-take-le (sizeOf s) (bytesOf s) (omega (arith, follows-most (writtenVersion s)))
 
 -- as code has it
 pub record-is : (s : Station) (n : ℕ) (b : List ℕ) → n ≡ sizeOf s → b ≡ bytesOf s → take n b ≡ recordBytes s
@@ -163,24 +127,8 @@ module _ (room : ℕ) (s : Station) where
       write-wrong e = skip 20 _ _ _ (le-ltb _ _ e₁) ∙ skip 62 _ _ _ (ap not e₂) ∙ stop 63 _ _ _ e
 
       pub write-right : outOfRange s ≡ false → writeOf room s ≡ given (recordBytes s)
-      unfolding writeOf
-      write-right e = skip 20 _ _ _ (le-ltb _ _ e₁) ∙ skip 62 _ _ _ (ap not e₂) ∙ skip 63 _ _ _ e ∙ done _
-
--- no record that is read has more than 9 bytes
-pub read-few : {s : Station} (r : List ℕ) → readOf r ≡ given s → length r ≤ 9
-unfolding readOf
-read-few r e =
-    let short = passed 63 _ _ _ e in
-    let known = passed 62 _ _ _ (short .1) in
-    let right = passed 63 _ _ _ (known .1) in
-    let whole = passed 63 _ _ _ (right .1) in
-    let v = getD r 2 0 in
-    omega (
-      arith,
-      eqb-true (pairAt r 0) (followsOf v) (not-false _ (right .0)),
-      eqb-true (length r) (2 + pairAt r 0) (not-false _ (whole .0)),
-      follows-few v .1,
-    )
+      write-right e =
+          tells-write room s (recordBytes s) (record { fits = e₁; version = e₂; range = e; bytes = refl })
 
 -- ---- what is at a place
 
@@ -215,11 +163,21 @@ module _ (p : List ℕ) where
 
 -- ---- the table
 
-pub right-table : (t : List ℕ) → length t ≡ tableSize → not (rightTable t) ≡ false
+right-table : (t : List ℕ) → length t ≡ tableSize → not (rightTable t) ≡ false
 right-table t e = ap not (eq-eqb _ _ e)
 
-pub wrong-table : (t : List ℕ) → (length t ≡ tableSize → ⊥) → not (rightTable t) ≡ true
+wrong-table : (t : List ℕ) → (length t ≡ tableSize → ⊥) → not (rightTable t) ≡ true
 wrong-table t n = ap not (ne-eqb _ _ n)
+
+-- a table that has no other size has the right one
+pub right-size : (t : List ℕ) → ((length t ≡ tableSize → ⊥) → ⊥) → length t ≡ tableSize
+right-size t f =
+    decide (rightTable t) (λ e. eqb-true (length t) tableSize e)
+    (λ e. absurd (f (eqb-false (length t) tableSize e)))
+
+-- a place that is not past the last is one of the table
+pub not-past : (i : ℕ) → (places ≤ i → ⊥) → i < places
+not-past i f = decide (leb places i) (λ e. absurd (f (leb-true places i e))) (λ e. leb-false places i e)
 
 module _ (t : List ℕ) (i : ℕ) where
   pub look-size : (length t ≡ tableSize → ⊥) → lookOf t i ≡ refused 60
@@ -230,11 +188,14 @@ module _ (t : List ℕ) (i : ℕ) where
   unfolding freeOf
   free-size n = stop 60 _ _ _ (wrong-table t n)
 
-  module _ (e₁ : length t ≡ tableSize) where
-    pub look-past : places ≤ i → lookOf t i ≡ refused 60
-    unfolding lookOf
-    look-past l = skip 60 _ _ _ (right-table t e₁) ∙ stop 60 _ _ _ (le-leb _ _ l)
+  -- past the last place nothing is seen, whatever the size
+  pub look-past : places ≤ i → lookOf t i ≡ refused 60
+  unfolding lookOf
+  look-past l =
+      decide (rightTable t) (λ e. skip 60 _ _ _ (ap not e) ∙ stop 60 _ _ _ (le-leb _ _ l))
+      (λ e. stop 60 _ _ _ (ap not e))
 
+  module _ (e₁ : length t ≡ tableSize) where
     pub free-past : places ≤ i → freeOf t i ≡ refused 60
     unfolding freeOf
     free-past l = skip 60 _ _ _ (right-table t e₁) ∙ stop 60 _ _ _ (le-leb _ _ l)
@@ -264,7 +225,7 @@ list-refused {k} t i e =
     decide (rightTable t)
     (λ r. let l = eqb-true (length t) tableSize r in
     decide (leb places i)
-    (λ p. refused-one (sym e ∙ ap stationIn (look-past t i l (leb-true places i p))))
+    (λ p. refused-one (sym e ∙ ap stationIn (look-past t i (leb-true places i p))))
     (λ p. go (standingAt t i) (sym (ap stationIn (look-given t i l (leb-false places i p))) ∙ e)))
     (λ r. refused-one (sym e ∙ ap stationIn (look-size t i (eqb-false (length t) tableSize r))))
   where
@@ -299,13 +260,14 @@ pub empty-given : (t : List ℕ) → length t ≡ tableSize → emptyOf t ≡ gi
 unfolding emptyOf
 empty-given t e = skip 20 _ _ _ (right-table t e) ∙ done _
 
+-- a table with a place freed keeps its length
+pub freed-length : (t : List ℕ) (i : ℕ) → length (freedAt t i) ≡ length t
+freed-length t i = length-stored new t (startAt i) (replicate placeSize 0)
+
 -- freeing each place: one turn, and the end, in the loop's own terms
 module _ (t : List ℕ) (n i : ℕ) where
-  pub freed-length : length (freedIf t n i) ≡ length t
-  freed-length =
-      decide (suitsAt t (Sought.Number n) i)
-      (λ e. rw e (length-stored new t (startAt i) (replicate placeSize 0)))
-      (λ e. rw e)
+  pub freed-if-length : length (freedIf t n i) ≡ length t
+  freed-if-length = decide (suitsAt t (Sought.Number n) i) (λ e. rw e (freed-length t i)) (λ e. rw e)
 
   pub freed-turn : i < places
       → freedFrom (freedIf t n i) n (i + 1) (places - (i + 1)) ≡ freedFrom t n i (places - i)
@@ -347,22 +309,18 @@ module _ (t r : List ℕ) where
         ∙ first-refused (readRows r) (fieldsOf r) _ e
 
     module _ {s : Station} (e₂ : readOf r ≡ given s) where
-      -- the station is what the record tells
-      read-fields : fieldsOf r ≡ s
-      unfolding readOf
-      read-fields = given-one (sym (through (readRows r) (fieldsOf r) (given (fieldsOf r)) e₂) ∙ e₂)
-
       store-read : storeOf t r
           ≡ (let i = placeFor t (s .number) in first (61 when leb places i ∷ []) (given i))
       unfolding storeOf readOf
       store-read =
           skip 20 _ _ _ (right-table t e₁) ∙ first-append (readRows r) _ _
           ∙ through (readRows r) (fieldsOf r) _ e₂
-          ∙ ap (λ (x : Station). let i = placeFor t (x .number) in first (61 when leb places i ∷ []) (given i))
-          read-fields
+          ∙ ap (λ (x : Station). let i = placeFor t (x .number) in
+          first (61 when leb places i ∷ []) (given i))
+          (sym (read-tells r s e₂ .fields))
 
-      pub store-full : places ≤ placeFor t (s .number) → storeOf t r ≡ refused 61
-      store-full l = store-read ∙ stop 61 _ _ _ (le-leb _ _ l)
+      pub store-none : places ≤ placeFor t (s .number) → storeOf t r ≡ refused 61
+      store-none l = store-read ∙ stop 61 _ _ _ (le-leb _ _ l)
 
       pub store-given : placeFor t (s .number) < places → storeOf t r ≡ given (placeFor t (s .number))
       store-given l = store-read ∙ skip 61 _ _ _ (lt-leb _ _ l) ∙ done _

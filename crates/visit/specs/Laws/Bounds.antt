@@ -5,12 +5,12 @@ use mathlib.Core.List.{List}
 use mathlib.Core.Path.{_≡_, refl, sym, _∙_}
 use native.Mathlib.Nat.{zero-add}
 use native.Mathlib.Omega.{arith}
-use borrow.Author.Tests.{lt-ltb, le-ltb, ltb-true, ltb-false}
+use borrow.Author.Tests.{lt-ltb, ltb-true, ltb-false}
 use lib.Dec.{ltb}
 use lib.ListN.{length}
-use Rattle.basis.specs.Choice.{both, either}
-use Rattle.basis.specs.Laws.Choice.{decide, true-false, both-true, both-no, either-first, either-second, either-false, any-none, any-some}
-use Rattle.basis.specs.Units.{startOf, pageOf, mapBytes}
+use Rattle.basis.specs.Choice.{both}
+use Rattle.basis.specs.Laws.Choice.{decide, true-false, either-first, either-second, either-false, any-none, any-some}
+use Rattle.basis.specs.Units.{startOf, mapBytes}
 use Rattle.order.specs.Laws.Starts.{first-run-below}
 use Rattle.runs.specs.Laws.Pages.{touched-some}
 use Rattle.runs.specs.Laws.Runs.{next-ge, next-pass, next-skip, rank-below}
@@ -85,7 +85,8 @@ module _ (s : Station) (m : List ℕ) where
 
 module _ (m : List ℕ) where
   -- a file that touches no page names no byte
-  pub none-touched : length m ≡ mapBytes stationPages → stationPages ≤ next (touched m) 0 stationPages → namedCount stationPages m ≡ 0
+  pub none-touched : length m ≡ mapBytes stationPages → stationPages ≤ next (touched m) 0 stationPages
+      → namedCount stationPages m ≡ 0
   none-touched long l =
       decide (ltb 0 (namedCount stationPages m))
       (λ t. absurd (let b = first-run-below stationPages m long (ltb-true 0 (namedCount stationPages m) t) in

@@ -5,7 +5,6 @@ use Prim.Native.Nat.{ℕ, _+_, _<_}
 use mathlib.Core.Bool.{true, false}
 use mathlib.Core.List.{List, []}
 use mathlib.Core.Path.{_≡_, sym, ap, subst, _∙_}
-use native.Mathlib.Omega.{arith}
 use borrow.Author.Tests.{ltb-true, ltb-false}
 use lib.Dec.{ltb, lit≤}
 use lib.ListN.{length}
@@ -19,9 +18,8 @@ use Rattle.basis.specs.declared.kind.RunKind.{RunKind}
 use Rattle.events.specs.declared.ending.Outcome.{Outcome}
 use Rattle.line.specs.Demand.{Stands, Valid, Held, AsAsked, Safe, Free}
 use Rattle.line.specs.Laws.Demand as laws
-use Rattle.line.specs.Line.{Moment, between, reply, momentAt, begun, loadAt}
+use Rattle.line.specs.Line.{Moment, between, reply, loadAt}
 use Rattle.line.specs.declared.exchange.Loss.{Loss}
-use Rattle.loader.specs.State.{resetOf}
 use Rattle.loader.specs.declared.state.Loader.{Loader}
 use Rattle.order.specs.Plan.{total}
 use Rattle.runs.specs.Laws.Files.{pages-past}
@@ -34,8 +32,8 @@ use Rattle.stations.specs.Table.{findOf}
 use Rattle.stations.specs.declared.station.Station.{Station}
 use Rattle.visit.specs.Laws.Bounds.{beyond-untouched}
 use Rattle.visit.specs.Laws.Rows.{at-given}
-use Rattle.visit.specs.Load.{begunBy, visitAt, OutsideStays}
-use Rattle.visit.specs.Visit.{stationPages, beyond, forStation, startAt, startFor}
+use Rattle.visit.specs.Load.{visitAt, OutsideStays}
+use Rattle.visit.specs.Visit.{stationPages, forStation, startAt, startFor}
 
 -- a station that the table holds, and a session that was started for it; the loader with any protection and
 -- any key, any flash; any losses
@@ -122,21 +120,23 @@ module _ (t : List ℕ) (number : ℕ) (s : Station) (found : findOf t number �
         → visitAt x image m l losses before n .session .phase ≡ Phase.Ended Outcome.Silence
     visit-silent n b =
         subst (λ (y : Moment). y .session .phase ≡ Phase.Ended Outcome.Silence) (sym (visit-is n))
-        (laws.silent stationPages (lit≤ tt) image m before file bytes kind l size losses i going unanswered n b)
+        (laws.silent stationPages (lit≤ tt) image m before file bytes kind l size losses i going unanswered n
+        b)
 
     pub visit-never-valid : (n : ℕ) → Valid (visitAt x image m l losses before n .session) → ⊥
     visit-never-valid n v =
-        laws.never-valid stationPages (lit≤ tt) image m before file bytes kind l size losses i going unanswered n
-        (subst (λ (y : Moment). Valid (y .session)) (visit-is n) v)
+        laws.never-valid stationPages (lit≤ tt) image m before file bytes kind l size losses i going
+        unanswered n (subst (λ (y : Moment). Valid (y .session)) (visit-is n) v)
 
     pub visit-never-held : (n : ℕ) → Held (visitAt x image m l losses before n .session) → ⊥
     visit-never-held n v =
-        laws.never-held stationPages (lit≤ tt) image m before file bytes kind l size losses i going unanswered n
-        (subst (λ (y : Moment). Held (y .session)) (visit-is n) v)
+        laws.never-held stationPages (lit≤ tt) image m before file bytes kind l size losses i going
+        unanswered n (subst (λ (y : Moment). Held (y .session)) (visit-is n) v)
 
   -- it ends by itself, after at most the total and one exchange more
   pub visit-finite : ended (visitAt x image m l losses before (total stationPages m kind + 1) .session .phase)
       ≡ true
   visit-finite =
-      subst (λ (y : Moment). ended (y .session .phase) ≡ true) (sym (visit-is (total stationPages m kind + 1)))
+      subst (λ (y : Moment). ended (y .session .phase) ≡ true)
+      (sym (visit-is (total stationPages m kind + 1)))
       (laws.finite stationPages (lit≤ tt) image m before file bytes kind l size losses)

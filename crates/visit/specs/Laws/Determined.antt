@@ -57,7 +57,8 @@ started-one (Started.Start x) (Started.Start y) e = ap Started.Start (stepped-on
 pub start-determined : (a : Answer Sent) (r s : Started) (x y old : List ℕ)
     → (paperStarted r ≡ measured a) × (x ≡ overlay (sentBytes a) old)
     → (paperStarted s ≡ measured a) × (y ≡ overlay (sentBytes a) old) → (r ≡ s) × (x ≡ y)
-start-determined a r s x y old p q = (determined paperStarted started-one r s (p .0) (q .0), p .1 ∙ sym (q .1))
+start-determined a r s x y old p q =
+    (determined paperStarted started-one r s (p .0) (q .0), p .1 ∙ sym (q .1))
 
 -- ---- opening: no hex refusal is 60
 

@@ -3,15 +3,13 @@ use Prim.Native.Nat.{ℕ}
 use mathlib.Core.Bool.{true, false, not}
 use mathlib.Core.List.{List}
 use mathlib.Core.Path.{_≡_, sym, ap, _∙_}
-use borrow.Author.Tests.{eq-eqb, ne-eqb, not-false, eqb-false}
-use lib.Dec.{eqb}
+use borrow.Author.Tests.{eq-eqb, ne-eqb}
 use lib.ListN.{length}
 use Rattle.basis.specs.Laws.Refusals.{skip, stop, done, passed}
 use Rattle.basis.specs.Refusals.{refused, given}
 use Rattle.basis.specs.RunKinds.{kindOf}
 use Rattle.order.specs.Sizes.{rightSizes}
 use Rattle.runs.specs.Pieces.{namedCount}
-use Rattle.session.specs.Laws.Steps.{start-size, start-empty}
 use Rattle.session.specs.Session.{Sent, started}
 use Rattle.stations.specs.declared.station.Station.{Station}
 use Rattle.visit.specs.Visit.{stationPages, outside, startAt}

@@ -16,13 +16,15 @@ returns c =
     let none = c .before in
     let told = none .before .before in
     c .hex-answer .ensures
-    ∙ ap (λ (s : HexState). hexAnswer s stationPages (paperRead (told .answer .given .0 .0))) (none .no-reader .ensures)
+    ∙ ap (λ (s : HexState). hexAnswer s stationPages (paperRead (told .answer .given .0 .0)))
+    (none .no-reader .ensures)
     ∙ ap (λ (x : Opened). hexAnswer noReader stationPages (paperOpened x)) (sym (told .answer .given .1))
 
 returns-2 : tie.Need-returns-2
 returns-2 c =
     ap (λ (s : HexState). hexAnswer s stationPages (wrong 60 0)) (c .no-reader2 .ensures)
-    ∙ ap (λ (x : Opened). hexAnswer noReader stationPages (paperOpened x)) (sym (c .before .enum-told .given .1))
+    ∙ ap (λ (x : Opened). hexAnswer noReader stationPages (paperOpened x))
+    (sym (c .before .enum-told .given .1))
 
 pub opened-answer-spec : {M : Type 1} → statement M
 opened-answer-spec =

@@ -14,7 +14,8 @@ returns c =
     let none = c .before in
     let told = none .before .before in
     c .stepped-answer .ensures
-    ∙ ap (λ (s : SessionState). steppedAnswer s (paperStepped (told .answer .given .0 .0))) (none .no-session .ensures)
+    ∙ ap (λ (s : SessionState). steppedAnswer s (paperStepped (told .answer .given .0 .0)))
+    (none .no-session .ensures)
     ∙ ap (λ (x : Started). steppedAnswer noSession (paperStarted x)) (sym (told .answer .given .1))
 
 returns-2 : tie.Need-returns-2

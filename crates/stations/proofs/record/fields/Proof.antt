@@ -1,6 +1,5 @@
 -- `fields` meets its contract: each field is read at its place.
 use mathlib.Core.Path.{refl}
-use native.Mathlib.Omega.{arith}
 use borrow.Author.Needs.{needs}
 use Rattle.stations.proofs.record.fields.Statement.{statement}
 use Rattle.stations.proofs.record.fields.Tie as tie

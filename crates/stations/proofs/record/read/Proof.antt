@@ -8,7 +8,7 @@ use lib.ListN.{length, getD}
 use Rattle.basis.specs.Lists.{pairAt}
 use Rattle.basis.specs.Refusals.{given}
 use Rattle.stations.specs.Station.{isVersion, followsOf}
-use Rattle.stations.specs.Laws.Rows.{read-short, read-version, read-length, read-cut, read-wrong, read-right}
+use Rattle.stations.specs.Laws.Rows.{read-short, read-version, read-field, read-cut, read-wrong, read-right}
 use Rattle.stations.proofs.record.read.Statement.{statement}
 use Rattle.stations.proofs.record.read.Tie as tie
 
@@ -51,7 +51,7 @@ returns-3 : tie.Need-returns-3
 returns-3 c =
     let k = c .before .before .before in
     let t = told₂ k in
-    sym (read-length _ (t .before .if1 .left) (known k)
+    sym (read-field _ (t .before .if1 .left) (known k)
     (λ q. c .if3 .taken (c .before .before .pair-at .ensures ∙ q
     ∙ sym (rw (t .fields .ensures) at (c .before .follows .ensures .0)))))
 

@@ -11,7 +11,8 @@ use lib.Seq.{length-take-le}
 use Rattle.basis.specs.Laws.Refusals.{leaves, writes}
 use Rattle.basis.specs.Lists.{overlay}
 use Rattle.stations.specs.Station.{isVersion, followsOf, outOfRange, sizeOf}
-use Rattle.stations.specs.Laws.Rows.{in-range, record-length, record-is, write-small, write-version, write-wrong, write-right}
+use Rattle.stations.specs.Laws.Record.{in-range, rules-most}
+use Rattle.stations.specs.Laws.Rows.{record-length, record-is, write-small, write-version, write-wrong, write-right}
 use Rattle.stations.proofs.record.write.Statement.{statement}
 use Rattle.stations.proofs.record.write.Tie as tie
 
@@ -37,7 +38,10 @@ known c = sym (c .before .is-version .ensures) ∙ not-false _ (c .if2 .left)
 abbrev listed : tie.Else3 → tie.Else2
 listed c = c .before .before
 
-sound : (c : tie.Else3) → outOfRange (entry (fitting (listed c) .before) .args .station) ≡ false
+abbrev sizing : tie.Else3 → tie.After-follows
+sizing c = fitting (listed c) .before
+
+sound : (c : tie.Else3) → outOfRange (entry (sizing c) .args .station) ≡ false
 sound c = sym (c .before .out-of-range .ensures) ∙ c .if3 .left
 
 returns : tie.Need-returns
@@ -56,19 +60,23 @@ returns-3 c =
 
 bytes-of-requires : tie.Need-bytes-of-requires
 bytes-of-requires c κs =
-    let r = in-range _ (sound c) in
-    (r .number, omega (arith, r .run), omega (arith, r .rules), omega (arith, r .first, r .last), omega (arith, r .last))
+    let s = entry (sizing c) .args .station in
+    let r = in-range s (sound c) in (
+      r .number,
+      omega (arith, r .run),
+      omega (arith, rules-most (s .rules) (r .rules)),
+      omega (arith, r .first, r .last),
+      omega (arith, r .last),
+    )
 
 -- where all tests are passed, seen from the writing
 abbrev passed : tie.After-bytes → tie.Else3
 passed c = c .before .before .before
 
-abbrev sizing : tie.Else3 → tie.After-follows
-sizing c = fitting (listed c) .before
-
 -- nine bytes are at hand, and so many of them are written
 part : (c : tie.After-bytes)
-    → let n = 2 + sizing (passed c) .follows .result in length (take n (c .before .before .bytes-of .result)) ≡ n
+    → let n = 2 + sizing (passed c) .follows .result in
+    length (take n (c .before .before .bytes-of .result)) ≡ n
 part c =
     let b = c .before .before .bytes-of in
     let nine = ap length (b .ensures) in

@@ -12,7 +12,8 @@ returns c = rw (empty-size _ (c .if1 .taken)) (refl, refl)
 returns-2 : tie.Need-returns-2
 returns-2 c =
     let e = c .before .before .before .before in
-    rw (empty-given _ (e .if1 .left)) (refl, c .before .before .fill .ensures ∙ copy-all _ _ (sym (e .if1 .left)))
+    rw (empty-given _ (e .if1 .left))
+    (refl, c .before .before .fill .ensures ∙ copy-all _ _ (sym (e .if1 .left)))
 
 pub empty-spec : {M : Type 1} → statement M
 empty-spec = tie.close (tie.spec returns (λ c κs. search needs) (λ c. search needs) returns-2)

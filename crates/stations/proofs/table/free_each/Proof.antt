@@ -6,7 +6,7 @@ use native.Mathlib.Omega.{arith}
 use borrow.Author.Needs.{needs}
 use lib.ListN.{length}
 use Rattle.stations.specs.Table.{places, tableSize, freedFrom}
-use Rattle.stations.specs.Laws.Rows.{freed-length, freed-turn, freed-ended}
+use Rattle.stations.specs.Laws.Rows.{freed-if-length, freed-turn, freed-ended}
 use Rattle.stations.proofs.table.free_each.Statement.{statement}
 use Rattle.stations.proofs.table.free_each.Tie as tie
 
@@ -29,8 +29,9 @@ loop-again c =
     let n = l .before .before .before .args .number in
     let p = l .before .loop .place in (
       omega arith,
-      ap length freed ∙ freed-length (l .before .loop .table) n p ∙ i .1,
-      ap (λ (t : List ℕ). freedFrom t n (p + 1) (places - (p + 1))) freed ∙ freed-turn _ _ _ (l .loop-test .taken) ∙ i .2,
+      ap length freed ∙ freed-if-length (l .before .loop .table) n p ∙ i .1,
+      ap (λ (t : List ℕ). freedFrom t n (p + 1) (places - (p + 1))) freed
+          ∙ freed-turn _ _ _ (l .loop-test .taken) ∙ i .2,
     )
 
 returns : tie.Need-returns Inv-loop μ-loop

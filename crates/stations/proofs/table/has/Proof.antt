@@ -7,7 +7,9 @@ use Rattle.stations.proofs.table.has.Statement.{statement}
 use Rattle.stations.proofs.table.has.Tie as tie
 
 returns-2 : tie.Need-returns-2
-returns-2 c = sym (ap (suits (Sought.Number (c .before .before .before .before .args .number))) (c .before .before .standing .given .1))
+returns-2 c =
+    let told = c .before .before in
+    sym (ap (suits (Sought.Number (told .before .before .args .number))) (told .standing .given .1))
 
 pub has-spec : {M : Type 1} → statement M
 has-spec =

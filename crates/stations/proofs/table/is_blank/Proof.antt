@@ -1,7 +1,6 @@
 -- `is_blank` meets its contract: what all bytes tell is what those from here on tell.
 use Prim.Native.Nat.{_-_}
 use mathlib.Core.Path.{_≡_, refl, sym, _∙_}
-use native.Mathlib.Omega.{arith}
 use borrow.Author.Needs.{needs}
 use lib.ListN.{length, drop}
 use Rattle.stations.specs.Table.{blank}

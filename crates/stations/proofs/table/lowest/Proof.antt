@@ -11,7 +11,8 @@ use Rattle.stations.proofs.table.lowest.Tie as tie
 
 abbrev Inv-loop : tie.InvT-loop
 Inv-loop table sought place₀ place =
-    (place ≤ places) × (next (suitsAt table sought) 0 places ≡ next (suitsAt table sought) place (places - place))
+    (place ≤ places)
+    × (next (suitsAt table sought) 0 places ≡ next (suitsAt table sought) place (places - place))
 
 abbrev μ-loop : tie.MeasureT-loop
 μ-loop table sought place₀ place = places - place

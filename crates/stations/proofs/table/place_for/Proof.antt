@@ -1,5 +1,4 @@
 -- `place_for` meets its contract: the place that holds the number, or the lowest free one.
-use mathlib.Core.Path.{sym, _∙_}
 use borrow.Author.Needs.{needs}
 use borrow.Author.Tests.{lt-ltb, le-ltb}
 use Rattle.stations.specs.Table.{places, lowestOf}

@@ -1,6 +1,6 @@
 -- `standing_by` meets its contract: each test is the definition's, in its order.
 use Prim.Native.Nat.{ℕ, _+_}
-use mathlib.Core.Bool.{true, false}
+use mathlib.Core.Bool.{false}
 use mathlib.Core.Path.{_≡_, sym, ap, _∙_}
 use borrow.Author.Needs.{needs}
 use borrow.Author.Tests.{not-true, not-false}
@@ -37,7 +37,8 @@ told c =
     let p = entry (e .before .before) .args .place .now in
     standing-told p (used (e .before .before)) (sym (behind (e .before)) ∙ not-false _ (e .if2 .left))
     ∙ ap standingBy (sym (c .read .ensures
-    ∙ ap readOf (c .before .first .ensures ∙ ap (λ (n : ℕ). take (2 + n) p) (e .before .before .pair-at .ensures))))
+    ∙ ap readOf (c .before .first .ensures
+    ∙ ap (λ (n : ℕ). take (2 + n) p) (e .before .before .pair-at .ensures))))
 
 returns : tie.Need-returns
 returns c = sym (standing-blank _ (sym (c .before .is-blank .ensures) ∙ c .if1 .taken))
@@ -50,11 +51,13 @@ returns-2 c =
 returns-3 : tie.Need-returns-3
 returns-3 c =
     let at = c .before in
-    sym (told (at .before .before) ∙ ap (λ (x : Reading). standingBy (paperReading x)) (at .station .given .1))
+    sym (told (at .before .before)
+    ∙ ap (λ (x : Reading). standingBy (paperReading x)) (at .station .given .1))
 
 returns-4 : tie.Need-returns-4
 returns-4 c =
-    sym (told (c .before .before) ∙ ap (λ (x : Reading). standingBy (paperReading x)) (c .enum-told .given .1))
+    sym (told (c .before .before)
+    ∙ ap (λ (x : Reading). standingBy (paperReading x)) (c .enum-told .given .1))
 
 pub standing-by-spec : {M : Type 1} → statement M
 standing-by-spec =

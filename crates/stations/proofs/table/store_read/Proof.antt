@@ -5,11 +5,11 @@ use mathlib.Core.Path.{refl, ap, _∙_}
 use native.Mathlib.Omega.{arith}
 use borrow.Author.Needs.{needs}
 use lib.ListN.{length}
-use Rattle.basis.specs.Laws.Lists.{length-stored}
-use Rattle.basis.specs.Lists.{new, copyOf}
+use Rattle.basis.specs.Lists.{copyOf}
 use Rattle.basis.specs.Refusals.{given}
 use Rattle.stations.specs.Table.{startAt, putAt}
-use Rattle.stations.specs.Laws.Rows.{read-few, store-full, store-given}
+use Rattle.stations.specs.Laws.Record.{read-length}
+use Rattle.stations.specs.Laws.Rows.{freed-length, store-none, store-given}
 use Rattle.stations.proofs.table.store_read.Statement.{statement}
 use Rattle.stations.proofs.table.store_read.Tie as tie
 
@@ -24,7 +24,7 @@ returns : tie.Need-returns
 returns c =
     let at = c .before in
     let p = entry at .pre in
-    rw (store-full _ _ (p .0) (p .1) (rw (at .place-for .ensures) at (c .if1 .taken))) (refl, refl)
+    rw (store-none _ _ (p .0) (p .1) (rw (at .place-for .ensures) at (c .if1 .taken))) (refl, refl)
 
 -- a place has room for a record
 copy-requires : tie.Need-copy-requires
@@ -32,8 +32,8 @@ copy-requires c κs =
     let clear = c .before .before .before .clear in
     let e = cleared c in
     let p = entry (e .before) .pre in
-    let size = ap length (clear .ensures) ∙ length-stored new _ _ _ ∙ p .0 in
-    omega (arith, size, read-few _ (p .1), e .if1 .left)
+    let size = ap length (clear .ensures) ∙ freed-length _ _ ∙ p .0 in
+    omega (arith, size, read-length _ _ (p .1) .1, e .if1 .left)
 
 returns-2 : tie.Need-returns-2
 returns-2 c =

@@ -1,7 +1,7 @@
 -- `open` meets its contract: the station that is found, or 60.
 use Prim.Native.Nat.{ℕ}
 use mathlib.Core.List.{List}
-use mathlib.Core.Path.{_≡_, refl, sym, ap, _∙_}
+use mathlib.Core.Path.{_≡_, sym, ap, _∙_}
 use borrow.Author.Needs.{needs}
 use Rattle.basis.specs.Refusals.{Answer, refused, given}
 use Rattle.basis.specs.Units.{startOf}
@@ -11,7 +11,7 @@ use Rattle.stations.specs.Laws.Rows.{find-refused}
 use Rattle.stations.specs.Paper.{paperReading}
 use Rattle.stations.specs.Table.{findOf}
 use Rattle.stations.specs.declared.station.Station.{Station}
-use Rattle.visit.specs.Visit.{stationPages, forStation, openFor}
+use Rattle.visit.specs.Visit.{stationPages, forStation}
 use Rattle.visit.proofs.open.open.Statement.{statement}
 use Rattle.visit.proofs.open.open.Tie as tie
 

@@ -1,7 +1,6 @@
 -- `is_outside` meets its contract: the lowest touched page, and the lowest above the last, tell of all.
-use Prim.Native.Nat.{ℕ, _≤_, _<_}
+use Prim.Native.Nat.{ℕ}
 use mathlib.Core.Path.{_≡_, ap, _∙_}
-use native.Mathlib.Nat.{sub-zero}
 use native.Mathlib.Omega.{arith}
 use borrow.Author.Needs.{needs}
 use lib.Dec.{ltb}
@@ -35,9 +34,10 @@ add-t10 c =
 
 returns-2 : tie.Need-returns-2
 returns-2 c =
-    let e = c .before .before .before in
+    let search = c .before .before in
+    let e = search .before .before in
     let at = e .before .before .before in
-    ap (λ (n : ℕ). ltb n stationPages) (c .before .next-touched2 .ensures)
+    ap (λ (n : ℕ). ltb n stationPages) (search .next-touched2 .ensures)
     ∙ above-outside _ _ (omega (arith, ranges at .last)) (rw (found at) at (e .if1 .left))
 
 pub is-outside-spec : {M : Type 1} → statement M

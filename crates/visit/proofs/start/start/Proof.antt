@@ -1,20 +1,20 @@
 -- `start` meets its contract: the station that is found, or 60.
 use Prim.Native.Nat.{ℕ}
 use mathlib.Core.List.{List}
-use mathlib.Core.Path.{_≡_, refl, sym, ap, subst, _∙_}
+use mathlib.Core.Path.{_≡_, sym, ap, subst, _∙_}
 use borrow.Author.Needs.{needs}
 use lib.ListN.{length}
 use Rattle.basis.specs.Lists.{overlay}
 use Rattle.basis.specs.Refusals.{Answer, refused, given}
 use Rattle.session.proofs.Handing.{left-alone}
-use Rattle.session.specs.Session.{Sent, measured, sentBytes}
+use Rattle.session.specs.Session.{measured, sentBytes}
 use Rattle.session.specs.declared.session.Next.{Next}
+use Rattle.stations.specs.Laws.Finding.{find-has}
 use Rattle.stations.specs.Laws.Rows.{find-refused}
-use Rattle.stations.specs.Laws.Table.{find-has}
 use Rattle.stations.specs.Paper.{paperReading}
 use Rattle.stations.specs.Table.{findOf}
 use Rattle.stations.specs.declared.station.Station.{Station}
-use Rattle.visit.specs.Visit.{forStation, startAt, startFor}
+use Rattle.visit.specs.Visit.{forStation, startAt}
 use Rattle.visit.proofs.start.start.Statement.{statement}
 use Rattle.visit.proofs.start.start.Tie as tie
 

@@ -1,5 +1,5 @@
 -- `start_at` meets its contract: each test is a row of the table, in its order, and what passes is started.
-use Prim.Native.Nat.{ℕ, _≤_, _<_}
+use Prim.Native.Nat.{ℕ}
 use mathlib.Core.Bool.{true, false}
 use mathlib.Core.List.{List}
 use mathlib.Core.Path.{_≡_, sym, ap, subst, _∙_}
@@ -10,7 +10,6 @@ use lib.Dec.{lit<}
 use lib.ListN.{length}
 use Rattle.basis.specs.Lists.{overlay}
 use Rattle.basis.specs.Refusals.{Answer}
-use Rattle.basis.specs.RunKinds.{kindOf}
 use Rattle.basis.specs.Units.{mapBytes}
 use Rattle.basis.specs.declared.kind.RunKind.{RunKind}
 use Rattle.order.specs.Laws.Sizes.{sizes-right}
@@ -23,7 +22,7 @@ use Rattle.session.specs.Session.{Sent, measured, sentBytes, started}
 use Rattle.session.specs.declared.session.Next.{Next}
 use Rattle.visit.specs.Laws.Bounds.{none-touched, some-named}
 use Rattle.visit.specs.Laws.Rows.{at-size, at-empty, at-outside, at-inside}
-use Rattle.visit.specs.Visit.{stationPages, outside, startAt}
+use Rattle.visit.specs.Visit.{stationPages, outside}
 use Rattle.visit.proofs.start.start_at.Statement.{statement}
 use Rattle.visit.proofs.start.start_at.Tie as tie
 
@@ -39,7 +38,8 @@ sized c = sym (c .before .right-sizes .ensures) ∙ not-false _ (c .if1 .left)
 long : (c : tie.Else1) → length (entry c .args .map .now) ≡ mapBytes stationPages
 long c =
     let a = entry c .args in
-    sizes-right stationPages (length (a .image .now)) (length (a .map .now)) (length (a .buffer .now)) (sized c) .1
+    sizes-right stationPages (length (a .image .now)) (length (a .map .now)) (length (a .buffer .now))
+    (sized c) .1
 
 -- what the search says, and the test of it
 abbrev sizing : tie.Else2 → tie.Else1
@@ -56,7 +56,8 @@ some c = some-named _ (rw (found (c .before .before)) at (c .if2 .left))
 abbrev searched : tie.Else3 → tie.Else2
 searched c = c .before .before
 
-inside : (c : tie.Else3) → let a = entry (sizing (searched c)) .args in outside (a .station) (a .map .now) ≡ false
+inside : (c : tie.Else3)
+    → let a = entry (sizing (searched c)) .args in outside (a .station) (a .map .now) ≡ false
 inside c = sym (c .before .is-outside .ensures) ∙ c .if3 .left
 
 returns : tie.Need-returns
