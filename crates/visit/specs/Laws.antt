@@ -1,4 +1,5 @@
 pub mod Bounds
 pub mod Rows
+pub mod Starting
 pub mod Demand
 pub mod Determined

@@ -28,7 +28,7 @@ module _ (s : Station) (m : List ℕ) where
   strays q = both (touched m q) (beyond s q)
 
   -- a touched page out of bounds is outside
-  some-outside : (q : ℕ) → q < stationPages → touched m q ≡ true → beyond s q ≡ true → outside s m ≡ true
+  pub some-outside : (q : ℕ) → q < stationPages → touched m q ≡ true → beyond s q ≡ true → outside s m ≡ true
   unfolding outside
   some-outside q l t b = any-some strays 0 stationPages q l (rw (zero-add q, t, b) refl)
 
