@@ -21,8 +21,10 @@ use visit::open::open;
 use visit::start::Started;
 use visit::start::start;
 
+// The table holds no such station.
 const NO_STATION: u32 = 60;
 
+// A touched page lies outside its bounds.
 const OUT_OF_BOUNDS: u32 = 64;
 
 #[no_mangle]
