@@ -27,11 +27,11 @@ abbrev pub rightTable : List ℕ → Bool
 rightTable t = eqb (length t) tableSize
 
 -- where a place starts, and its bytes
-abbrev pub startAt : ℕ → ℕ
-startAt i = placeSize * i
+abbrev pub placeStart : ℕ → ℕ
+placeStart i = placeSize * i
 
 abbrev pub placeOf : List ℕ → ℕ → List ℕ
-placeOf t i = take placeSize (drop (startAt i) t)
+placeOf t i = take placeSize (drop (placeStart i) t)
 
 -- every byte is 0
 unfoldable pub blank : List ℕ → Bool
@@ -93,10 +93,10 @@ findOf t n = listOf t (lowestOf t (Sought.Number n))
 
 -- the table with a place free, and with a record in it
 abbrev pub freedAt : List ℕ → ℕ → List ℕ
-freedAt t i = copyOf t (startAt i) (replicate placeSize 0)
+freedAt t i = copyOf t (placeStart i) (replicate placeSize 0)
 
 abbrev pub putAt : List ℕ → ℕ → List ℕ → List ℕ
-putAt t i r = copyOf (freedAt t i) (startAt i) r
+putAt t i r = copyOf (freedAt t i) (placeStart i) r
 
 -- storing replaces the record of a number that is held; else the lowest free place is used
 abbrev pub placeFor : List ℕ → ℕ → ℕ

@@ -5,7 +5,7 @@ ghost use lib.ListN.{length, drop};
 ghost use Rattle.basis.specs.Refusals.{given, bare};
 ghost use Rattle.stations.specs.Paper.{paperReading, paperLooked, paperStored, paperDone};
 ghost use Rattle.stations.specs.Station.{readOf};
-ghost use Rattle.stations.specs.Table.{places, placeSize, tableSize, startAt, placeOf, blank, standingOf, standingAt, suits, suitsAt, lowestOf, lookOf, stationIn, listOf, findOf, freedAt, putAt, placeFor, storeOf, afterStore, freedIf, freedFrom, deleteOf, freeOf, emptyOf, tableAfter};
+ghost use Rattle.stations.specs.Table.{places, placeSize, tableSize, placeStart, placeOf, blank, standingOf, standingAt, suits, suitsAt, lowestOf, lookOf, stationIn, listOf, findOf, freedAt, putAt, placeFor, storeOf, afterStore, freedIf, freedFrom, deleteOf, freeOf, emptyOf, tableAfter};
 ghost use Rattle.stations.specs.declared.table.Sought.{Sought};
 use crate::record::Reading;
 use crate::record::read;

@@ -16,20 +16,20 @@ use Rattle.basis.specs.Refusals.{Answer, refused, given}
 use Rattle.stations.specs.Laws.Record.{read-tells, read-length}
 use Rattle.stations.specs.Laws.Rows.{freed-length, standing-blank, standing-marred, standing-told}
 use Rattle.stations.specs.Station.{isVersion, outOfRange, readOf}
-use Rattle.stations.specs.Table.{places, placeSize, tableSize, startAt, placeOf, blank, recordLength, standingBy, standingOf, standingAt, freedAt, putAt, emptyTable}
+use Rattle.stations.specs.Table.{places, placeSize, tableSize, placeStart, placeOf, blank, recordLength, standingBy, standingOf, standingAt, freedAt, putAt, emptyTable}
 use Rattle.stations.specs.declared.station.Station.{Station}
 use Rattle.stations.specs.declared.table.Standing.{Standing}
 
 -- ---- places
 
 -- a byte of a place is one of the table
-place-at : (t : List ℕ) (i k : ℕ) → k < placeSize → getD (placeOf t i) k 0 ≡ getD t (startAt i + k) 0
-place-at t i k h = getD-take placeSize (drop (startAt i) t) k 0 h ∙ getD-drop (startAt i) t k 0
+place-at : (t : List ℕ) (i k : ℕ) → k < placeSize → getD (placeOf t i) k 0 ≡ getD t (placeStart i + k) 0
+place-at t i k h = getD-take placeSize (drop (placeStart i) t) k 0 h ∙ getD-drop (placeStart i) t k 0
 
 -- each place has its size
 place-length : (t : List ℕ) (i : ℕ) → length t ≡ tableSize → i < places → length (placeOf t i) ≡ placeSize
 place-length t i e h =
-    length-take-le placeSize (drop (startAt i) t) (rw (length-drop (startAt i) t) (omega arith))
+    length-take-le placeSize (drop (placeStart i) t) (rw (length-drop (placeStart i) t) (omega arith))
 
 -- a byte of what is laid over a list
 overlay-at : (r p : List ℕ) (k : ℕ)
@@ -46,46 +46,46 @@ overlay-at r p k = (
 
 -- a place that bytes are copied to has them at its start, and its old rest behind them
 copy-place : (t : List ℕ) (i : ℕ) (r : List ℕ) → length t ≡ tableSize → i < places → length r ≤ placeSize
-    → placeOf (copyOf t (startAt i) r) i ≡ overlay r (placeOf t i)
+    → placeOf (copyOf t (placeStart i) r) i ≡ overlay r (placeOf t i)
 copy-place t i r e h l =
-    let n = place-length (copyOf t (startAt i) r) i (length-stored new t (startAt i) r ∙ e) h in
+    let n = place-length (copyOf t (placeStart i) r) i (length-stored new t (placeStart i) r ∙ e) h in
     let m = place-length t i e h in
-    ext-getD 0 (placeOf (copyOf t (startAt i) r) i) (overlay r (placeOf t i))
+    ext-getD 0 (placeOf (copyOf t (placeStart i) r) i) (overlay r (placeOf t i))
     (n ∙ sym (length-append r _ ∙ rw (length-drop (length r) (placeOf t i), m) (omega arith)))
     (λ k q. at k (omega arith))
   where
     at : (k : ℕ) → k < placeSize
-        → getD (placeOf (copyOf t (startAt i) r) i) k 0 ≡ getD (overlay r (placeOf t i)) k 0
+        → getD (placeOf (copyOf t (placeStart i) r) i) k 0 ≡ getD (overlay r (placeOf t i)) k 0
     at k q =
-        place-at (copyOf t (startAt i) r) i k q
+        place-at (copyOf t (placeStart i) r) i k q
         ∙ decide (ltb k (length r))
         (λ d. let c = ltb-true k (length r) d in
-        stored-at new t (startAt i) r k c (omega arith) ∙ sym (overlay-at r (placeOf t i) k .0 c))
+        stored-at new t (placeStart i) r k c (omega arith) ∙ sym (overlay-at r (placeOf t i) k .0 c))
         (λ d. let c = ltb-false k (length r) d in
-        stored-above new t (startAt i) r (startAt i + k) (omega arith)
+        stored-above new t (placeStart i) r (placeStart i + k) (omega arith)
         ∙ sym (place-at t i k q) ∙ sym (overlay-at r (placeOf t i) k .1 c))
 
 -- every other place is as it was
 copy-other : (t : List ℕ) (i j : ℕ) (r : List ℕ) → length t ≡ tableSize → j < places
     → length r ≤ placeSize
     → (j ≡ i → ⊥)
-    → placeOf (copyOf t (startAt i) r) j ≡ placeOf t j
+    → placeOf (copyOf t (placeStart i) r) j ≡ placeOf t j
 copy-other t i j r e h l n =
-    let a = place-length (copyOf t (startAt i) r) j (length-stored new t (startAt i) r ∙ e) h in
-    ext-getD 0 (placeOf (copyOf t (startAt i) r) j) (placeOf t j) (a ∙ sym (place-length t j e h))
+    let a = place-length (copyOf t (placeStart i) r) j (length-stored new t (placeStart i) r ∙ e) h in
+    ext-getD 0 (placeOf (copyOf t (placeStart i) r) j) (placeOf t j) (a ∙ sym (place-length t j e h))
     (λ k q. at k (omega arith))
   where
-    at : (k : ℕ) → k < placeSize → getD (placeOf (copyOf t (startAt i) r) j) k 0 ≡ getD (placeOf t j) k 0
+    at : (k : ℕ) → k < placeSize → getD (placeOf (copyOf t (placeStart i) r) j) k 0 ≡ getD (placeOf t j) k 0
     at k q =
-        place-at (copyOf t (startAt i) r) j k q
+        place-at (copyOf t (placeStart i) r) j k q
         ∙ decide (ltb j i)
-        (λ d. stored-below new t (startAt i) r (startAt j + k) (omega (arith, ltb-true j i d)))
-        (λ d. stored-above new t (startAt i) r (startAt j + k) (omega (arith, ltb-false j i d)))
+        (λ d. stored-below new t (placeStart i) r (placeStart j + k) (omega (arith, ltb-true j i d)))
+        (λ d. stored-above new t (placeStart i) r (placeStart j + k) (omega (arith, ltb-false j i d)))
         ∙ sym (place-at t j k q)
 
 -- a table with a record put in it keeps its length
 pub put-length : (t : List ℕ) (i : ℕ) (r : List ℕ) → length (putAt t i r) ≡ length t
-put-length t i r = length-stored new (freedAt t i) (startAt i) r ∙ freed-length t i
+put-length t i r = length-stored new (freedAt t i) (placeStart i) r ∙ freed-length t i
 
 -- a place that is freed is all 0
 pub freed-place : (t : List ℕ) (i : ℕ) → length t ≡ tableSize → i < places

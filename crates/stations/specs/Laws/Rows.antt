@@ -18,7 +18,7 @@ use Rattle.basis.specs.Refusals.{Answer, refused, given, Rule, _when_, first, a
 use Rattle.image.specs.Hex.{isRuleSet}
 use Rattle.stations.specs.Laws.Record.{follows-most, read-tells, tells-read, tells-write}
 use Rattle.stations.specs.Station.{isVersion, followsOf, lastPage, outOfRange, fieldsOf, readRows, readOf, writtenVersion, bytesOf, sizeOf, recordBytes, writeOf}
-use Rattle.stations.specs.Table.{places, placeSize, tableSize, rightTable, startAt, blank, recordLength, standingBy, standingOf, standingAt, suitsAt, lowestOf, lookOf, stationIn, listOf, findOf, freedAt, placeFor, storeOf, freedIf, freedFrom, deleteOf, isFree, freeOf, emptyTable, emptyOf}
+use Rattle.stations.specs.Table.{places, placeSize, tableSize, rightTable, placeStart, blank, recordLength, standingBy, standingOf, standingAt, suitsAt, lowestOf, lookOf, stationIn, listOf, findOf, freedAt, placeFor, storeOf, freedIf, freedFrom, deleteOf, isFree, freeOf, emptyTable, emptyOf}
 use Rattle.stations.specs.declared.station.Station.{Station}
 use Rattle.stations.specs.declared.table.Sought.{Sought}
 use Rattle.stations.specs.declared.table.Standing.{Standing}
@@ -262,7 +262,7 @@ empty-given t e = skip 20 _ _ _ (right-table t e) ∙ done _
 
 -- a table with a place freed keeps its length
 pub freed-length : (t : List ℕ) (i : ℕ) → length (freedAt t i) ≡ length t
-freed-length t i = length-stored new t (startAt i) (replicate placeSize 0)
+freed-length t i = length-stored new t (placeStart i) (replicate placeSize 0)
 
 -- freeing each place: one turn, and the end, in the loop's own terms
 module _ (t : List ℕ) (n i : ℕ) where

@@ -7,7 +7,7 @@ use borrow.Author.Needs.{needs}
 use lib.ListN.{length}
 use Rattle.basis.specs.Lists.{copyOf}
 use Rattle.basis.specs.Refusals.{given}
-use Rattle.stations.specs.Table.{startAt, putAt}
+use Rattle.stations.specs.Table.{placeStart, putAt}
 use Rattle.stations.specs.Laws.Record.{read-length}
 use Rattle.stations.specs.Laws.Rows.{freed-length, store-none, store-given}
 use Rattle.stations.proofs.table.store_read.Statement.{statement}
@@ -47,7 +47,8 @@ returns-2 c =
     rw (store-given _ _ (p .0) (p .1) (rw told at (e .if1 .left))) (
       ap given told,
       copied .copy .ensures
-          ∙ ap (λ (t : List ℕ). copyOf t (startAt (at .place-for .result)) (a .input .now)) (clear .ensures)
+          ∙ ap (λ (t : List ℕ). copyOf t (placeStart (at .place-for .result)) (a .input .now))
+          (clear .ensures)
           ∙ ap (λ (i : ℕ). putAt (a .table .now) i (a .input .now)) told,
     )
 
