@@ -1,6 +1,7 @@
--- When a session for a station starts: 64 for any touched page out of bounds, else the session of start.
+-- How a station's file is opened, and when its session starts: 64 for any touched page out of bounds, else
+-- the session of start.
 use Prim.Native.Nat.{ℕ, _≤_}
-use mathlib.Core.Bool.{true, false}
+use mathlib.Core.Bool.{true, false, not}
 use mathlib.Core.List.{List, [], _∷_}
 use mathlib.Core.Path.{_≡_, refl, sym, ap, _∙_}
 use native.Mathlib.Omega.{arith}
@@ -9,9 +10,11 @@ use lib.Dec.{ltb}
 use lib.ListN.{length}
 use Rattle.basis.specs.Board.{openingByte}
 use Rattle.basis.specs.Laws.Choice.{decide, true-false}
+use Rattle.basis.specs.Laws.Refusals.{skip, done}
 use Rattle.basis.specs.Refusals.{Answer, refused, given}
 use Rattle.basis.specs.RunKinds.{kindOf}
-use Rattle.basis.specs.Units.{startOf, mapBytes}
+use Rattle.basis.specs.Units.{startOf, mapBytes, rightSizesIn}
+use Rattle.image.specs.Hex.{started, startIn}
 use Rattle.order.specs.Sizes.{rightSizes}
 use Rattle.packet.specs.Packet.{packetMost}
 use Rattle.runs.specs.Laws.Files.{pages-past}
@@ -19,11 +22,27 @@ use Rattle.runs.specs.Pages.{touched}
 use Rattle.runs.specs.Pieces.{namedCount}
 use Rattle.session.specs.Laws.Steps.{start-given}
 use Rattle.session.specs.Session.{Loadable, atGreeting}
+use Rattle.stations.specs.Laws.Finding.{find-has}
+use Rattle.stations.specs.Laws.Record.{in-range}
 use Rattle.stations.specs.Table.{findOf}
 use Rattle.stations.specs.declared.station.Station.{Station}
 use Rattle.visit.specs.Laws.Bounds.{some-outside}
 use Rattle.visit.specs.Laws.Rows.{at-outside, at-inside}
-use Rattle.visit.specs.Visit.{stationPages, forStation, beyond, outside, startAt, startFor}
+use Rattle.visit.specs.Visit.{stationPages, forStation, openFor, beyond, outside, startAt, startFor}
+
+-- a file is opened under the station's rule set, which there is: with right sizes nothing is refused
+pub visit-opens : (t : List ℕ) (number : ℕ) (s : Station) → findOf t number ≡ given s → (image m : List ℕ)
+    → rightSizesIn (startOf stationPages) (length image) (length m) ≡ true
+    → openFor t number image m ≡ given (started (startOf stationPages) (s .rules))
+unfolding startIn
+visit-opens t number s found image m e =
+    ap
+    (λ (a : Answer Station). forStation a
+    (λ (y : Station). startIn (startOf stationPages) (y .rules) image m))
+    found
+    ∙ skip 20 _ _ _ (ap not e)
+    ∙ skip 34 _ _ _ (ap not (in-range s (find-has t number s found .range) .rules))
+    ∙ done _
 
 -- a station that the table holds, a file that can be loaded on the short board, and room for a packet
 module _ (t : List ℕ) (number : ℕ) (s : Station) (found : findOf t number ≡ given s) (image m : List ℕ)
