@@ -1,11 +1,11 @@
 // The table: 64 places in lent bytes, each with a record at its start and 0 behind it, or free, or damaged.
 ghost use mathlib.Core.Path.{_≡_};
-ghost use Prim.Native.Nat.{_+_, _<_, _≤_};
+ghost use Prim.Native.Nat.{_<_};
 ghost use lib.ListN.{length, drop};
 ghost use Rattle.basis.specs.Refusals.{given, bare};
 ghost use Rattle.stations.specs.Paper.{paperReading, paperLooked, paperStored, paperDone};
 ghost use Rattle.stations.specs.Station.{readOf};
-ghost use Rattle.stations.specs.Table.{places, placeSize, tableSize, placeStart, placeOf, blank, standingOf, standingAt, suits, suitsAt, lowestOf, lookOf, stationIn, listOf, findOf, freedAt, putAt, placeFor, storeOf, afterStore, freedIf, freedFrom, deleteOf, freeOf, emptyOf, tableAfter};
+ghost use Rattle.stations.specs.Table.{places, placeSize, tableSize, blank, standingOf, standingAt, suits, suitsAt, lowestOf, lookOf, stationIn, listOf, findOf, freedAt, placeFor, storeOf, afterStore, freedIf, freedFrom, deleteOf, freeOf, emptyOf, tableAfter};
 ghost use Rattle.stations.specs.declared.table.Sought.{Sought};
 use crate::record::Reading;
 use crate::record::read;
@@ -16,11 +16,11 @@ use basis::buffers::fill;
 use basis::buffers::first;
 use basis::buffers::pair_at;
 
-pub const PLACES: u32 = 64;
+const PLACES: u32 = 64;
 
 const PLACE: usize = 16;
 
-pub const TABLE: usize = 1024;
+const TABLE: usize = 1024;
 
 // What is at a place.
 pub enum Standing {

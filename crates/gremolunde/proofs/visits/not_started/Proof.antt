@@ -1,8 +1,8 @@
 -- `not_started` meets its contract: the number, and no session.
 use mathlib.Core.Path.{ap}
 use borrow.Author.Needs.{needs}
-use Rattle.gremolunde.specs.Answers.{noSession, steppedAnswer}
 use Rattle.basis.specs.Refusals.{refused}
+use Rattle.gremolunde.specs.Answers.{steppedAnswer}
 use Rattle.gremolunde.specs.declared.states.SessionState.{SessionState}
 use Rattle.gremolunde.proofs.visits.not_started.Statement.{statement}
 use Rattle.gremolunde.proofs.visits.not_started.Tie as tie
