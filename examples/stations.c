@@ -1,5 +1,5 @@
 /* Keeps the settings of stations in a file, which `load` reads:
- *   stations TABLE new                                  makes an empty table
+ *   stations TABLE new                                  makes an empty table, where there is no such file
  *   stations TABLE list                                 says what each place has that is not free
  *   stations TABLE store NUMBER RUN RULES FIRST [LAST]  stores a station; RUN is 0 reset, 1 jump, 2 hold
  *   stations TABLE delete NUMBER                        deletes one
@@ -66,7 +66,12 @@ static uint32_t store(void) {
                                : gremolunde_stations_store(table, length, record, written.length).number;
 }
 
+/* A file that is there is not made empty: its stations would be gone. */
 static uint32_t make(void) {
+    if (length > 0) {
+        fprintf(stderr, "there is such a file\n");
+        exit(1);
+    }
     length = GREMOLUNDE_TABLE;
     return gremolunde_stations_empty(table, length).number;
 }

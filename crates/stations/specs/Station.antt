@@ -34,10 +34,11 @@ outOfRange s =
     (either (ltb lastPage (s .last .0))
     (ltb (s .last .0) (s .first .0)))))
 
--- the station that a record tells
+-- the last page that a record tells
 abbrev pub lastOf : List ℕ → ℕ
 lastOf r = pick (eqb (getD r 2 0) 1) lastPage (getD r 8 0)
 
+-- and the station
 abbrev pub fieldsOf : List ℕ → Station
 fieldsOf r =
     record {

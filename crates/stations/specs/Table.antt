@@ -13,9 +13,11 @@ use Rattle.stations.specs.declared.station.Station.{Station}
 use Rattle.stations.specs.declared.table.Sought.{Sought}
 use Rattle.stations.specs.declared.table.Standing.{Standing}
 
+-- up to 64 stations
 abbrev pub places : ℕ
 places = 64
 
+-- room for the records of later versions too
 abbrev pub placeSize : ℕ
 placeSize = 16
 

@@ -2,4 +2,5 @@ pub mod Bounds
 pub mod Rows
 pub mod Starting
 pub mod Demand
+pub mod Worked
 pub mod Determined

@@ -27,20 +27,20 @@ abbrev pub forStation : {A : Type 0} → Answer Station → (Station → Answer 
 forStation (refused n) f = refused n
 forStation (given s) f = f s
 
--- open: 60, then the hex reader of its rule set
+-- open: 60, then 20 and the hex reader of its rule set
 abbrev pub openFor : List ℕ → ℕ → List ℕ → List ℕ → Answer File
 openFor t n image m =
     forStation (findOf t n) (λ (s : Station). startIn (startOf stationPages) (s .rules) image m)
 
--- a page out of the station's bounds: below first, or above last
+-- a page outside the station's bounds: below first, or above last
 abbrev pub beyond : Station → ℕ → Bool
 beyond s q = either (ltb q (s .first .0)) (ltb (s .last .0) q)
 
--- a touched page is
+-- a touched page lies outside them
 unfoldable pub outside : Station → List ℕ → Bool
 outside s m = any (λ (q : ℕ). both (touched m q) (beyond s q)) 0 stationPages
 
--- start: 60, 20, 32, then 64, else exactly the session of start with the station's run kind
+-- start at a station: 20, 32, then 64, else exactly the session of start with the station's run kind
 unfoldable pub startAt : Station → List ℕ → List ℕ → ℕ → Answer Sent
 startAt s image m room =
     first
@@ -49,5 +49,6 @@ startAt s image m room =
     ∷ 64 when outside s m ∷ [])
     (started stationPages image m room (kindOf (s .run)))
 
+-- start: 60, then that
 abbrev pub startFor : List ℕ → ℕ → List ℕ → List ℕ → ℕ → Answer Sent
 startFor t n image m room = forStation (findOf t n) (λ (s : Station). startAt s image m room)

@@ -33,7 +33,7 @@ module _ (s : Station) (m : List ℕ) where
   some-outside q l t b = any-some strays 0 stationPages q l (rw (zero-add q, t, b) refl)
 
   -- where none is out of bounds, nothing is outside
-  none-outside : ((q : ℕ) → q < stationPages → touched m q ≡ true → beyond s q ≡ false)
+  pub none-outside : ((q : ℕ) → q < stationPages → touched m q ≡ true → beyond s q ≡ false)
       → outside s m ≡ false
   unfolding outside
   none-outside h =
