@@ -1,5 +1,5 @@
--- A worked start: what is proved of visits is not empty. A table in which one station was stored, its bounds the
--- whole board, starts a session over every file that can be loaded.
+-- A worked start: what is proved of visits is not empty. A table in which one station was stored, its bounds
+-- the whole board, starts a session over every file that can be loaded.
 use Prim.Native.Nat.{ℕ, _≤_}
 use mathlib.Core.Bool.{false}
 use mathlib.Core.List.{List, [], _∷_}
