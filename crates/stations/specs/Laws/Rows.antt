@@ -12,7 +12,7 @@ use lib.Seq.{length-take-le, drop-cons}
 use Rattle.basis.specs.Choice.{pick}
 use Rattle.basis.specs.Laws.Choice.{decide}
 use Rattle.basis.specs.Laws.Lists.{length-stored}
-use Rattle.basis.specs.Laws.Refusals.{skip, stop, done, apart, refused-one, first-then, through}
+use Rattle.basis.specs.Laws.Refusals.{skip, stop, done, apart, refused-one, first-then, alike, through}
 use Rattle.basis.specs.Lists.{pairAt, new}
 use Rattle.basis.specs.Refusals.{Answer, refused, given, Rule, _when_, first, andThen}
 use Rattle.image.specs.Hex.{isRuleSet}
@@ -290,11 +290,8 @@ module _ {A : Type 0} where
   -- what they refuse is refused whatever follows
   first-refused : {B : Type 0} {n : ℕ} (l : List Rule) (x : B) (r : Answer A) → first l (given x) ≡ refused n
       → first l r ≡ refused n
-  first-refused {B} {n} l x r e = first-then l r ∙ go (first l (given tt)) (sym (first-then l (given x)) ∙ e)
-    where
-      go : (a : Answer (Unit {0})) → andThen a (given x) ≡ refused n → andThen a r ≡ refused n
-      go (refused m) e = ap refused (refused-one e)
-      go (given u) e = absurd (apart (sym e))
+  first-refused l x r e =
+      first-then l r ∙ ap (λ (a : Answer (Unit {0})). andThen a r) (alike l x tt e)
 
 module _ (t r : List ℕ) where
   pub store-size : (length t ≡ tableSize → ⊥) → storeOf t r ≡ refused 20
