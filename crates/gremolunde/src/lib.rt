@@ -1,5 +1,6 @@
 // The product as C programs link it. What C lends is safe at any value, and each answer is the paper's.
 #![tactic(auto)]
+
 pub mod answers;
 pub mod files;
 pub mod loading;

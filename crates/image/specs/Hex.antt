@@ -1,5 +1,5 @@
 -- The hex reader: what start, one record and closing give, on a board of `size` bytes.
-use Rattle.std.specs.Prelude.{◌≡◌, ℕ, zero, suc, ◌+◌, ◌-◌, ◌*◌, ◌/◌, ◌%◌, Bool, true, false, not, List, [], ◌∷◌, ◌++◌, length, drop, set, replicate, ◌==◌, nat_le, nat_lt, slice_set}
+use Rattle.std.specs.Prelude.{◌≡◌, ℕ, zero, suc, ◌+◌, ◌-◌, ◌*◌, ◌/◌, ◌%◌, Bool, true, false, not, List, [], ◌∷◌, ◌++◌, length, drop, replicate, ◌==◌, nat_le, nat_lt, slice_set}
 use Rattle.basis.specs.Choice.{pick, both, either, any}
 use Rattle.basis.specs.Refusals.{Answer, given, Rule, ◌when◌, first}
 use Rattle.basis.specs.Units.{right_sizes_in}

@@ -1,5 +1,6 @@
 // Text in, text out: hex text to a file, a file to the lines of its plan, a log record to its line.
 #![tactic(auto)]
+
 pub mod log;
 pub mod numbers;
 pub mod plan;

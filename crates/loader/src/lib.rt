@@ -1,6 +1,7 @@
 // The loader: packets to answers, flash and protection. An input is judged first, which only reads;
 // what it then does is done in one place.
 #![tactic(auto)]
+
 mod deed;
 mod erase;
 mod judge;

@@ -1,5 +1,6 @@
 // Packets in order: which packets a file has, what follows what, and each as it is sent.
 #![tactic(auto)]
+
 pub mod counts;
 pub mod cursor;
 pub mod sending;

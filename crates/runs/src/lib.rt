@@ -1,5 +1,6 @@
 // The map of named addresses, and the runs and pieces that it has.
 #![tactic(auto)]
+
 pub mod map;
 pub mod pages;
 pub mod places;

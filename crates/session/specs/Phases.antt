@@ -3,7 +3,7 @@ use Rattle.std.specs.Prelude.{ℕ, Bool, true, false, List, []}
 use Rattle.basis.specs.declared.kind.RunKind.{RunKind}
 use Rattle.events.specs.Endings.{asked}
 use Rattle.events.specs.declared.ending.Awaited.{Awaited}
-use Rattle.order.specs.Steps.{packet_of, step_at, following_at, first_of, follow_of, at_start, place_of}
+use Rattle.order.specs.Steps.{packet_of, following_at, first_of, follow_of, at_start, place_of}
 use Rattle.order.specs.declared.cursor.Following.{Following}
 use Rattle.session.specs.declared.phase.Phase.{Phase}
 

@@ -15,7 +15,6 @@ use Rattle.order.specs.Marks.{marked}
 use Rattle.order.specs.Plan.{before_r, total}
 use Rattle.order.specs.Sizes.{right_sizes}
 use Rattle.order.specs.Steps.{step_at, stands_at, verify_at}
-use Rattle.runs.specs.Map.{named}
 use Rattle.runs.specs.Pieces.{named_count, piece_len}
 use Rattle.session.specs.Phases.{ended, packet_out, after_of, awaits_of}
 use Rattle.session.specs.declared.phase.Phase.{Phase}

@@ -11,7 +11,5 @@ pub fn repository() -> PathBuf {
 pub fn program(path: &str) -> Command {
     let program = repository().join(path);
     assert!(program.is_file(), "missing program: {path}");
-    let mut command = Command::new(repository().join("tests/under"));
-    command.arg(program);
-    command
+    Command::new(program)
 }

@@ -1,6 +1,6 @@
 -- The paper's records, start records and columns, read by a fresh reader on a board of 272 bytes; records
 -- that run past offset 0xFFFF, under both rule sets; and records written.
-use Rattle.std.specs.Prelude.{◌≡◌, ℕ, ◌*◌, Bool, true, false, List, [], ◌∷◌, ◌++◌, length, set, replicate, ◌==◌, slice_index, slice_set, refl}
+use Rattle.std.specs.Prelude.{◌≡◌, ℕ, ◌*◌, Bool, true, false, List, [], ◌∷◌, ◌++◌, length, replicate, ◌==◌, slice_index, slice_set, refl}
 use Rattle.basis.specs.Choice.{both, all, any}
 use Rattle.basis.specs.Units.{start_of}
 use Rattle.basis.specs.Refusals.{Answer, refused, given, first}
@@ -115,7 +115,7 @@ abbrev lands : ℕ → ℕ → ℕ → Bool → ℕ → ℕ → ℕ → ℕ → 
 lands rules linear segment segmented p q r s =
     let at = place (hex rules linear segment segmented false false) running in
     all
-    (ran rules linear segment segmented 5 == 0
+    ((ran rules linear segment segmented 5 == 0)
     ∷ (at 0 == p) ∷ (at 1 == q) ∷ (at 2 == r) ∷ (at 3 == s) ∷ [])
 
 abbrev set_cases : List Bool

@@ -1,7 +1,7 @@
 -- Laws of the places of a record's bytes: they stand in one row, or in two where a segment wraps.
 use Rattle.std.specs.Prelude.{◌≡◌, ℕ, zero, suc, ◌+◌, ◌-◌, ◌%◌, ◌<◌, ◌≤◌, Bool, true, false, not, List, [], ◌∷◌, ◌++◌, length, take, drop, ◌==◌, nat_le, nat_lt}
 use Rattle.std.proofs.Math.Path.{refl}
-use Rattle.std.proofs.Common.{sym, ap, ◌∙◌, zero-add, suc-add, length-drop, length-take-le, take-add, drop-drop, eq-eqb, lt-ltb, le-ltb, le-leb, ltb-true, ltb-false}
+use Rattle.std.proofs.Common.{sym, ap, set, ◌∙◌, zero-add, suc-add, length-drop, length-take-le, take-add, drop-drop, eq-eqb, lt-ltb, le-ltb, le-leb, ltb-true, ltb-false}
 use Rattle.std.proofs.Math.Nat.{add-zero}
 use native.Mathlib.Omega.{arith}
 use Rattle.std.proofs.lemmas.Bool.{lt-leb}
@@ -11,7 +11,7 @@ use Rattle.basis.specs.Lists.{stored, copy_of}
 use Rattle.image.specs.Hex.{file, place, fed, past_board, named_before, put_each, name_each, placed, base_of, row_of}
 use Rattle.image.specs.Record.{count, address, payload}
 use Rattle.image.specs.declared.hex.Hex.{Hex}
-use Rattle.runs.specs.Map.{named, any_named, name_all_of}
+use Rattle.runs.specs.Map.{named, name_of, any_named, name_all_of}
 
 -- ---- some bytes, then others
 
@@ -33,14 +33,14 @@ module _ (at : ℕ → ℕ) where
   put-append image j [] t = rw add-zero
   put-append image j (x ∷ s) t =
       let e : j + length (x ∷ s) ≡ j + 1 + length s = omega arith in
-      rw e (put-append _ (j + 1) s t)
+      rw e (put-append (set image (at j) x) (j + 1) s t)
 
   name-append : (map : List ℕ) (j m n : ℕ)
       → name_each at map j (m + n) ≡ name_each at (name_each at map j m) (j + m) n
   unfolding name_each
   name-append map j zero n = rw (zero-add, add-zero)
   name-append map j (suc m) n =
-      let e : j + suc m ≡ j + 1 + m = omega arith in rw (suc-add, e) (name-append _ (j + 1) m n)
+      let e : j + suc m ≡ j + 1 + m = omega arith in rw (suc-add, e) (name-append (name_of map (at j)) (j + 1) m n)
 
   -- ---- places that stand in a row: from the j-th on they are those from a on
 
@@ -66,13 +66,13 @@ module _ (at : ℕ → ℕ) where
   unfolding put_each stored
   put-row image j a [] r = refl
   put-row image j a (x ∷ s) r =
-      rw (row_here j a (length s) r) (put-row _ (j + 1) (a + 1) s (row_on j a (length s) r))
+      rw (row_here j a (length s) r) (put-row (set image a x) (j + 1) (a + 1) s (row_on j a (length s) r))
 
   name-row : (map : List ℕ) (j a n : ℕ) → Row j a n → name_each at map j n ≡ name_all_of map a n
   unfolding name_each name_all_of
   name-row map j a zero r = refl
   name-row map j a (suc n) r =
-      rw (row_here j a n r) (name-row _ (j + 1) (a + 1) n (row_on j a n r))
+      rw (row_here j a n r) (name-row (name_of map a) (j + 1) (a + 1) n (row_on j a n r))
 
 -- of the n places from a on one lies past the board where the last does
 any-past : (size a n : ℕ) → any (nat_le size) a n ≡ both (nat_lt 0 n) (nat_lt size (a + n))

@@ -1,5 +1,5 @@
 -- Laws of the run kind: reset and jump have one R, hold has none.
-use Rattle.std.specs.Prelude.{ℕ, ◌≤◌, ◌<◌, Bool, true, false, ◌≡◌, refl}
+use Rattle.std.specs.Prelude.{◌≤◌, ◌<◌, Bool, true, false, ◌≡◌, refl}
 use Rattle.std.proofs.Common.{ap, arith}
 use Rattle.basis.specs.Choice.{pick}
 use Rattle.basis.specs.declared.kind.RunKind.{RunKind}

@@ -10,7 +10,6 @@ use Rattle.packet.specs.Paper.{paper_command, paper_refusal, paper_row, paper_bu
 use Rattle.packet.specs.Table.{erase_byte, write_byte, verify_byte, protect_byte}
 use Rattle.packet.specs.declared.build.Built as Built
 use Rattle.packet.specs.declared.build.Built.TheVariants as built
-use Rattle.packet.specs.declared.read.Packet.{Packet}
 use Rattle.packet.specs.declared.read.Reading as Reading
 use Rattle.packet.specs.declared.read.Reading.TheVariants as reading
 use Rattle.packet.specs.declared.table.Command.{Command}

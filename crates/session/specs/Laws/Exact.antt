@@ -7,6 +7,7 @@ use Rattle.std.proofs.Math.Path.{refl, ap, subst}
 use Rattle.std.proofs.Common.{sym, ◌∙◌, add-zero, eq-eqb, eqb-true}
 use native.Mathlib.Omega.{arith}
 use Rattle.std.proofs.lemmas.Bool.{eqb-false, not-false}
+use Rattle.basis.specs.Choice.{pick}
 use Rattle.basis.specs.Laws.Choice.{decide, true-false}
 use Rattle.basis.specs.Laws.Refusals.{passed, given-one}
 use Rattle.basis.specs.Refusals.{given}
@@ -39,7 +40,8 @@ series-append : (board : ℕ) (m : List ℕ) (s : Session) (es ds : List Event)
     → series board m s (es ++ ds) ≡ series board m (series board m s es) ds
 unfolding series
 series-append board m s [] ds = refl
-series-append board m s (e ∷ es) ds = series-append board m _ es ds
+series-append board m s (e ∷ es) ds =
+    series-append board m (pick (ended s.phase) s (took_of board m s e)) es ds
 
 -- ---- what events lead to fits
 

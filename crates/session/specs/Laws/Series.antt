@@ -15,10 +15,10 @@ use Rattle.events.specs.declared.ending.Outcome.{Outcome}
 use Rattle.events.specs.declared.event.Event.{Event}
 use Rattle.order.specs.Laws.Totals.{total-some}
 use Rattle.order.specs.Plan.{total}
-use Rattle.order.specs.Steps.{step_at, following_at}
+use Rattle.order.specs.Steps.{step_at}
 use Rattle.runs.specs.Pieces.{named_count}
 use Rattle.session.specs.Laws.States.{greeting-state, ack-next, ack-last}
-use Rattle.session.specs.Phases.{ended, awaits_of, reached_of, phase_at}
+use Rattle.session.specs.Phases.{ended, awaits_of, phase_at}
 use Rattle.session.specs.Session.{session_with, at_greeting, state_at, as_asked, heard_by, took_of, series, Came, waits, stands, fails, ends}
 use Rattle.session.specs.declared.phase.Phase.{Phase}
 use Rattle.session.specs.declared.session.Session.{Session}

@@ -1,0 +1,12 @@
+use Prim.Native.Nat.{ℕ, ◌+◌, ◌-◌, ◌≤◌, ◌<◌}
+use mathlib.Core.Bool.{true}
+use mathlib.Core.Path.{◌≡◌}
+use Rattle.runs.specs.Map.{named}
+use Rattle.runs.specs.Pieces.{piece_most}
+use Rattle.plain.proofs.sending.piece_len.Given as goal
+
+abbrev pub invariant-loop-n : goal.invariant-loop-n
+invariant-loop-n l = (l.n ≤ piece_most) × ((i : ℕ) → i < l.n → named l.map (l.start + i) ≡ true)
+
+abbrev pub decreases-loop-n : goal.decreases-loop-n
+decreases-loop-n l = piece_most - l.n

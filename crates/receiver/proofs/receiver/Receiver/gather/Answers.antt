@@ -1,0 +1,11 @@
+-- `gather` meets its contract: one byte is stored behind what is gathered.
+use mathlib.Core.Path.{◌≡◌}
+use borrow.Author.Rules.{rules}
+use lib.ListN.{length}
+use Rattle.receiver.specs.Laws.Gathered.{gathers-in}
+use Rattle.receiver.proofs.receiver.Receiver.gather.Goals as goal
+
+pub returns : goal.returns
+returns c =
+    let l : length c.args.self.bytes ≡ 259 = search rules in
+    (gathers-in c.args.self c.args.b (search rules), search rules)

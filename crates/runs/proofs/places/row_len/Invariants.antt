@@ -1,0 +1,12 @@
+use Prim.Native.Nat.{◌+◌, ◌-◌, ◌≤◌}
+use mathlib.Core.Path.{◌≡◌}
+use Rattle.runs.specs.Map.{named}
+use Rattle.runs.specs.Runs.{len}
+use Rattle.runs.proofs.places.row_len.Given as goal
+
+abbrev pub invariant-loop-n : goal.invariant-loop-n
+invariant-loop-n l =
+    (l.n ≤ l.cap) × (len (named l.map) l.start l.cap ≡ l.n + len (named l.map) (l.start + l.n) (l.cap - l.n))
+
+abbrev pub decreases-loop-n : goal.decreases-loop-n
+decreases-loop-n l = l.cap - l.n

@@ -1,0 +1,12 @@
+use Prim.Native.Nat.{◌*◌, ◌-◌, ◌≤◌}
+use mathlib.Core.Path.{◌≡◌}
+use Rattle.runs.specs.Map.{named}
+use Rattle.runs.specs.Pieces.{piece_most}
+use Rattle.runs.specs.Tally.{tally_at}
+use Rattle.runs.proofs.walks.over_words.Given as goal
+
+abbrev pub invariant-loop-i : goal.invariant-loop-i
+invariant-loop-i l = (l.i ≤ l.to) × (l.t ≡ tally_at (named l.map) piece_most (64 * l.i))
+
+abbrev pub decreases-loop-i : goal.decreases-loop-i
+decreases-loop-i l = l.to - l.i
