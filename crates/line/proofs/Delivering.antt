@@ -66,9 +66,6 @@ arrival board Loss.Unanswered l s f old = (omega arith, refl)
 
 module _ {board : ℕ} {o : Loss} {l next : Loader} {s f old flash answer : List ℕ} {arrived : ℕ}
     (d : Delivers board o l s f old next arrived flash answer) where
-  pub arrived-fits : arrived ≤ length answer
-  arrived-fits = rw (d.arrived-is, d.answer-is) (arrival board o l s f old).0
-
   arrived-bytes : take arrived answer ≡ arrives board o l s f
   arrived-bytes = rw (d.arrived-is, d.answer-is) (arrival board o l s f old).1
 

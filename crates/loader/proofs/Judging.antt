@@ -1,11 +1,10 @@
 -- How a judgement is shown, by its two ways out, and what it then does.
 use Prim.Native.Nat.{ℕ, ◌+◌, ◌-◌, ◌≤◌}
 use mathlib.Core.List.{List}
-use mathlib.Core.Path.{◌≡◌, sym, ap, subst}
+use mathlib.Core.Path.{◌≡◌, sym, ap}
 use native.Mathlib.Omega.{arith}
 use lib.ListN.{length, take, drop, length-take, length-drop}
 use Rattle.basis.specs.Refusals.{Answer, refused, given}
-use Rattle.basis.specs.Units.{start_of}
 use Rattle.loader.specs.Commands.{Effect}
 use Rattle.loader.specs.Deeds.{data_in, deed_of, Fits, Judges}
 use Rattle.loader.specs.Paper.{paper_refusal}
@@ -23,17 +22,6 @@ module _ {board : ℕ} {l : Loader} {s f : List ℕ} {x : Answer Effect} where
       → Judges board (Accepted d) l s f x
   accepts e h = record { comes-to = sym e; can-apply = h }
 
--- a deed is the one that it was found to be
-module _ (board : ℕ) {d k : Deed} (e : d ≡ k) (s : List ℕ) where
-  pub fits-as : Fits board d s → Fits board k s
-  fits-as = subst (λ (x : Deed). Fits board x s) e
-
-  pub applies : {next : Loader} {g : List ℕ} (l : Loader) (f : List ℕ)
-      → next ≡ (deed_of board k l s f).loader
-      → g ≡ (deed_of board k l s f).flash
-      → (next ≡ (deed_of board d l s f).loader) × (g ≡ (deed_of board d l s f).flash)
-  applies l f p q = rw e (p, q)
-
 -- a packet has as many bytes as it says
 pub data-length : (s : List ℕ) (p : Packet) → p.at + p.len ≤ length s → length (data_in s p) ≡ p.len
 data-length s p h = simp (length-take, length-drop) (omega arith)
@@ -43,9 +31,3 @@ pub part-data : (s : List ℕ) (p : Packet) → take (p.at + p.len - p.at) (drop
 part-data s p =
     let e : p.at + p.len - p.at ≡ p.len = omega arith in
     ap (λ (n : ℕ). take n (drop p.at s)) e
-
-pub part-fits : (board : ℕ) (s f : List ℕ) (p : Packet) → p.at + p.len ≤ length s
-    → p.address.0 + p.len ≤ start_of board
-    → length f ≡ start_of board
-    → p.address.0 + length (take (p.at + p.len - p.at) (drop p.at s)) ≤ length f
-part-fits board s f p h g l = rw (part-data s p, data-length s p h) (omega arith)

@@ -73,10 +73,6 @@ pub record Remains (board : ℕ) (a : All) (bytes joined₀ : List ℕ) (p : Por
   pub joined_is : take heard_most (joined ++ (all_of board answer_most p f (drop i bytes)).answers)
       ≡ take heard_most (joined₀ ++ a.answers)
 
-pub remains-all : (board : ℕ) (bytes joined : List ℕ) (p : Port) (f : List ℕ)
-    → Remains board (all_of board answer_most p f bytes) bytes joined p f 0 joined
-remains-all board bytes joined p f = record { port-is = refl; flash-is = refl; joined_is = refl }
-
 module _ {board : ℕ} {a : All} {bytes joined₀ : List ℕ} {p : Port} {f : List ℕ} {i : ℕ} {joined : List ℕ}
     (r : Remains board a bytes joined₀ p f i joined) where
   abbrev turn : Turn
@@ -152,9 +148,6 @@ rest-taken board p bytes i f k e h =
 
 module _ {t : Turn} {old : List ℕ} {r : Served} {flash answer : List ℕ}
     (h : Serves t old r flash answer) where
-  pub answered-fits : r.answered ≤ length answer
-  answered-fits = rw (h.answered-is, h.answer-is) (simp length-append (omega arith))
-
   pub answered-bytes : take r.answered answer ≡ t.answer
   answered-bytes = rw (h.answered-is, h.answer-is) (take-append_seam t.answer _)
 

@@ -60,7 +60,7 @@ fn read_all(
             return Ok(reading);
         }
     }
-    Ok(reading)
+    Err(io::Error::other("standard input has no end"))
 }
 
 fn print(rt: &impl Print, image: &[u8], map: &[u8], buffer: &mut [u8]) -> io::Result<()>
@@ -68,7 +68,7 @@ fn print(rt: &impl Print, image: &[u8], map: &[u8], buffer: &mut [u8]) -> io::Re
 {
     // a file that closed names a byte, so its listing is never refused
     let Begun::Listing(begun) = Listing::start(Board::Short, image, map) else {
-        return Ok(());
+        return Err(io::Error::other("the file has no packets"));
     };
     let head = head_line(buffer);
     rt.write_all(first(buffer, head))?;

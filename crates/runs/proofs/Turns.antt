@@ -1,7 +1,7 @@
 -- One turn of a search and of a walk along a row, and their ends.
 use Prim.Native.Nat.{ℕ, zero, suc, ◌+◌, ◌-◌, ◌≤◌, ◌<◌}
 use native.Mathlib.Numerals.{add-one}
-use native.Mathlib.Nat.{add-zero, zero-add, sub-zero}
+use native.Mathlib.Nat.{add-zero}
 use native.Mathlib.Omega.{arith}
 use mathlib.Core.Path.{◌≡◌, refl, ap, ap₂, subst}
 use mathlib.Core.Bool.{Bool, true, false}
@@ -35,9 +35,6 @@ module _ (p : ℕ → Bool) where
   unfolding len
   len-some b zero l h = absurd (omega arith)
   len-some b (suc f) l h = let e : suc f - 1 ≡ f = omega arith in rw (e, h)
-
-  pub len-begin : (a cap : ℕ) → len p a cap ≡ 0 + len p (a + 0) (cap - 0)
-  len-begin a cap = simp (add-zero, zero-add, sub-zero)
 
 -- a loop that has gone n steps along a row
 module _ (p : ℕ → Bool) (a cap n : ℕ) (inv : len p a cap ≡ n + len p (a + n) (cap - n)) where

@@ -1,19 +1,15 @@
--- What `proved_on` and `marked` decide is what their definitions decide.
+-- What `marked` decides is what its definition decides.
 use Prim.Native.Nat.{ℕ, ◌+◌, ◌≤◌, ◌<◌}
-use mathlib.Core.Bool.{Bool, true, false, not}
+use mathlib.Core.Bool.{Bool, true}
 use mathlib.Core.List.{List}
-use mathlib.Core.Path.{◌≡◌, sym, ap, ◌∙◌}
+use mathlib.Core.Path.{◌≡◌, ap, ◌∙◌}
 use native.Mathlib.Numerals.{add-one}
 use native.Mathlib.Omega.{arith}
-use borrow.Author.Tests.{eq-eqb, ne_eqb}
 use lib.Dec.{leb}
-use lib.ListN.{length}
 use Rattle.basis.specs.Board.{pages_most}
 use Rattle.basis.specs.Choice.{pick}
 use Rattle.basis.specs.Laws.Choice.{decide}
-use Rattle.basis.specs.Laws.Refusals.{skip, stop}
-use Rattle.basis.specs.Refusals.{refused, given}
-use Rattle.basis.specs.Units.{start_of, map_bytes}
+use Rattle.basis.specs.Units.{start_of}
 use Rattle.order.specs.Marks.{marked}
 use Rattle.runs.specs.Laws.Runs.{count_yes, count_no}
 use Rattle.runs.specs.Map.{named}
@@ -21,27 +17,8 @@ use Rattle.runs.specs.Pieces.{piece_starts}
 use Rattle.runs.specs.Runs.{count}
 use Rattle.runs.specs.Survey.{survey_of}
 use Rattle.runs.specs.declared.survey.Surveyed.{Surveyed}
-use Rattle.session.specs.Laws.Marks.{proved-is}
-use Rattle.session.specs.Session.{fits_of, proved_of}
-use Rattle.session.specs.declared.session.Session.{Session}
 use Rattle.order.specs.Laws.Marks.{mark-by}
 use Rattle.order.specs.Laws.Surveys.{told}
-
--- `proved_on`: its two refusals, and the mark
-module _ (board : ℕ) (m : List ℕ) (s : Session) (a : ℕ) where
-  pub mark-size : (length m ≡ map_bytes board → ⊥) → refused 20 ≡ proved_of board m s a
-  unfolding proved_of
-  mark-size n = sym (stop 20 _ _ _ (ap not (ne_eqb (length m) (map_bytes board) n)))
-
-  module _ (long : length m ≡ map_bytes board) where
-    pub mark-foreign : fits_of board m s ≡ false → refused 46 ≡ proved_of board m s a
-    unfolding proved_of
-    mark-foreign f =
-        sym (skip 20 _ _ _ (ap not (eq-eqb (length m) (map_bytes board) long)) ∙ stop 46 _ _ _ (ap not f))
-
-    pub mark-given : fits_of board m s ≡ true → {b : Bool} → b ≡ marked board m s.acknowledged a
-        → given b ≡ proved_of board m s a
-    mark-given f e = ap given e ∙ sym (proved-is board m long s a f)
 
 -- `marked`: the survey decides what the definition decides
 module _ (board : ℕ) (m : List ℕ) (k a : ℕ) where

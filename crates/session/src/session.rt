@@ -145,6 +145,7 @@ impl Session {
         }
     }
 
+    #[tactic(auto, unfolding(basis::specs::Refusals::first, crate::specs::Session::proved_of))]
     fn proved_on(self, board: Board, map: &[u8], address: Address) -> Mark
         ensures { paper_mark result ≡ proved_of (pages_of board) map.now self address.0 }
     {

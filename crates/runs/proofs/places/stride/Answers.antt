@@ -6,6 +6,7 @@ use mathlib.Core.Path.{◌≡◌}
 use native.Mathlib.Nat.{add-zero}
 use native.Mathlib.Omega.{arith}
 use borrow.Author.Tests.{eq-eqb}
+use Rattle.std.proofs.Common.{rules}
 use lib.ListN.{get_or}
 use Rattle.basis.specs.Bits.{bit}
 use Rattle.basis.specs.Laws.Computed.{agree}
@@ -42,4 +43,4 @@ pub returns-then-map-byte : goal.returns-then-map-byte
 returns-then-map-byte c = ended _ _ _ (named_past _ _ (omega arith))
 
 pub returns : goal.returns
-returns c = eight _ _ _ c.if-most-lt8.false c.if-at-ne0.false c.if-map-byte-2.false
+returns c = eight _ _ _ c.if-most-lt8.false c.if-at-ne0.false (search rules)

@@ -1,2 +1,0 @@
--- Lemmas that serve the proofs of this crate's functions.
-pub mod Rehearsing
