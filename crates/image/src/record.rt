@@ -123,6 +123,7 @@ pub fn framing(line: &[u8], bytes: &[u8]) -> Check
 }
 
 // 27 and 28, of the bytes of whatever line.
+#[tactic(auto, unfolding(basis::specs::Refusals::first, crate::specs::Record::shape_of, crate::specs::Record::column_of))]
 pub fn shape(bytes: &[u8]) -> Check
     requires { 4 ≤ length bytes.now }
     ensures { let b = bytes.now in

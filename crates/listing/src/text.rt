@@ -210,6 +210,7 @@ impl Text {
     }
 
     // What stands after the last 0A; nothing is no line.
+    #[tactic(auto, unfolding(crate::specs::Feed::last_in))]
     fn last(self, board: Board, line: &[u8], image: &mut [u8], map: &mut [u8]) -> Reading
         ensures { state (paper_reading result) line.now image.new map.new
             ≡ last_in (start_of (pages_of board)) self line.now image.old

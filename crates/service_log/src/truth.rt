@@ -5,6 +5,7 @@ ghost use Rattle.service_log.specs.Log.{known, few, is_false_of};
 
 use basis::board::Board;
 
+#[tactic(auto, unfolding(crate::specs::Log::is_false_of))]
 pub fn is_false(board: Board, outcome: u8, acknowledged: u32, total: u32, bytes: u32) -> bool
     ensures { result ≡ is_false_of (pages_of board) outcome acknowledged total bytes }
 {

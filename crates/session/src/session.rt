@@ -106,6 +106,7 @@ impl Session {
     }
 
     // The same on a board that is known; a session of another does not fit.
+    #[tactic(auto, unfolding(basis::specs::Refusals::first, crate::specs::Session::step_of))]
     pub fn step_on(
         self,
         board: Board,
@@ -164,6 +165,7 @@ impl Session {
     }
 
     // Whether the board is the session's, and some start and events over this file lead here.
+    #[tactic(auto, unfolding(crate::specs::Session::fits_of))]
     fn fits(self, board: Board, map: &[u8]) -> bool
         requires { length map.now ≡ map_bytes (pages_of board) }
         ensures { result ≡ fits_of (pages_of board) map.now self }

@@ -49,6 +49,7 @@ impl Refusal {
 }
 
 impl Station {
+    #[tactic(auto, unfolding(crate::specs::Station::out_of_range))]
     pub fn out_of_range(self) -> bool
         ensures { result ≡ out_of_range self }
     {
