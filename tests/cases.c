@@ -369,7 +369,7 @@ static int lend(unsigned reads, unsigned writes) {
 #define AROUND 4096
 #define BLOCK 512
 
-/* Under an emulator this takes half the time of memcmp. */
+/* Eight bytes a step. */
 static int as_before(int buffer, size_t place) {
     const uint8_t *now = held[buffer] + place, *then = before[buffer] + place;
     uint64_t unlike = 0, a, b;
