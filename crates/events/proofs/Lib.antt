@@ -1,3 +1,2 @@
 -- Lemmas that serve the proofs of this crate's functions.
 pub mod Turns
-pub mod Others

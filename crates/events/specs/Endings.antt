@@ -66,4 +66,5 @@ failing Outcome.Other k = true
 
 -- an ending with k of n packets acknowledged: the one asked for once all are, any other before the last is
 abbrev pub ends_at : Outcome → ℕ → Outcome → ℕ → Bool
-ends_at wish n o k = pick (eqb (paper_outcome o) (paper_outcome wish)) (eqb k n) (both (ltb k n) (failing o k))
+ends_at wish n o k =
+    pick (eqb (paper_outcome o) (paper_outcome wish)) (eqb k n) (both (ltb k n) (failing o k))

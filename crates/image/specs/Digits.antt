@@ -23,4 +23,5 @@ unfoldable pub decoded : List ℕ → List ℕ
 decoded [] = []
 decoded (c ∷ []) = []
 decoded (c ∷ d ∷ s) =
-    pick (both (nat_lt (digit_of c) 16) (nat_lt (digit_of d) 16)) ((16 * digit_of c + digit_of d) ∷ decoded s) []
+    pick (both (nat_lt (digit_of c) 16) (nat_lt (digit_of d) 16))
+    ((16 * digit_of c + digit_of d) ∷ decoded s) []

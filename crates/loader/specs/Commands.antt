@@ -39,7 +39,8 @@ erase_rows board l a n =
 
 -- the pages become 0xFF
 abbrev pub pages_erased : Loader → ℕ → ℕ → List ℕ → Answer Effect
-pages_erased l a n f = given (record { loader = l; flash = erase_of f (start_of (page_of a)) (n * page_size) })
+pages_erased l a n f =
+    given (record { loader = l; flash = erase_of f (start_of (page_of a)) (n * page_size) })
 
 unfoldable pub erasing : ℕ → Loader → ℕ → ℕ → List ℕ → Answer Effect
 erasing board l a n f =

@@ -54,7 +54,8 @@ hear_of board l s f =
 abbrev pub sizes_wrong : ℕ → List ℕ → ℕ → Bool
 sizes_wrong board f room = either (not (eqb (length f) (start_of board))) (ltb room answer_most)
 
--- in the paper's order: 20 here, 11 in hear_of, 1 to 6 in the packet's read_of, then 9, 7, 8, 10 of the command
+-- in the paper's order: 20 here, 11 in hear_of, 1 to 6 in the packet's read_of, then 9, 7, 8, 10 of the
+-- command
 unfoldable pub take_of : ℕ → Loader → List ℕ → List ℕ → ℕ → Answer Effect
 take_of board l s f room = first (20 when sizes_wrong board f room ∷ []) (hear_of board l s f)
 

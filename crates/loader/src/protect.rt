@@ -11,7 +11,8 @@ use basis::board::{Board, GROUP};
 use basis::units::Address;
 
 pub fn protect(board: Board, loader: Loader, address: Address, kind: u8) -> Judged
-    ensures { JudgesAny (pages_of board) result loader (λ f. keeping f (protecting (pages_of board) loader address.0 kind)) }
+    ensures { JudgesAny (pages_of board) result loader
+        (λ f. keeping f (protecting (pages_of board) loader address.0 kind)) }
 {
     match kind {
         0x00 => open(loader),

@@ -73,7 +73,8 @@ parts s = record { command = command s; address = address s; place = 8; size = c
 
 -- the first two bytes
 abbrev pub starts_right : List ℕ → Bool
-starts_right s = both (leb 2 (length s)) (both (eqb (get_or s 0 0) start_byte) (eqb (get_or s 1 0) next_start_byte))
+starts_right s =
+    both (leb 2 (length s)) (both (eqb (get_or s 0 0) start_byte) (eqb (get_or s 1 0) next_start_byte))
 
 -- a packet that is whole and sums to zero: 5, 6, or what it says
 unfoldable pub tabled_of : List ℕ → Answer Parts

@@ -229,7 +229,8 @@ join_more cap o u r v P Q ho hr start inside wrap more none some =
 
 -- the first place of a word, and what the others leave of the claim
 module _ (cap k w P : ℕ) (t : Tally) (h : w < 2 ^ suc k) (l : suc k ≤ cap) (o : t.off < cap)
-    (ih : P + inner (w / 2) + joins_of (took_of cap t (eqb (w % 2) 1)).off (row k (w / 2)) cap ≡ (took_of cap t
+    (ih : P + inner (w / 2) + joins_of (took_of cap t (eqb (w % 2) 1)).off (row k (w / 2)) cap
+    ≡ (took_of cap t
     (eqb (w % 2) 1)).pieces + ones (w / 2)) where
   pieces-even : eqb (w % 2) 1 ≡ false
       → P + inner w + joins_of t.off (row (suc k) w) cap ≡ t.pieces + ones w

@@ -50,7 +50,8 @@ standing_by (given s) = Standing.Station s
 unfoldable pub standing_of : List ℕ → Standing
 standing_of p =
     pick (blank p) Standing.Free
-    (pick (blank (drop (record_length p) p)) (standing_by (read_of (take (record_length p) p))) Standing.Damaged)
+    (pick (blank (drop (record_length p) p))
+    (standing_by (read_of (take (record_length p) p))) Standing.Damaged)
 
 abbrev pub standing_at : List ℕ → ℕ → Standing
 standing_at t i = standing_of (place_of t i)
@@ -99,7 +100,8 @@ put_at t i r = copy_of (freed_at t i) (place_start i) r
 -- storing replaces the record of a number that is held; else the lowest free place is used
 abbrev pub place_for : List ℕ → ℕ → ℕ
 place_for t n =
-    pick (ltb (lowest_of t (Sought.Number n)) places) (lowest_of t (Sought.Number n)) (lowest_of t Sought.Free)
+    pick (ltb (lowest_of t (Sought.Number n)) places) (lowest_of t (Sought.Number n))
+    (lowest_of t Sought.Free)
 
 -- and refuses: a table of another size; what is no record; a full table
 unfoldable pub store_of : List ℕ → List ℕ → Answer ℕ
@@ -130,7 +132,8 @@ is_free t i = suits_at t Sought.Free i
 
 unfoldable pub free_of : List ℕ → ℕ → Answer (List ℕ)
 free_of t i =
-    first (60 when not (right_table t) ∷ 60 when leb places i ∷ 60 when is_free t i ∷ []) (given (freed_at t i))
+    first (60 when not (right_table t) ∷ 60 when leb places i ∷ 60 when is_free t i ∷ [])
+    (given (freed_at t i))
 
 -- an empty table; 20 for another size
 abbrev pub empty_table : List ℕ

@@ -25,5 +25,6 @@ one_of f (suc n) t k h =
     (eq-or-lt_of_le (le_of_suc-le-suc h))
 
 -- two functions that agree below n
-pub agree : (f g : ℕ → ℕ) (n : ℕ) → T (all_below (λ (k : ℕ). nat_eq (f k) (g k)) n) → (k : ℕ) → k < n → f k ≡ g k
+pub agree : (f g : ℕ → ℕ) (n : ℕ) → T (all_below (λ (k : ℕ). nat_eq (f k) (g k)) n) → (k : ℕ) → k < n
+    → f k ≡ g k
 agree f g n t k h = eqb→eq (f k) (g k) (one_of (λ (k : ℕ). nat_eq (f k) (g k)) n t k h)

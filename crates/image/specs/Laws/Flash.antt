@@ -30,7 +30,8 @@ module _ (flash : List ℕ) (a : ℕ) (s : List ℕ) (l : a + length s ≤ lengt
     (blank : Blank flash a (length s)) (bytes : Bytes s) where
   -- a byte stored over blank flash reads back, and so do all of them
   pub store-blank-at : (k : ℕ) → k < length s → slice_index (store_of flash a s) (a + k) ≡ slice_index s k
-  store-blank-at k h = stored_at bit_and flash a s k h l ∙ rw (blank k h) (and-blank (slice_index s k) (bytes k))
+  store-blank-at k h =
+      stored_at bit_and flash a s k h l ∙ rw (blank k h) (and-blank (slice_index s k) (bytes k))
 
   pub store-blank : take (length s) (drop a (store_of flash a s)) ≡ s
   store-blank =

@@ -158,7 +158,8 @@ module _ (size : ℕ) (h : Hex) (image map : List ℕ) where
   unfolding first apply_in framing_of shape_of data_in
   apply-cut n b =
       first_then (byte_rows n b) _
-      ∙ ap (and_then (framing_of n b)) (first_then (shape_rows b) _ ∙ ap (and_then (shape_of b)) (by (is_data b)))
+      ∙ ap (and_then (framing_of n b))
+      (first_then (shape_rows b) _ ∙ ap (and_then (shape_of b)) (by (is_data b)))
     where
       by : (t : Bool)
           → first (pick t (place_rows size h b map) [])

@@ -40,7 +40,8 @@ module _ (at : ℕ → ℕ) where
   unfolding name_each
   name-append map j zero n = rw (zero-add, add-zero)
   name-append map j (suc m) n =
-      let e : j + suc m ≡ j + 1 + m = omega arith in rw (suc-add, e) (name-append (name_of map (at j)) (j + 1) m n)
+      let e : j + suc m ≡ j + 1 + m = omega arith in
+      rw (suc-add, e) (name-append (name_of map (at j)) (j + 1) m n)
 
   -- ---- places that stand in a row: from the j-th on they are those from a on
 
@@ -89,7 +90,8 @@ any-past size a n =
 first-decides : (size near row base rest n : ℕ) → row + rest ≡ n
     → (0 < n → 0 < row)
     → base + rest ≤ near + row
-    → either (both (nat_lt 0 row) (nat_lt size (near + row))) (both (nat_lt 0 rest) (nat_lt size (base + rest)))
+    → either (both (nat_lt 0 row) (nat_lt size (near + row)))
+    (both (nat_lt 0 rest) (nat_lt size (base + rest)))
     ≡ both (nat_lt 0 n) (nat_lt size (near + row))
 first-decides size near row base rest n e some low =
     decide (nat_lt 0 n)
@@ -250,7 +252,8 @@ module _ (h : Hex) (b : List ℕ) where
 
     -- what is stored and what is named: the first row, then the second
     pub put-rows : length b ≡ 5 + count b → (image : List ℕ)
-        → put_each (place h b) image 0 (payload b) ≡ copy_of (copy_of image near near_bytes) (base_of h) rest_bytes
+        → put_each (place h b) image 0 (payload b)
+        ≡ copy_of (copy_of image near near_bytes) (base_of h) rest_bytes
     put-rows long image =
         ap (put_each (place h b) image 0) payload-rows
         ∙ put-append (place h b) image 0 near_bytes rest_bytes

@@ -206,7 +206,10 @@ module _ (size : ℕ) (image map : List ℕ) where
           (place_at f.reader a part u.linear u.segment u.unsegmented)
           (omega (arith, part_length))
           (rw part_length (any_none (named f.map) a n (λ j l. u.above (a + j) (omega arith))))
-          ∙ rw (take_at part (checksum_of (content (lower_half a) 0 part) ∷ []) (length part) refl, part_length)
+          ∙ rw (
+            take_at part (checksum_of (content (lower_half a) 0 part) ∷ []) (length part) refl,
+            part_length,
+          )
 
       upto-more : Upto (a + n) (upper_half a) more
       upto-more =

@@ -108,7 +108,8 @@ module _ (h : Hex) (u : Unsegmented h) where
       (λ e. simp (one, e))
 
 -- the files that two answers leave, one the other's under rule set 2
-after_same : (f : File) (a : Pointed File) → file_after (under 2 f) (answer_under 2 a) ≡ under 2 (file_after f a)
+after_same : (f : File) (a : Pointed File)
+    → file_after (under 2 f) (answer_under 2 a) ≡ under 2 (file_after f a)
 after_same f (wrong n c) = refl
 after_same f (right g) = refl
 

@@ -1,5 +1,5 @@
--- The session of a load carries the load's board from the start on, so what its own `step` and `proved` say is
--- what demand 3 speaks of.
+-- The session of a load carries the load's board from the start on, so what its own `step` and `proved` say
+-- is what demand 3 speaks of.
 use Prim.Native.Nat.{ℕ, zero, suc}
 use Rattle.std.specs.Prelude.{Bool, List, ◌≡◌}
 use Rattle.std.proofs.Math.Path.{refl}

@@ -68,7 +68,8 @@ module _ (board : ℕ) (few : board ≤ 255) (image m : List ℕ) (file : Loadab
     (f : List ℕ) (k : ℕ) (h : Grows board image m k f) where
   -- the ranks of a named byte
   ranks : (a : ℕ) → named m a ≡ true
-      → (0 < piece_rank m a) × (piece_rank m a ≤ piece_count board m) × (run_rank board m a ≤ run_count board m)
+      → (0 < piece_rank m a) × (piece_rank m a ≤ piece_count board m)
+      × (run_rank board m a ≤ run_count board m)
   ranks a t =
       let b = passes-below (named m) (start_of board) (bytes_past board m file.long) a t in (
         rank-some (named m) piece_most (omega arith) a t,

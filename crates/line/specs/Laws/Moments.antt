@@ -95,7 +95,8 @@ record Late (board : ℕ) (m : List ℕ) (kind : RunKind) (k : ℕ) (x : Moment)
   pub end-late : (u : Outcome) → is_good (Phase.Ended u) ≡ true → x.session.phase ≡ Phase.Ended u
       → (before_r board m ≤ k) × (u ≡ asked kind)
 
-holds-safe : (board : ℕ) (image m before : List ℕ) (long : length m ≡ map_bytes board) (kind : RunKind) (k : ℕ)
+holds-safe : (board : ℕ) (image m before : List ℕ) (long : length m ≡ map_bytes board) (kind : RunKind)
+    (k : ℕ)
     (x : Moment) → x.session.acknowledged ≡ k → fits_of board m x.session ≡ true
     → Holds board image m before k x.flash → Late board m kind k x → Safe board image m before kind x
 holds-safe board image m before long kind k x c fits h late =

@@ -56,7 +56,8 @@ module _ (board : ℕ) (image m before : List ℕ) where
     stands : (e : Effect) (k : ℕ) → n ≡ k + 1 → k < total board m kind → e.loader ≡ serving l
         → Holds k e.flash → x ≡ standing board image m kind e k → Stage kind l n x
     ends : (e : Effect) (u : Outcome) (k : ℕ) → Holds k e.flash
-        → ends_at (asked kind) (total board m kind) u k ≡ true → x ≡ over board m kind e u k → Stage kind l n x
+        → ends_at (asked kind) (total board m kind) u k ≡ true → x ≡ over board m kind e u k
+        → Stage kind l n x
 
 -- ---- before the first V
 

@@ -34,7 +34,8 @@ module _ (size : ℕ) (h : Hex) (image map : List ℕ) where
       early (not (right_sizes_in size (length image) (length map))) (not (is_rule_set h.rules)) h.ended
       (not (c == 0x3A))
 
-  long-record : (l : List ℕ) → record_most < length l → record_in size h l image map ≡ early_by (slice_index l 0)
+  long-record : (l : List ℕ) → record_most < length l
+      → record_in size h l image map ≡ early_by (slice_index l 0)
   unfolding first record_in
   long-record l g =
       let some : length l ≡ 0 → ⊥ = λ e. omega arith in
@@ -107,7 +108,8 @@ take-swap m n l =
 
 Held : List ℕ → Text → List ℕ → Type 0
 Held l t line =
-    (t.len ≡ length l) × (t.last ≡ slice_index l (length l - 1)) × (take (length l) line ≡ take (length line) l)
+    (t.len ≡ length l) × (t.last ≡ slice_index l (length l - 1))
+    × (take (length l) line ≡ take (length line) l)
 
 module _ (l : List ℕ) (t : Text) (line : List ℕ) (h : Held l t line) where
   held-length : t.len ≡ length l
@@ -224,7 +226,8 @@ module _ (size : ℕ) where
     unfolding lines_from
     lines-on z = rw z
 
-  fed-on : (s : Fed) (b : ℕ) (text : List ℕ) → came_to size s (b ∷ text) ≡ came_to size (byte_in size s b) text
+  fed-on : (s : Fed) (b : ℕ) (text : List ℕ)
+      → came_to size s (b ∷ text) ≡ came_to size (byte_in size s b) text
   unfolding feed_in
   fed-on s b text = refl
 

@@ -153,7 +153,8 @@ module _ (board : ℕ) (few : board ≤ pages_most) (f : List ℕ) (room : ℕ) 
       (sent-protect board (opened none) f room size fits refl a l 0x0F refl
       ∙ ap (keeping f) (skip 9 _ _ _ refl ∙ stop 7 _ _ _ (le-leb (start_of board + group_size) a h)))
 
-  greets : Greets board f room (answer_bytes board factory_of (given (record { loader = serving; flash = f })))
+  greets : Greets board f room
+      (answer_bytes board factory_of (given (record { loader = serving; flash = f })))
   greets = gives board factory_of (sent-opening board factory_of f room size fits refl)
 
 -- W of 0x0F over 0xF0

@@ -47,7 +47,8 @@ module _ {A : Type 0} (board : ℕ) (l : Loader) (a n : ℕ) (r : Answer A) wher
   erase-inside p q s =
       skip 7 _ _ r
       (either-false (eqb n 0) _ (ne_eqb n 0 p)
-      (either-false (leb (start_of board) a) _ (lt-leb (start_of board) a q) (le-ltb board (page_of a + n) s)))
+      (either-false (leb (start_of board) a) _ (lt-leb (start_of board) a q)
+      (le-ltb board (page_of a + n) s)))
 
   module _ (p : n ≡ 0 → ⊥) (q : a < start_of board) (s : page_of a + n ≤ board) where
     pub erase-protected : protected_pages l.protection (page_of a) (page_of a + n) ≡ true
@@ -150,7 +151,8 @@ module _ (board : ℕ) (l : Loader) (a : ℕ) (d f : List ℕ) where
   unfolding obey_of
   obey-write = refl
 
-  pub obey-verify : obey_of board l verify_byte a d f ≡ keeping f (first (verify_rows board l a d f) (given l))
+  pub obey-verify : obey_of board l verify_byte a d f
+      ≡ keeping f (first (verify_rows board l a d f) (given l))
   unfolding obey_of
   obey-verify = refl
 

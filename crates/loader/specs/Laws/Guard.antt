@@ -49,7 +49,8 @@ module _ (board : ℕ) (l : Loader) (a : ℕ) (f : List ℕ) where
       (sym (held_bytes l.protection a (a + length d) b low high g)
       ∙ (write-let board l a (length d) _ t).2)
 
-  erased-guarded : {A : Type 0} {y : A} (n q : ℕ) → page_of a ≤ q → q < page_of a + n → guarded_page l q ≡ true
+  erased-guarded : {A : Type 0} {y : A} (n q : ℕ) → page_of a ≤ q → q < page_of a + n
+      → guarded_page l q ≡ true
       → (x : Answer A) → first (erase_rows board l a n) x ≡ given y → ⊥
   erased-guarded n q low high g x t =
       true-false

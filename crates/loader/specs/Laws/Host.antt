@@ -51,7 +51,8 @@ module _ (board : ℕ) (l : Loader) (f : List ℕ) (room : ℕ) (size : length f
           → take_of board l (packet verify_byte a d) f room
           ≡ keeping f (first (verify_rows board l a (map turned_of d) f) (given l))
       sent-verify d p q =
-          sent verify_byte a d (read-verify a h d p q) ∙ obey-verify board l a (map (carried_of verify_byte) d) f
+          sent verify_byte a d (read-verify a h d p q)
+          ∙ obey-verify board l a (map (carried_of verify_byte) d) f
 
       -- P, which the host never sends
       pub sent-protect : (t : ℕ) → protect_type t ≡ true
@@ -67,7 +68,8 @@ module _ (board : ℕ) (l : Loader) (f : List ℕ) (room : ℕ) (size : length f
 pub kept : (l : Loader) (f : List ℕ) (x : Answer Loader) → (effect_after l f (keeping f x)).flash ≡ f
 kept l f x = ap (λ (e : Effect). e.flash) (keeping-is l f x)
 
-pub flash-kept : (board : ℕ) (l : Loader) (c a : ℕ) (d f : List ℕ) → (c ≡ erase_byte → ⊥) → (c ≡ write_byte → ⊥)
+pub flash-kept : (board : ℕ) (l : Loader) (c a : ℕ) (d f : List ℕ) → (c ≡ erase_byte → ⊥)
+    → (c ≡ write_byte → ⊥)
     → (effect_after l f (obey_of board l c a d f)).flash ≡ f
 unfolding obey_of
 flash-kept board l c a d f e w =

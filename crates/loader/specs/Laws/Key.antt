@@ -182,7 +182,8 @@ module _ (hide : Loader → Loader) (v : View hide) (l k : Loader) (q : hide l �
         verdict (both-refused n) = refl
         verdict (both-given g e) = refl
 
-        flash : {x y : Answer Effect} → Alike hide x y → (effect_after l f x).flash ≡ (effect_after k f y).flash
+        flash : {x y : Answer Effect} → Alike hide x y
+            → (effect_after l f x).flash ≡ (effect_after k f y).flash
         flash (both-refused n) = refl
         flash (both-given g e) = refl
 

@@ -26,7 +26,8 @@ module _ (board : ℕ) (f : List ℕ) (room : ℕ) where
 
   pub sizes-right : length f ≡ start_of board → answer_most ≤ room → sizes_wrong board f room ≡ false
   sizes-right e h =
-      either-false (not (eqb (length f) (start_of board))) _ (ap not (eq-eqb _ _ e)) (le-ltb room answer_most h)
+      either-false (not (eqb (length f) (start_of board))) _ (ap not (eq-eqb _ _ e))
+      (le-ltb room answer_most h)
 
 module _ (board : ℕ) (l : Loader) (s f : List ℕ) where
   -- ---- by condition

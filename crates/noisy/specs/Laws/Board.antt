@@ -42,7 +42,8 @@ module _ (board : ℕ) (image m : List ℕ) (o : Loss) (z : List ℕ) (x : Noisy
   amid-alike = λ i.
       record { loader = e.loader-is i; flash = e.flash-is i; session = x.session; wire = x.wire }
 
-  pub exchange-alike : plainly (noisy_exchange_of board image m o z x) ≡ exchange_of board image m o (plainly x)
+  pub exchange-alike : plainly (noisy_exchange_of board image m o z x)
+      ≡ exchange_of board image m o (plainly x)
   unfolding noisy_exchange_of exchange_of
   exchange-alike =
       plainly-steps (noisy_between board o z x) (noisy_stepped board image m o z x)

@@ -18,7 +18,8 @@ pub record Ranked (starts : ℕ → Bool) (place rank : ℕ) : Type 0 where
 pub data Out (board : ℕ) (m : List ℕ) (kind : RunKind) (k : ℕ) : Type 0 where
   erases : (q : ℕ) → step_at board m k ≡ erase_at q → Ranked (run_starts board m) q k → k < run_count board m
       → Out board m kind k
-  writes : (a j : ℕ) → step_at board m k ≡ write_at a → Ranked (piece_starts m) a j → k ≡ run_count board m + j
+  writes : (a j : ℕ) → step_at board m k ≡ write_at a → Ranked (piece_starts m) a j
+      → k ≡ run_count board m + j
       → j < piece_count board m → Out board m kind k
   verifies : (a j : ℕ) → step_at board m k ≡ verify_at a → Ranked (piece_starts m) a j
       → k ≡ before_verify board m + j → j < piece_count board m → Out board m kind k

@@ -107,5 +107,6 @@ module _ (board : ℕ) (image m : List ℕ) (kind : RunKind) where
       (arith, ltb-false k (before_r board m) c) in
       let z : k - before_verify board m - piece_count board m ≡ 0 = omega (arith, r-most kind) in
       let t = r-sent kind (omega (arith, ltb-false k (before_r board m) c)) in
-      rw c (part-past (verify_packet image m) (piece_starts m) (start_of board) (k - before_verify board m) _ d kc
+      rw c (part-past (verify_packet image m) (piece_starts m) (start_of board)
+      (k - before_verify board m) _ d kc
       ∙ rw (z, t))))))))

@@ -208,7 +208,8 @@ module _ (board : ℕ) (m : List ℕ) (long : length m ≡ map_bytes board) (som
       decide (ltb (next_run board m q) board)
       (λ d. rw d (follow-ranked (touched m) board board (pages-past board m long) 0
       (some-page board m some) q k h (ltb-true _ _ d)))
-      (λ d. rw d (subst (λ (j : ℕ). ranked (piece_starts m) (run_count board m) (lowest_piece board m) j ≡ true)
+      (λ d. rw d
+      (subst (λ (j : ℕ). ranked (piece_starts m) (run_count board m) (lowest_piece board m) j ≡ true)
       (omega (
         arith,
         follow-last (touched m) board board (pages-past board m long) 0 (some-page board m some) q k h

@@ -98,7 +98,12 @@ reading-one (reading.Packet p) (reading.Packet q) e =
     let g = given-one e in
     let c = command-one p.command q.command (ap (λ (x : Parts). x.command) g) in
     ap reading.Packet
-    (λ i. record { command = c i; address = record { 0 = (g i).address }; at = (g i).place; len = (g i).size })
+    (λ i. record {
+      command = c i;
+      address = record { 0 = (g i).address };
+      at = (g i).place;
+      len = (g i).size;
+    })
 reading-one (reading.Packet p) (reading.Refused y) e = absurd (apart (sym e))
 reading-one (reading.Refused x) (reading.Packet q) e = absurd (apart e)
 reading-one (reading.Refused x) (reading.Refused y) e = ap reading.Refused (refusal-one x y (refused-one e))

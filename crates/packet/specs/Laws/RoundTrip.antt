@@ -114,7 +114,8 @@ module _ (s : List ℕ) (p : Parts) (b : Bytes s) (r : Accepted s p) where
   middle-summed : summed (command s) (address s) (plain_data (parts s) s) ≡ middle
   unfolding middle
   middle-summed =
-      let f = bytes_back (get_or s 4 0) (get_or s 5 0) (get_or s 6 0) (get_or s 7 0) (b 4) (b 5) (b 6) (b 7) in
+      let f = bytes_back (get_or s 4 0) (get_or s 5 0) (get_or s 6 0) (get_or s 7 0) (b 4) (b 5) (b 6)
+      (b 7) in
       λ i. data-length i ∷ command s ∷ (f i ++ body-plain i)
 
   in_order : s ≡ start_byte ∷ next_start_byte ∷ middle ++ (last ∷ [])

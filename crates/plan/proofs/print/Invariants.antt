@@ -1,3 +1,4 @@
+-- What each turn of `print` keeps, and what falls.
 use Rattle.std.proofs.Common.{◌≡◌, ◌-◌, length}
 use Rattle.basis.specs.Board.{pages_of}
 use Rattle.basis.specs.declared.board.Board.{Board}

@@ -187,7 +187,8 @@ module _ (board room : ℕ) (l : Loader) (c : l.condition ≡ Waiting) (f : List
       ∙ rw (take-heard board l (b ∷ []) f room size fits
       ∙ waiting-unheard board l (b ∷ []) f c (ne_eqb b opening_byte n))
 
-  pub all-unheard : (s : List ℕ) (r : Receiver) → ((k : ℕ) → get_or s k 0 ≡ opening_byte → ⊥) → gathered r ≡ []
+  pub all-unheard : (s : List ℕ) (r : Receiver) → ((k : ℕ) → get_or s k 0 ≡ opening_byte → ⊥)
+      → gathered r ≡ []
       → Idles l f [] (all_of board room (record { loader = l; receiver = r }) f s)
   unfolding all_of
   all-unheard [] r n g = record { loader-is = refl; flash-is = refl; answers-is = refl; gathered-is = g }
@@ -221,7 +222,8 @@ module _ (board room : ℕ) (l : Loader) (c : l.condition ≡ Waiting) (f : List
 
   -- a second opening byte changes nothing, whatever rubbish is between
   opens-once : (z : List ℕ) (r : Receiver) → rubbish z ≡ true
-      → Brings board room l f (opening_byte ∷ []) [] (all_of board room (record { loader = l; receiver = r }) f
+      → Brings board room l f (opening_byte ∷ []) []
+      (all_of board room (record { loader = l; receiver = r }) f
       (opening_byte ∷ z ++ (opening_byte ∷ [])))
   opens-once z r e =
       let s = z ++ (opening_byte ∷ []) in
@@ -240,7 +242,8 @@ module _ (board room : ℕ) (l : Loader) (c : l.condition ≡ Waiting) (f : List
 
   -- the opening byte opens the board, also when rubbish came before it
   pub all-opens : (z : List ℕ) (r : Receiver) → rubbish z ≡ true
-      → Brings board room l f (opening_byte ∷ []) [] (all_of board room (record { loader = l; receiver = r }) f
+      → Brings board room l f (opening_byte ∷ []) []
+      (all_of board room (record { loader = l; receiver = r }) f
       (z ++ (opening_byte ∷ [])))
   unfolding all_of
   all-opens [] r e =

@@ -1,3 +1,4 @@
+-- What each turn of `fill` keeps, and what falls.
 use Rattle.std.proofs.Common.{length, ◌-◌, ◌≤◌}
 use Rattle.readlog.proofs.fill.Given as goal
 

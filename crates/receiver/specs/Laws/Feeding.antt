@@ -144,13 +144,15 @@ opened : (n : ℕ) (s : List ℕ) → 5 ≤ n
 unfolding hear
 opened n s h =
     feed-quiet [] (start_byte ∷ []) start_byte (next_start_byte ∷ n ∷ s) refl
-    ∙ ap (before []) (feed-quiet (start_byte ∷ []) (start_byte ∷ next_start_byte ∷ []) next_start_byte (n ∷ s) refl
+    ∙ ap (before [])
+    (feed-quiet (start_byte ∷ []) (start_byte ∷ next_start_byte ∷ []) next_start_byte (n ∷ s) refl
     ∙ ap (before []) (feed-quiet (start_byte ∷ next_start_byte ∷ []) (begun n []) n s
     (hear-count (start_byte ∷ next_start_byte ∷ []) n refl h)))
 
 begins : (x y n : ℕ) (s : List ℕ) → starts_right (x ∷ y ∷ n ∷ s) ≡ true → x ∷ y ∷ n ∷ s ≡ begun n s
 begins x y n s e =
-    let p = (both_true (leb 2 (length (x ∷ y ∷ n ∷ s))) (both (eqb x start_byte) (eqb y next_start_byte)) e).1 in
+    let p = (both_true (leb 2 (length (x ∷ y ∷ n ∷ s)))
+    (both (eqb x start_byte) (eqb y next_start_byte)) e).1 in
     let q = both_true (eqb x start_byte) (eqb y next_start_byte) p in
     rw (eqb-true x start_byte q.0, eqb-true y next_start_byte q.1)
 

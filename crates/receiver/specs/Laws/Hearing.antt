@@ -9,7 +9,8 @@ unfolding hear
 hear-none [] b h = refl
 hear-none (x ∷ g) b h = absurd (omega arith)
 
-pub hear-next : (g : List ℕ) (b : ℕ) → length g ≡ 1 → b ≡ next_start_byte → hear g b ≡ gathering (g ++ (b ∷ []))
+pub hear-next : (g : List ℕ) (b : ℕ) → length g ≡ 1 → b ≡ next_start_byte
+    → hear g b ≡ gathering (g ++ (b ∷ []))
 unfolding hear
 hear-next [] b h e = absurd (omega arith)
 hear-next (x ∷ []) b h e = simp (eq-eqb b next_start_byte e)

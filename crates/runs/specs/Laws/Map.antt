@@ -25,7 +25,8 @@ one_bit : (i j : ℕ) → i < 8 → j < 8 → 2 ^ i / 2 ^ j % 2 ≡ pick (eqb j 
 one_bit i j hi hj =
     eqb→eq (2 ^ i / 2 ^ j % 2) (pick (eqb j i) 1 0)
     (one_of (λ (j : ℕ). eqb (2 ^ i / 2 ^ j % 2) (pick (eqb j i) 1 0)) 8
-    (one_of (λ (i : ℕ). all_below (λ (j : ℕ). eqb (2 ^ i / 2 ^ j % 2) (pick (eqb j i) 1 0)) 8) 8 tt i hi) j hj)
+    (one_of (λ (i : ℕ). all_below (λ (j : ℕ). eqb (2 ^ i / 2 ^ j % 2) (pick (eqb j i) 1 0)) 8) 8 tt i hi)
+    j hj)
 
 -- a bit of an OR with a single bit
 or_at : (x i j : ℕ) → i < 8 → j < 8 → bit (bit_or x (2 ^ i)) j ≡ either (bit x j) (eqb j i)
@@ -118,7 +119,8 @@ pub named-only : (m n : List ℕ) → length m ≡ length n → Bytes m → Byte
 unfolding named
 named-only m n e hm hn h =
     ext_get_or 0 m n e
-    (λ i l. sym (byte-value (get_or m i 0) (hm i)) ∙ value_same _ _ 8 (same i) ∙ byte-value (get_or n i 0) (hn i))
+    (λ i l. sym (byte-value (get_or m i 0) (hm i)) ∙ value_same _ _ 8 (same i)
+    ∙ byte-value (get_or n i 0) (hn i))
   where
     same : (i j : ℕ) → j < 8 → bit (get_or m i 0) j ≡ bit (get_or n i 0) j
     same i j l =

@@ -17,13 +17,15 @@ module _ (m : List ℕ) where
   touched-next : (q : ℕ) → touched m q ≡ ltb (next (named m) (start_of q) page_size) (start_of (q + 1))
   unfolding touched
   touched-next q =
-      any_next (named m) page_size (start_of q) ∙ ap (ltb (next (named m) (start_of q) page_size)) (omega arith)
+      any_next (named m) page_size (start_of q)
+      ∙ ap (ltb (next (named m) (start_of q) page_size)) (omega arith)
 
   -- a touched page holds a named byte
   pub touched-some : (q : ℕ) → touched m q ≡ true
       → (a : ℕ) × (named m a ≡ true) × (start_of q ≤ a) × (a < start_of (q + 1))
   touched-some q h =
-      let l = ltb-true (next (named m) (start_of q) page_size) (start_of (q + 1)) (sym (touched-next q) ∙ h) in (
+      let l = ltb-true (next (named m) (start_of q) page_size) (start_of (q + 1))
+      (sym (touched-next q) ∙ h) in (
         next (named m) (start_of q) page_size,
         next-pass (named m) page_size (start_of q) (omega arith),
         next-ge (named m) page_size (start_of q),

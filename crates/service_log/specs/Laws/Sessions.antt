@@ -275,11 +275,13 @@ module _ (b : Board) (m : List ℕ) (long : length m ≡ map_bytes (pages_of b))
   ended-logged : (o : Outcome) (k : ℕ) → k ≤ total board m kind → ending_for kind o ≡ true
       → is_false_of board (paper_outcome o) k (total board m kind) (named_count board m) ≡ false
       → (let s = session_with board m kind (Phase.Ended o) k in
-      write_of room s ≡ given (record_bytes b (logged_outcome_of s) k (total board m kind) (named_count board m)))
+      write_of room s
+      ≡ given (record_bytes b (logged_outcome_of s) k (total board m kind) (named_count board m)))
   ended-logged o k q t e =
       let s = session_with board m kind (Phase.Ended o) k in
       write-alike room s
-      ∙ rw (board-back b, t) (counts-given b room (paper_outcome o) k (total board m kind) (named_count board m)
+      ∙ rw (board-back b, t)
+      (counts-given b room (paper_outcome o) k (total board m kind) (named_count board m)
       (file-fits k q) e l)
 
   pub came-logged : (s : Session) → Came board m kind s → ended s.phase ≡ true
@@ -299,5 +301,6 @@ module _ (b : Board) (m : List ℕ) (long : length m ≡ map_bytes (pages_of b))
   pub series-logged : (es : List Event)
       → (let s = series board m (at_greeting board m kind) es in ended s.phase ≡ true
       → write_of room s
-      ≡ given (record_bytes b (logged_outcome_of s) s.acknowledged (total board m kind) (named_count board m)))
+      ≡ given (record_bytes b (logged_outcome_of s) s.acknowledged (total board m kind)
+      (named_count board m)))
   series-logged es = came-logged _ (came board m long some kind es)

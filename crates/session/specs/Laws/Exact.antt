@@ -80,7 +80,8 @@ module _ (board : ℕ) (m : List ℕ) (long : length m ≡ map_bytes board) (som
 
 -- ---- and nothing else does
 
-pub fits-came : (board : ℕ) (m : List ℕ) → length m ≡ map_bytes board → (s : Session) → fits_of board m s ≡ true
+pub fits-came : (board : ℕ) (m : List ℕ) → length m ≡ map_bytes board → (s : Session)
+    → fits_of board m s ≡ true
     → (0 < named_count board m) × Came board m s.kind s
 fits-came board m long s h = (f.some, go s.phase refl)
   where

@@ -59,7 +59,8 @@ module _ (t : List ℕ) (w : Sought) where
   -- nothing else is the lowest place
   pub lowest-is : (i : ℕ) → i < places → suits_at t w i ≡ true → ((j : ℕ) → j < i → suits_at t w j ≡ false)
       → lowest_of t w ≡ i
-  lowest-is i h e f = next-only (suits_at t w) places 0 i (omega arith) (omega arith) (λ j g l. f j l) (λ l. e)
+  lowest-is i h e f =
+      next-only (suits_at t w) places 0 i (omega arith) (omega arith) (λ j g l. f j l) (λ l. e)
 
   -- where none suits there is no lowest
   pub lowest-none : NoneSuits t w → lowest_of t w ≡ places

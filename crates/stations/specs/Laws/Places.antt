@@ -18,7 +18,8 @@ use Rattle.stations.specs.declared.table.Standing.{Standing}
 -- ---- places
 
 -- a byte of a place is one of the table
-place_at : (t : List ℕ) (i k : ℕ) → k < place_size → get_or (place_of t i) k 0 ≡ get_or t (place_start i + k) 0
+place_at : (t : List ℕ) (i k : ℕ) → k < place_size
+    → get_or (place_of t i) k 0 ≡ get_or t (place_start i + k) 0
 place_at t i k h = get_or-take place_size (drop (place_start i) t) k 0 h ∙ get_or-drop (place_start i) t k 0
 
 -- each place has its size
@@ -70,7 +71,8 @@ copy-other t i j r e h l n =
     ext_get_or 0 (place_of (copy_of t (place_start i) r) j) (place_of t j) (a ∙ sym (place-length t j e h))
     (λ k q. at k (omega arith))
   where
-    at : (k : ℕ) → k < place_size → get_or (place_of (copy_of t (place_start i) r) j) k 0 ≡ get_or (place_of t j) k 0
+    at : (k : ℕ) → k < place_size
+        → get_or (place_of (copy_of t (place_start i) r) j) k 0 ≡ get_or (place_of t j) k 0
     at k q =
         place_at (copy_of t (place_start i) r) j k q
         ∙ decide (ltb j i)

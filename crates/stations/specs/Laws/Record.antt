@@ -284,7 +284,8 @@ two-same r b x t =
     let n : length r ≡ 9 = rw t at x.size in
     let h = length-bytes r 7 (omega arith) (rw t at x.field) in
     let v : get_or r 2 0 ≡ 2 = eqb-true (get_or r 2 0) 2 (rw t at x.version) in
-    let g : r ≡ 0 ∷ 7 ∷ 2 ∷ get_or r 3 0 ∷ get_or r 4 0 ∷ get_or r 5 0 ∷ get_or r 6 0 ∷ get_or r 7 0 ∷ get_or r 8 0 ∷ [] =
+    let g : r ≡ 0 ∷ 7 ∷ 2 ∷ get_or r 3 0 ∷ get_or r 4 0 ∷ get_or r 5 0 ∷ get_or r 6 0 ∷ get_or r 7 0
+    ∷ get_or r 8 0 ∷ [] =
     row-all 9 0 r n ∙ rw (h.0, h.1, v) in
     let p = high-back (get_or r 3 0) (get_or r 4 0) (b 4) in
     let q = low-back (get_or r 3 0) (get_or r 4 0) (b 4) in

@@ -106,7 +106,8 @@ unfolding record_bytes
 record-length s = length-take-le (size_of s) (bytes_of s) (omega (arith, follows-most (written_version s)))
 
 -- as code has it
-pub record_is : (s : Station) (n : ℕ) (b : List ℕ) → n ≡ size_of s → b ≡ bytes_of s → take n b ≡ record_bytes s
+pub record_is : (s : Station) (n : ℕ) (b : List ℕ) → n ≡ size_of s → b ≡ bytes_of s
+    → take n b ≡ record_bytes s
 unfolding record_bytes
 record_is s n b e f = ap (λ (k : ℕ). take k b) e ∙ ap (take (size_of s)) f
 
@@ -247,7 +248,8 @@ module _ (t : List ℕ) (n : ℕ) where
     unfolding delete_of
     delete-none l = skip 60 _ _ _ (right-table t e₁) ∙ stop 60 _ _ _ (le-leb _ _ l)
 
-    pub delete-given : lowest_of t (Sought.Number n) < places → delete_of t n ≡ given (freed_from t n 0 places)
+    pub delete-given : lowest_of t (Sought.Number n) < places
+        → delete_of t n ≡ given (freed_from t n 0 places)
     unfolding delete_of
     delete-given l = skip 60 _ _ _ (right-table t e₁) ∙ skip 60 _ _ _ (lt-leb _ _ l) ∙ done _
 

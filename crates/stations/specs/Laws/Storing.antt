@@ -195,7 +195,8 @@ module _ (t r : List ℕ) (i : ℕ) (accepted : store_of t r ≡ given i) where
       rw accepted (put-standing t r (fields_of r) i a.size a.read (for-below t _ i a.place))
 
   -- every other place has its bytes as before
-  pub store-rest : (j : ℕ) → j < places → (j ≡ i → ⊥) → place_of (after_store t r (store_of t r)) j ≡ place_of t j
+  pub store-rest : (j : ℕ) → j < places → (j ≡ i → ⊥)
+      → place_of (after_store t r (store_of t r)) j ≡ place_of t j
   store-rest j l n =
       let a = store-tells t r i accepted in
       rw accepted (put_other t i j r a.size l (fits-place r _ a.read) n)

@@ -82,7 +82,8 @@ module _ (m : List ℕ) where
       → named_count station_pages m ≡ 0
   none-touched long l =
       decide (ltb 0 (named_count station_pages m))
-      (λ t. absurd (let b = first-run-below station_pages m long (ltb-true 0 (named_count station_pages m) t) in
+      (λ t. absurd
+      (let b = first-run-below station_pages m long (ltb-true 0 (named_count station_pages m) t) in
       omega arith))
       (λ t. omega (arith, ltb-false 0 (named_count station_pages m) t))
 

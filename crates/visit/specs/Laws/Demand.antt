@@ -42,7 +42,8 @@ module _ (t : List ℕ) (number : ℕ) (s : Station) (found : find_of t number �
   -- what is started is the session of start, and no touched page is out of bounds
   at-station : start_at s image m room ≡ given x
   at-station =
-      sym (ap (λ (a : Answer Station). for_station a (λ (y : Station). start_at y image m room)) found) ∙ begins
+      sym (ap (λ (a : Answer Station). for_station a (λ (y : Station). start_at y image m room)) found)
+      ∙ begins
 
   starts : Starts station_pages image m room kind (record { session = x.session; len = length x.packet })
   starts =

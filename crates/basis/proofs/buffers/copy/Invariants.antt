@@ -1,3 +1,4 @@
+-- What each turn of `copy` keeps, and what falls.
 use Rattle.std.proofs.Common.{◌≡◌, ◌+◌, ◌-◌, ◌≤◌, length, drop}
 use Rattle.basis.specs.Lists.{copy_of}
 use Rattle.basis.proofs.buffers.copy.Given as goal

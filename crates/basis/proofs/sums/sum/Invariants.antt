@@ -1,3 +1,4 @@
+-- What each turn of `sum` keeps, and what falls.
 use Rattle.std.proofs.Common.{◌≡◌, ◌-◌, ◌≤◌, length, take}
 use Rattle.basis.specs.Sums.{sum_of}
 use Rattle.basis.proofs.sums.sum.Given as goal

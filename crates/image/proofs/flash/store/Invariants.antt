@@ -1,3 +1,4 @@
+-- What each turn of `store` keeps, and what falls.
 use Rattle.std.proofs.Common.{◌≡◌, ◌+◌, ◌-◌, ◌≤◌, length, drop}
 use Rattle.image.specs.Flash.{store_of}
 use Rattle.image.proofs.flash.store.Given as goal

@@ -21,7 +21,8 @@ module _ (line old : List ℕ) where
     unfolding first characters_of stored column_of
     no_length e = (rw (colon, e), rw (colon, e))
 
-    module _ (l : length_wrong line ≡ false) (b : List ℕ) (e : b ≡ copy_of old 0 (decoded (drop 1 line))) where
+    module _ (l : length_wrong line ≡ false) (b : List ℕ)
+        (e : b ≡ copy_of old 0 (decoded (drop 1 line))) where
       no_digit : first_bad line < length line → Says (wrong 24 (first_bad line)) b
       unfolding first characters_of column_of
       no_digit d = (rw (colon, l, lt-ltb _ _ d), rw (colon, l) e)
@@ -51,17 +52,21 @@ returns-then-n-eq0 c =
 
 pub returns-then-line-ne58 : goal.returns-then-line-ne58
 returns-then-line-ne58 c =
-    let p = no-colon c.args.line.now c.args.bytes.now (simp (ne_eqb _ _ c.if-n-eq0.false, ne_eqb _ _ c.if-line-ne58.true)) in
+    let p = no-colon c.args.line.now c.args.bytes.now
+    (simp (ne_eqb _ _ c.if-n-eq0.false, ne_eqb _ _ c.if-line-ne58.true)) in
     record { answer = p.0; bytes = p.1 }
 
 pub returns-then-n-lt-SHORTEST : goal.returns-then-n-lt-SHORTEST
 returns-then-n-lt-SHORTEST c =
-    let p = no_length c.args.line.now c.args.bytes.now (colon (goal.at.returns-then-n-lt-SHORTEST c).Else-line-ne58) (simp (lt-ltb _ _ c.if-n-lt-SHORTEST.true)) in
+    let p = no_length c.args.line.now c.args.bytes.now
+    (colon (goal.at.returns-then-n-lt-SHORTEST c).Else-line-ne58)
+    (simp (lt-ltb _ _ c.if-n-lt-SHORTEST.true)) in
     record { answer = p.0; bytes = p.1 }
 
 pub returns-then-n-gt-LONGEST : goal.returns-then-n-gt-LONGEST
 returns-then-n-gt-LONGEST c =
-    let p = no_length c.args.line.now c.args.bytes.now (colon (goal.at.returns-then-n-gt-LONGEST c).Else-line-ne58)
+    let p = no_length c.args.line.now c.args.bytes.now
+    (colon (goal.at.returns-then-n-gt-LONGEST c).Else-line-ne58)
     (simp (le-ltb _ _ c.if-n-lt-SHORTEST.false, lt-ltb _ _ c.if-n-gt-LONGEST.true)) in
     record { answer = p.0; bytes = p.1 }
 
@@ -76,13 +81,15 @@ pub returns-then-bad-n : goal.returns-then-bad-n
 returns-then-bad-n c =
     let decode = c.decode-bad in
     let line = line_at (goal.at.returns-then-bad-n c).Else-n-eq0-2 in
-    let said = no_digit line _ (colon (goal.at.returns-then-bad-n c).Else-line-ne58) (long (goal.at.returns-then-bad-n c).Else-n-eq0-2) _ decode.ensures.bytes
+    let said = no_digit line _ (colon (goal.at.returns-then-bad-n c).Else-line-ne58)
+    (long (goal.at.returns-then-bad-n c).Else-n-eq0-2) _ decode.ensures.bytes
     (omega (arith, c.if-bad-n.true, decode.ensures.place)) in
     record { answer = ap (wrong 24) decode.ensures.place ∙ said.0; bytes = said.1 }
 
 pub returns : goal.returns
 returns c =
     let decode = c.decode-bad in
-    let p = all_digits (line_at (goal.at.returns c).Else-n-eq0-2) c.args.bytes.now (colon (goal.at.returns c).Else-line-ne58) (long (goal.at.returns c).Else-n-eq0-2) _ decode.ensures.bytes
+    let p = all_digits (line_at (goal.at.returns c).Else-n-eq0-2) c.args.bytes.now
+    (colon (goal.at.returns c).Else-line-ne58) (long (goal.at.returns c).Else-n-eq0-2) _ decode.ensures.bytes
     (omega (arith, c.if-bad-n.false, decode.ensures.place)) in
     record { answer = p.0; bytes = p.1 }

@@ -38,4 +38,5 @@ returns-then-sum-ne0 c =
 
 pub returns : goal.returns
 returns c =
-    passes c.args.line.now c.args.bytes.now (counted (goal.at.returns c).Else-n-count) (omega (arith, c.sum.ensures))
+    passes c.args.line.now c.args.bytes.now (counted (goal.at.returns c).Else-n-count)
+    (omega (arith, c.sum.ensures))

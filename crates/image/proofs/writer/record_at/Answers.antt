@@ -12,8 +12,12 @@ few c =
     omega (arith, c.row_len-count.ensures, len-le (named a.map.now) a.place.0 (16 - a.place.0 % 16))
 
 pub slice_bounds-print-end-2 : goal.slice_bounds-print-end-2
-slice_bounds-print-end-2 c = omega (arith, few (goal.at.slice_bounds-print-end-2 c).After-row_len-count, c.requires)
+slice_bounds-print-end-2 c =
+    omega (arith, few (goal.at.slice_bounds-print-end-2 c).After-row_len-count, c.requires)
 
 pub print-length-requires-2 : goal.print-length-requires-2
-print-length-requires-2 c =
-    (simp (length-take, length-drop) (omega (arith, few (goal.at.print-length-requires-2 c).After-row_len-count)), c.requires.3)
+print-length-requires-2 c = (
+  simp (length-take, length-drop)
+      (omega (arith, few (goal.at.print-length-requires-2 c).After-row_len-count)),
+  c.requires.3,
+)

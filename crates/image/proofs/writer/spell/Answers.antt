@@ -6,7 +6,8 @@ use Rattle.image.proofs.writer.spell.Goals as goal
 
 -- one turn, and the end
 module _ (buffer : List ℕ) (a i : ℕ) (s : List ℕ) where
-  spell-turn : (h l : ℕ) → i < length s → h ≡ letter_of (get_or s i 0 / 16) → l ≡ letter_of (get_or s i 0 % 16)
+  spell-turn : (h l : ℕ) → i < length s → h ≡ letter_of (get_or s i 0 / 16)
+      → l ≡ letter_of (get_or s i 0 % 16)
       → copy_of (set (set buffer (a + 2 * i) h) (a + 2 * i + 1) l) (a + 2 * (i + 1)) (spelt (drop (i + 1) s))
       ≡ copy_of buffer (a + 2 * i) (spelt (drop i s))
   unfolding stored spelt

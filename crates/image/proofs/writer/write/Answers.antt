@@ -2,8 +2,7 @@
 use Rattle.std.proofs.Common.{◌≡◌, ℕ, ◌+◌, ◌-◌, ◌<◌, ◌≤◌, true, false, List, [], length, sym, ap, ◌∙◌, arith, le-ltb, lt-ltb, le-leb}
 use borrow.Author.Tests.{lt-leb}
 use Rattle.basis.specs.Board.{pages_of}
-use Rattle.basis.specs.Laws.Units.{sizes-right}
-use Rattle.basis.specs.Units.{start_of, map_bytes, right_sizes_in}
+use Rattle.basis.specs.Units.{start_of, right_sizes_in}
 use Rattle.basis.specs.Refusals.{refused, given, first}
 use Rattle.image.specs.Writer.{text, step, record_at, lowest, step_from, record_room, measured, write_in}
 use Rattle.image.specs.Laws.Writer.{step-told}
@@ -64,11 +63,6 @@ sized : (c : Else-not-right_sizes) → let a = c.args in
     right_sizes_in (start_of (pages_of a.board)) (length a.image.now) (length a.map.now) ≡ true
 sized c = sym c.right_sizes.ensures ∙ c.if-not-right_sizes.false
 
-right : (c : Else-not-right_sizes) → let a = c.args in
-    (length a.image.now ≡ start_of (pages_of a.board))
-    × (length a.map.now ≡ map_bytes (pages_of a.board))
-right c = sizes-right _ _ _ (sized c)
-
 pub returns-then-not-right_sizes : goal.returns-then-not-right_sizes
 returns-then-not-right_sizes c =
     let a = c.args in
@@ -87,7 +81,8 @@ pub returns-then-past-from : goal.returns-then-past-from
 returns-then-past-from c =
     let a = c.args in
     let e = write-above _ a.image.now a.map.now a.from.0 a.upper (length a.buffer.now)
-    (sized (goal.at.returns-then-past-from c).Else-not-right_sizes) c.if-buffer-lt-ROOM.false _ (past-at (goal.at.returns-then-past-from c).Else-not-right_sizes) c.if-past-from.true in
+    (sized (goal.at.returns-then-past-from c).Else-not-right_sizes) c.if-buffer-lt-ROOM.false _
+    (past-at (goal.at.returns-then-past-from c).Else-not-right_sizes) c.if-past-from.true in
     (rw e, rw e)
 
 pub returns-then-past-place : goal.returns-then-past-place
@@ -95,7 +90,8 @@ returns-then-past-place c =
     let a = c.args in
     step-told _ _ _ _ _
     (write-end _ a.image.now a.map.now a.from.0 a.upper (length a.buffer.now)
-    (sized (goal.at.returns-then-past-place c).Else-not-right_sizes) c.if-buffer-lt-ROOM.false _ (past-at (goal.at.returns-then-past-place c).Else-not-right_sizes)
+    (sized (goal.at.returns-then-past-place c).Else-not-right_sizes) c.if-buffer-lt-ROOM.false _
+    (past-at (goal.at.returns-then-past-place c).Else-not-right_sizes)
     c.if-past-from.false _ c.next_named-place.ensures c.if-past-place.true)
     c.print-length.ensures.length c.print-length.ensures.buffer
 
@@ -103,6 +99,7 @@ pub returns : goal.returns
 returns c =
     let a = c.args in
     let e = write-at _ a.image.now a.map.now a.from.0 a.upper (length a.buffer.now)
-    (sized (goal.at.returns c).Else-not-right_sizes) c.if-buffer-lt-ROOM.false _ (past-at (goal.at.returns c).Else-not-right_sizes)
+    (sized (goal.at.returns c).Else-not-right_sizes) c.if-buffer-lt-ROOM.false _
+    (past-at (goal.at.returns c).Else-not-right_sizes)
     c.if-past-from.false _ c.next_named-place.ensures c.if-past-place.false in
     (c.record_at.ensures.0 ∙ ap measured (sym e), rw e c.record_at.ensures.1)

@@ -24,7 +24,8 @@ wired c = sym (length-take-le c.args.link.len c.args.packet.now (fits c))
 pub returns-in-Next : goal.returns-in-Next
 returns-in-Next c =
     let a = c.args in
-    goes (pages_of a.board) a.image.now a.map.now a.loss (moment (goal.at.returns-in-Next c).Start) a.packet.now _
+    goes (pages_of a.board) a.image.now a.map.now a.loss (moment (goal.at.returns-in-Next c).Start)
+    a.packet.now _
     a.answer.now _ _ _ _ _
     c.requires.0.packet-size c.deliver-delivered.ensures c.step_on.ensures.1 _
     (ap paper_stepped (sym c.in-Next.is) ∙ c.step_on.ensures.0)
@@ -32,7 +33,9 @@ returns-in-Next c =
 pub returns-in-Refused : goal.returns-in-Refused
 returns-in-Refused c =
     let a = c.args in
-    keeps (pages_of a.board) a.image.now a.map.now a.loss (moment (goal.at.returns-in-Refused c).Start) a.packet.now _
+    keeps (pages_of a.board) a.image.now a.map.now a.loss (moment (goal.at.returns-in-Refused c).Start)
+    a.packet.now _
     a.answer.now _ _ _ _ _
     c.requires.0.packet-size c.deliver-delivered.ensures c.step_on.ensures.1 _
-    (ap paper_stepped (sym c.in-Refused.is) ∙ c.step_on.ensures.0) (wired (goal.at.returns-in-Refused c).Start)
+    (ap paper_stepped (sym c.in-Refused.is) ∙ c.step_on.ensures.0)
+    (wired (goal.at.returns-in-Refused c).Start)

@@ -1,3 +1,4 @@
+-- What each turn of `drive` keeps, and what falls.
 use Prim.Native.Nat.{◌+◌, ◌-◌, ◌≤◌}
 use mathlib.Core.Path.{◌≡◌}
 use Rattle.basis.specs.Board.{pages_of}

@@ -45,6 +45,12 @@ reach c = (
 pub returns : goal.returns
 unfolding record_line
 returns c =
-    five-fields _ _ _ _ _ _ _ _ _ _ _ _ _ _ _ _ _ _ _ _ _ (c.field-version.ensures.end, (c.field-version.ensures.buffer, c.field-version.ensures.within))
-    (c.field-outcome.ensures.end, (c.field-outcome.ensures.buffer, c.field-outcome.ensures.within)) (c.field-acknowledged.ensures.end, (c.field-acknowledged.ensures.buffer, c.field-acknowledged.ensures.within)) (c.field-total.ensures.end, (c.field-total.ensures.buffer, c.field-total.ensures.within))
-    (c.last_field.ensures.end, (c.last_field.ensures.buffer, c.last_field.ensures.within)) (omega (arith, reach (goal.at.returns c).After-field-total))
+    five-fields _ _ _ _ _ _ _ _ _ _ _ _ _ _ _ _ _ _ _ _ _
+    (c.field-version.ensures.end, (c.field-version.ensures.buffer, c.field-version.ensures.within))
+    (c.field-outcome.ensures.end, (c.field-outcome.ensures.buffer, c.field-outcome.ensures.within)) (
+      c.field-acknowledged.ensures.end,
+      (c.field-acknowledged.ensures.buffer, c.field-acknowledged.ensures.within),
+    )
+    (c.field-total.ensures.end, (c.field-total.ensures.buffer, c.field-total.ensures.within))
+    (c.last_field.ensures.end, (c.last_field.ensures.buffer, c.last_field.ensures.within))
+    (omega (arith, reach (goal.at.returns c).After-field-total))

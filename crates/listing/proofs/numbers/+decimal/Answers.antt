@@ -39,13 +39,19 @@ decimal-end-requires t c = (omega arith, omega (arith, decimal-room c.args.n c.i
 
 pub bounds-buffer-end : goal.bounds-buffer-end
 bounds-buffer-end t c =
-    omega (arith, decimal-room c.args.n c.if-n-lt10.false, c.decimal-end.ensures.end, c.decimal-end.auto.buffer)
+    omega (
+      arith,
+      decimal-room c.args.n c.if-n-lt10.false,
+      c.decimal-end.ensures.end,
+      c.decimal-end.auto.buffer,
+    )
 
 pub returns : goal.returns
 returns t c =
     let g = c.args in
     let p =
-    decimal-next g.buffer.now g.at g.n c.decimal-end.new.buffer c.decimal-end.result (g.at + 20) c.if-n-lt10.false
+    decimal-next g.buffer.now g.at g.n c.decimal-end.new.buffer c.decimal-end.result (g.at + 20)
+    c.if-n-lt10.false
     (decimal-most g.n c.ranges.n.fits)
     (c.decimal-end.ensures.end, (c.decimal-end.ensures.buffer, c.decimal-end.ensures.within))
     in record { end = p.0; buffer = p.1.0; within = p.1.1 }

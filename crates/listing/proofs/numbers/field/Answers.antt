@@ -23,6 +23,7 @@ pub returns : goal.returns
 returns c =
     let a = c.args in
     let p =
-    field_put a.buffer.now a.at a.n a.word.now c.copy.new.buffer c.decimal.new.buffer c.decimal.result c.copy.ensures
+    field_put a.buffer.now a.at a.n a.word.now c.copy.new.buffer c.decimal.new.buffer c.decimal.result
+    c.copy.ensures
     (c.decimal.ensures.end, (c.decimal.ensures.buffer, c.decimal.ensures.within))
     in record { end = p.0; buffer = p.1.0; within = p.1.1 }

@@ -47,5 +47,7 @@ decimal-end-requires c =
 
 pub returns : goal.returns
 returns c =
-    step-put _ _ _ _ _ _ _ _ (c.decimal-end.ensures.end, (c.decimal-end.ensures.buffer, c.decimal-end.ensures.within)) c.command_letter.ensures
+    step-put _ _ _ _ _ _ _ _
+    (c.decimal-end.ensures.end, (c.decimal-end.ensures.buffer, c.decimal-end.ensures.within))
+    c.command_letter.ensures
     c.spell.ensures

@@ -28,6 +28,8 @@ refused-put x old b c d i j k q r s t f g p h fits =
 
 pub returns : goal.returns
 returns c =
-    refused-put _ _ _ _ _ _ _ _ _ _ _ _ (c.field-first.ensures.end, (c.field-first.ensures.buffer, c.field-first.ensures.within)) (c.field-second.ensures.end, (c.field-second.ensures.buffer, c.field-second.ensures.within))
+    refused-put _ _ _ _ _ _ _ _ _ _ _ _
+    (c.field-first.ensures.end, (c.field-first.ensures.buffer, c.field-first.ensures.within))
+    (c.field-second.ensures.end, (c.field-second.ensures.buffer, c.field-second.ensures.within))
     c.number.ensures (c.last_field.ensures.end, (c.last_field.ensures.buffer, c.last_field.ensures.within))
     (omega (arith, c.field-second.ensures.within, c.field-first.ensures.within, c.requires))

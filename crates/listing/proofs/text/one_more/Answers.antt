@@ -4,7 +4,8 @@ use Rattle.listing.specs.Laws.Feed.{more-counted, most-stays}
 use Rattle.listing.proofs.text.one_more.Goals as goal
 
 pub returns-then-n-eq18446744073709551615 : goal.returns-then-n-eq18446744073709551615
-returns-then-n-eq18446744073709551615 c = sym (most-stays _ (omega (arith, c.if-n-eq18446744073709551615.true)))
+returns-then-n-eq18446744073709551615 c =
+    sym (most-stays _ (omega (arith, c.if-n-eq18446744073709551615.true)))
 
 pub returns : goal.returns
 returns c = sym (more-counted _ (omega (arith, c.if-n-eq18446744073709551615.false)))

@@ -14,5 +14,6 @@ returns-in-15 c = λ s f. simp c.in-15.is (c.add.ensures s f)
 pub returns-in_default : goal.returns-in_default
 unfolding protecting
 returns-in_default c =
-    λ s f. simp (ne_eqb _ _ c.in_default.in_default-own.rest.0.1, ne_eqb _ _ c.in_default.in_default-own.rest.1)
+    λ s f. simp
+    (ne_eqb _ _ c.in_default.in_default-own.rest.0.1, ne_eqb _ _ c.in_default.in_default-own.rest.1)
     (c.close.ensures _ s f)

@@ -1,3 +1,4 @@
+-- What each turn of `equals` keeps, and what falls.
 use Prim.Native.Nat.{◌+◌, ◌≤◌, ◌-◌}
 use mathlib.Core.Path.{◌≡◌}
 use lib.ListN.{length, drop}
@@ -6,7 +7,8 @@ use Rattle.loader.proofs.verify.equals.Given as goal
 
 abbrev pub invariant-loop-i : goal.invariant-loop-i
 invariant-loop-i l =
-    (l.i ≤ length l.turned) × (equals_of l.flash l.at l.turned ≡ equals_of l.flash (l.at + l.i) (drop l.i l.turned))
+    (l.i ≤ length l.turned)
+    × (equals_of l.flash l.at l.turned ≡ equals_of l.flash (l.at + l.i) (drop l.i l.turned))
 
 abbrev pub decreases-loop-i : goal.decreases-loop-i
 decreases-loop-i l = length l.turned - l.i

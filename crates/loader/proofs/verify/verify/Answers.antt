@@ -31,13 +31,15 @@ pub returns-then-loader-2 : goal.returns-then-loader-2
 unfolding verify_rows
 returns-then-loader-2 c =
     λ s. refuses (ap (keeping _) (skip _ _ _ _ c.if-loader.false
-    ∙ skip _ _ _ _ (inside (goal.at.returns-then-loader-2 c).Else-past_end) ∙ stop _ _ _ _ c.if-loader-2.true))
+    ∙ skip _ _ _ _ (inside (goal.at.returns-then-loader-2 c).Else-past_end)
+    ∙ stop _ _ _ _ c.if-loader-2.true))
 
 pub returns-then-not-equals : goal.returns-then-not-equals
 unfolding verify_rows
 returns-then-not-equals c =
     λ s. refuses (ap (keeping _) (skip _ _ _ _ c.if-loader.false
-    ∙ skip _ _ _ _ (inside (goal.at.returns-then-not-equals c).Else-past_end) ∙ skip _ _ _ _ c.if-loader-2.false
+    ∙ skip _ _ _ _ (inside (goal.at.returns-then-not-equals c).Else-past_end)
+    ∙ skip _ _ _ _ c.if-loader-2.false
     ∙ stop _ _ _ _ (ap not (sym c.equals.ensures ∙ c.if-not-equals.true))))
 
 pub returns : goal.returns

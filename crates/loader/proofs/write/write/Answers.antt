@@ -62,12 +62,14 @@ returns-then-any c =
     let a = c.args in
     λ s f h. refuses (tabled (goal.at.returns-then-any c).Start s f h
     ∙ write-protected _ a.loader a.packet.address.0 a.packet.len _
-    c.if-loader.false (inside (goal.at.returns-then-any c).Else-past_end) (sym (spanned (goal.at.returns-then-any c).After-any) ∙ c.if-any.true))
+    c.if-loader.false (inside (goal.at.returns-then-any c).Else-past_end)
+    (sym (spanned (goal.at.returns-then-any c).After-any) ∙ c.if-any.true))
 
 pub returns : goal.returns
 returns c =
     let a = c.args in
     λ s f h. accepts (tabled (goal.at.returns c).Start s f h
     ∙ write-passes _ a.loader a.packet.address.0 a.packet.len _
-    c.if-loader.false (inside (goal.at.returns c).Else-past_end) (sym (spanned (goal.at.returns c).After-any) ∙ c.if-any.false))
+    c.if-loader.false (inside (goal.at.returns c).Else-past_end)
+    (sym (spanned (goal.at.returns c).After-any) ∙ c.if-any.false))
     (h, inside (goal.at.returns c).Else-past_end)

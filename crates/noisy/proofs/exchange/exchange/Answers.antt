@@ -15,5 +15,6 @@ pub returns : goal.returns
 returns c =
     let a = c.args in
     exchanges (pages_of a.board) a.image.now a.map.now a.loss a.rubbish.now a.link
-    a.flash.now a.packet.now (fits (goal.at.returns c).Start) c.requires.0.packet-size _ _ _ _ _ _ c.deliver-fed.ensures
+    a.flash.now a.packet.now (fits (goal.at.returns c).Start) c.requires.0.packet-size _ _ _ _ _ _
+    c.deliver-fed.ensures
     c.hear-next.ensures.0 c.hear-next.ensures.1

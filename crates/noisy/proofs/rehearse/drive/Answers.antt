@@ -74,7 +74,8 @@ loop-board-preserved c =
       omega arith,
       c.exchange-link.ensures.moment-is
           ∙ noisy-again (pages_of a.board) a.image.now a.map.now (loss_at a.losses.now)
-          (rubbish_at a.rubbish.now a.each) _ l.i _ _ _ l.invariant.4 (open-yet (goal.at.loop-board-preserved c).In-loop-board)
+          (rubbish_at a.rubbish.now a.each) _ l.i _ _ _ l.invariant.4
+          (open-yet (goal.at.loop-board-preserved c).In-loop-board)
           c.at-loss.ensures
           (end-bytes a.rubbish.now l.at a.each l.invariant.5 _ c.end_of-end.ensures l.i
           l.invariant.6),

@@ -1,3 +1,4 @@
+-- What each turn of `drive` keeps, and what falls.
 use Prim.Native.Nat.{◌+◌, ◌-◌, ◌*◌, ◌≤◌}
 use mathlib.Core.Path.{◌≡◌}
 use lib.ListN.{length, drop}
@@ -12,7 +13,8 @@ abbrev pub invariant-loop-board : goal.invariant-loop-board
 invariant-loop-board l =
     (Lent (pages_of l.board) l.image l.map l.flash l.packet l.answer) × (length l.joined ≡ heard_most)
     × (l.link.len ≤ packet_most) × (l.i ≤ total (pages_of l.board) l.map l.initial.link.session.kind + 1)
-    × (noisy_on l.link l.flash l.packet ≡ noisy_at (pages_of l.board) l.image l.map (loss_at l.losses) (rubbish_at l.rubbish l.each)
+    × (noisy_on l.link l.flash l.packet
+    ≡ noisy_at (pages_of l.board) l.image l.map (loss_at l.losses) (rubbish_at l.rubbish l.each)
     (noisy_on l.initial.link l.initial.flash l.initial.packet) l.i)
     × (l.at ≤ length l.rubbish) × (drop l.at l.rubbish ≡ drop (l.i * l.each) l.rubbish)
 

@@ -35,7 +35,8 @@ pub after_erase-requires : goal.after_erase-requires
 after_erase-requires c = (
   c.requires.0,
   run-below (board (goal.at.after_erase-requires c).Start) c.args.map.now c.requires.0 _
-      (sym (ap (at_start (board (goal.at.after_erase-requires c).Start) c.args.map.now) c.in-Erase.is) ∙ c.requires.1),
+      (sym (ap (at_start (board (goal.at.after_erase-requires c).Start) c.args.map.now) c.in-Erase.is)
+      ∙ c.requires.1),
 )
 
 pub after_write-requires : goal.after_write-requires

@@ -1,3 +1,4 @@
+-- What each turn of `fill` keeps, and what falls.
 use Prim.Native.Nat.{◌≤◌, ◌-◌}
 use mathlib.Core.List.{map}
 use mathlib.Core.Path.{◌≡◌}

@@ -34,7 +34,8 @@ left1 c = skip _ _ _ _ (ap not (sym c.starts_right.ensures ∙ c.if-not-starts_r
 
 left2 : (c : Else-input-le2) → Left 2 c.args.input.now
 unfolding rows
-left2 c = left1 (goal.at.Else-input-le2 c).Else-not-starts_right ∙ skip _ _ _ _ (lt-leb _ _ c.if-input-le2.false)
+left2 c =
+    left1 (goal.at.Else-input-le2 c).Else-not-starts_right ∙ skip _ _ _ _ (lt-leb _ _ c.if-input-le2.false)
 
 left3 : (c : Else-n-lt5) → Left 3 c.args.input.now
 unfolding rows
@@ -47,28 +48,37 @@ left4 c = left3 (goal.at.Else-input-n c).Else-n-lt5 ∙ skip _ _ _ _ (ap not (eq
 
 pub returns-then-not-starts_right : goal.returns-then-not-starts_right
 unfolding read_of rows
-returns-then-not-starts_right c = sym (stop _ _ _ _ (ap not (sym c.starts_right.ensures ∙ c.if-not-starts_right.true)))
+returns-then-not-starts_right c =
+    sym (stop _ _ _ _ (ap not (sym c.starts_right.ensures ∙ c.if-not-starts_right.true)))
 
 pub returns-then-input-le2 : goal.returns-then-input-le2
 unfolding rows
-returns-then-input-le2 c = sym (left1 (goal.at.returns-then-input-le2 c).Else-not-starts_right ∙ stop _ _ _ _ (le-leb _ _ c.if-input-le2.true))
+returns-then-input-le2 c =
+    sym (left1 (goal.at.returns-then-input-le2 c).Else-not-starts_right
+    ∙ stop _ _ _ _ (le-leb _ _ c.if-input-le2.true))
 
 pub returns-then-n-lt5 : goal.returns-then-n-lt5
 unfolding rows
-returns-then-n-lt5 c = sym (left2 (goal.at.returns-then-n-lt5 c).Else-input-le2 ∙ stop _ _ _ _ (lt-ltb _ _ c.if-n-lt5.true))
+returns-then-n-lt5 c =
+    sym (left2 (goal.at.returns-then-n-lt5 c).Else-input-le2 ∙ stop _ _ _ _ (lt-ltb _ _ c.if-n-lt5.true))
 
 pub returns-then-input-n : goal.returns-then-input-n
 unfolding rows
-returns-then-input-n c = sym (left3 (goal.at.returns-then-input-n c).Else-n-lt5 ∙ stop _ _ _ _ (ap not (ne_eqb _ _ c.if-input-n.true)))
+returns-then-input-n c =
+    sym (left3 (goal.at.returns-then-input-n c).Else-n-lt5
+    ∙ stop _ _ _ _ (ap not (ne_eqb _ _ c.if-input-n.true)))
 
 pub returns-then-sum-ne0 : goal.returns-then-sum-ne0
 unfolding rows
 returns-then-sum-ne0 c =
     sym (left4 (goal.at.returns-then-sum-ne0 c).Else-input-n
-    ∙ stop _ _ _ _ (ap not (ne_eqb _ _ (λ z. c.if-sum-ne0.true (sum-handed (goal.at.returns-then-sum-ne0 c).After-sum ∙ z)))))
+    ∙ stop _ _ _ _
+    (ap not (ne_eqb _ _
+    (λ z. c.if-sum-ne0.true (sum-handed (goal.at.returns-then-sum-ne0 c).After-sum ∙ z)))))
 
 pub returns : goal.returns
 unfolding rows
 returns c = c.tabled.ensures
     ∙ sym (left4 (goal.at.returns c).Else-input-n
-    ∙ skip _ _ _ _ (ap not (eq-eqb _ _ (sym (sum-handed (goal.at.returns c).After-sum) ∙ c.if-sum-ne0.false))) ∙ done _)
+    ∙ skip _ _ _ _ (ap not (eq-eqb _ _ (sym (sum-handed (goal.at.returns c).After-sum) ∙ c.if-sum-ne0.false)))
+    ∙ done _)

@@ -18,7 +18,8 @@ unfolding first
 in_row c n t v true e l s = simp (e, l, s)
 in_row c n t v false e l s = simp (e, l, s)
 
-unlisted : (c : ℕ) → (c ≡ erase_byte → ⊥) → (c ≡ write_byte → ⊥) → (c ≡ verify_byte → ⊥) → (c ≡ protect_byte → ⊥)
+unlisted : (c : ℕ) → (c ≡ erase_byte → ⊥) → (c ≡ write_byte → ⊥) → (c ≡ verify_byte → ⊥)
+    → (c ≡ protect_byte → ⊥)
     → (c ≡ run_byte → ⊥)
     → listed c ≡ false
 unlisted c e w v p r = simp (ne_eqb _ _ e, ne_eqb _ _ w, ne_eqb _ _ v, ne_eqb _ _ p, ne_eqb _ _ r)

@@ -1,3 +1,4 @@
+-- What each turn of `bytes` keeps, and what falls.
 use Prim.Native.Nat.{◌-◌, ◌≤◌}
 use mathlib.Core.Path.{◌≡◌}
 use Rattle.plain.specs.List.{walk_at}

@@ -1,3 +1,4 @@
+-- What each turn of `named_bytes` keeps, and what falls.
 use Prim.Native.Nat.{◌-◌, ◌≤◌}
 use mathlib.Core.Path.{◌≡◌}
 use Rattle.runs.specs.Map.{named}

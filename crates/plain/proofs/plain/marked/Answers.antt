@@ -32,7 +32,8 @@ returns-then-not-named c = mark-unnamed _ _ _ _ (sym c.named.ensures ∙ c.if-no
 
 pub bytes-writes-requires : goal.bytes-writes-requires
 bytes-writes-requires c =
-    let few = lists.erases-most _ (some (goal.at.bytes-writes-requires c).After-pages-erases) _ _ c.pages-erases.ensures in (
+    let few = lists.erases-most _ (some (goal.at.bytes-writes-requires c).After-pages-erases) _ _
+    c.pages-erases.ensures in (
       omega (arith, c.end-end.ensures.0, c.requires),
       omega (arith, c.end-end.ensures.0, pages-few c.args.board),
       omega (arith, pages-few c.args.board),
@@ -40,7 +41,8 @@ bytes-writes-requires c =
 
 pub bytes-verifies-requires : goal.bytes-verifies-requires
 bytes-verifies-requires c = let below = c.if-end-address.false in
-    let few = lists.writes-most _ (some (goal.at.bytes-verifies-requires c).After-pages-erases) _ _ c.pages-erases.ensures (writes (goal.at.bytes-verifies-requires c).After-bytes-writes) in (
+    let few = lists.writes-most _ (some (goal.at.bytes-verifies-requires c).After-pages-erases) _ _
+    c.pages-erases.ensures (writes (goal.at.bytes-verifies-requires c).After-bytes-writes) in (
       omega (arith, c.end-end.ensures.0, c.requires),
       omega (arith, c.end-end.ensures.0, pages-few c.args.board),
       omega (arith, pages-few c.args.board),
@@ -50,4 +52,9 @@ pub returns : goal.returns
 returns c = let n = walk-number _ _ _ _ (omega arith) _ c.bytes-verifies.ensures in
     mark-by _ _ _ _ (sym c.named.ensures ∙ c.if-not-named.false)
     {n = c.bytes-verifies.result.number}
-    (omega (arith, n, lists.writes_end _ (some (goal.at.returns c).After-pages-erases) _ _ c.pages-erases.ensures (writes (goal.at.returns c).After-bytes-writes)))
+    (omega (
+      arith,
+      n,
+      lists.writes_end _ (some (goal.at.returns c).After-pages-erases) _ _ c.pages-erases.ensures
+          (writes (goal.at.returns c).After-bytes-writes),
+    ))

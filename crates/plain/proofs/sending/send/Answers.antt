@@ -62,19 +62,25 @@ put_erase-requires c =
     )
 
 pub piece_len-requires : goal.piece_len-requires
-piece_len-requires c =
-    (c.requires.1, piece-below _ _ c.requires.1 _ (at-start (goal.at.piece_len-requires c).Start c.in-Write.is))
+piece_len-requires c = (
+  c.requires.1,
+  piece-below _ _ c.requires.1 _ (at-start (goal.at.piece_len-requires c).Start c.in-Write.is),
+)
 
 pub put_piece-requires : goal.put_piece-requires
 put_piece-requires c =
-    piece (goal.at.put_piece-requires c).Start write_byte _ _ refl (at-start (goal.at.put_piece-requires c).Start c.in-Write.is)
+    piece (goal.at.put_piece-requires c).Start write_byte _ _ refl
+    (at-start (goal.at.put_piece-requires c).Start c.in-Write.is)
     c.piece_len.ensures
 
 pub piece_len-requires-in-Verify : goal.piece_len-requires-in-Verify
-piece_len-requires-in-Verify c =
-    (c.requires.1, piece-below _ _ c.requires.1 _ (at-start (goal.at.piece_len-requires-in-Verify c).Start c.in-Verify.is))
+piece_len-requires-in-Verify c = (
+  c.requires.1,
+  piece-below _ _ c.requires.1 _ (at-start (goal.at.piece_len-requires-in-Verify c).Start c.in-Verify.is),
+)
 
 pub put_piece-requires-in-Verify : goal.put_piece-requires-in-Verify
 put_piece-requires-in-Verify c =
-    piece (goal.at.put_piece-requires-in-Verify c).Start verify_byte _ _ refl (at-start (goal.at.put_piece-requires-in-Verify c).Start c.in-Verify.is)
+    piece (goal.at.put_piece-requires-in-Verify c).Start verify_byte _ _ refl
+    (at-start (goal.at.put_piece-requires-in-Verify c).Start c.in-Verify.is)
     c.piece_len-in-Verify.ensures

@@ -19,7 +19,8 @@ send-requires c = let a = c.args in
       c.requires.0,
       c.requires.1,
       c.requires.2,
-      rw (step_is (goal.at.send-requires c).After-list-listed) (stands-start (pages_of a.board) a.map.now c.requires.1 a.kind _ a.due h),
+      rw (step_is (goal.at.send-requires c).After-list-listed)
+          (stands-start (pages_of a.board) a.map.now c.requires.1 a.kind _ a.due h),
     )
 
 pub returns : goal.returns

@@ -16,13 +16,16 @@ turn c x =
     through (pages_of a.board) (length a.answer.now) a.loader a.flash.now x
 
 -- it is the turn of what the receiver made of the bytes
-came : (c : After-bytes-stretch) → turn (goal.at.After-bytes-stretch c).Start (bytes_of c.args.receiver c.args.bytes.now) ≡ turn (goal.at.After-bytes-stretch c).Start c.bytes-stretch.result
+came : (c : After-bytes-stretch)
+    → turn (goal.at.After-bytes-stretch c).Start (bytes_of c.args.receiver c.args.bytes.now)
+    ≡ turn (goal.at.After-bytes-stretch c).Start c.bytes-stretch.result
 came c = ap (turn (goal.at.After-bytes-stretch c).Start) (sym c.bytes-stretch.ensures.0)
 
 pub returns-then-packet-eq0 : goal.returns-then-packet-eq0
 returns-then-packet-eq0 c =
     let a = c.args in
     serves-as
-    (came (goal.at.returns-then-packet-eq0 c).After-bytes-stretch ∙ through-none (pages_of a.board) (length a.answer.now) a.loader a.flash.now
+    (came (goal.at.returns-then-packet-eq0 c).After-bytes-stretch
+    ∙ through-none (pages_of a.board) (length a.answer.now) a.loader a.flash.now
     c.bytes-stretch.result c.if-packet-eq0.true)
     (c.still.ensures a.flash.now a.answer.now)

@@ -1,3 +1,4 @@
+-- What each turn of `page_row_len` keeps, and what falls.
 use Prim.Native.Nat.{◌+◌, ◌-◌, ◌≤◌}
 use mathlib.Core.Path.{◌≡◌}
 use Rattle.runs.specs.Pages.{touched}
@@ -6,7 +7,8 @@ use Rattle.runs.proofs.pages.page_row_len.Given as goal
 
 abbrev pub invariant-loop-n : goal.invariant-loop-n
 invariant-loop-n l =
-    (l.n ≤ l.cap) × (len (touched l.map) l.start l.cap ≡ l.n + len (touched l.map) (l.start + l.n) (l.cap - l.n))
+    (l.n ≤ l.cap)
+    × (len (touched l.map) l.start l.cap ≡ l.n + len (touched l.map) (l.start + l.n) (l.cap - l.n))
 
 abbrev pub decreases-loop-n : goal.decreases-loop-n
 decreases-loop-n l = l.cap - l.n

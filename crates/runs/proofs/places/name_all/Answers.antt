@@ -9,7 +9,8 @@ use Rattle.runs.proofs.places.name_all.Goals as goal
 
 -- one turn, and the end
 module _ (map : List ℕ) (a i n : ℕ) where
-  turn : i < n → name_all_of (name_of map (a + i)) (a + (i + 1)) (n - (i + 1)) ≡ name_all_of map (a + i) (n - i)
+  turn : i < n
+      → name_all_of (name_of map (a + i)) (a + (i + 1)) (n - (i + 1)) ≡ name_all_of map (a + i) (n - i)
   unfolding name_all_of
   turn h = let e : n - i ≡ suc (n - (i + 1)) = omega arith in rw (← add_assoc a i 1, e)
 

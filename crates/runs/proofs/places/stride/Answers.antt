@@ -1,9 +1,8 @@
 -- `stride` meets its contract: past the map nothing is named; 0xFF names eight.
-use Prim.Native.Nat.{ℕ, zero, suc, ◌+◌, ◌/◌, ◌%◌, ◌^◌, ◌≤◌, ◌<◌}
+use Prim.Native.Nat.{ℕ, ◌+◌, ◌/◌, ◌%◌, ◌^◌, ◌≤◌, ◌<◌}
 use mathlib.Core.Bool.{true, false}
 use mathlib.Core.List.{List}
 use mathlib.Core.Path.{◌≡◌}
-use native.Mathlib.Nat.{add-zero}
 use native.Mathlib.Omega.{arith}
 use borrow.Author.Tests.{eq-eqb}
 use Rattle.std.proofs.Common.{rules}
@@ -17,13 +16,6 @@ use Rattle.runs.proofs.places.stride.Goals as goal
 module _ (m : List ℕ) (a most : ℕ) where
   ended : named m a ≡ false → Stride m a most 0
   ended e = (omega arith, λ i h. absurd (omega arith), λ z. e)
-
-  one : 0 < most → named m a ≡ true → Stride m a most 1
-  one h e = (omega arith, here, λ z. absurd (omega arith))
-    where
-      here : (i : ℕ) → i < 1 → named m (a + i) ≡ true
-      here zero l = rw add-zero e
-      here (suc i) l = absurd (omega arith)
 
   -- all eight bits of 0xFF
   full : (k : ℕ) → k < 8 → bit 0xFF k ≡ true

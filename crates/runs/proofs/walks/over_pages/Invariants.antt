@@ -1,3 +1,4 @@
+-- What each turn of `over_pages` keeps, and what falls.
 use Prim.Native.Nat.{◌-◌, ◌≤◌}
 use mathlib.Core.Path.{◌≡◌}
 use Rattle.basis.specs.Units.{start_of}

@@ -39,5 +39,8 @@ overflow_add-n-in-loop-i c =
 
 pub loop-i-preserved : goal.loop-i-preserved
 unfolding big_at
-loop-i-preserved c =
-    (omega arith, more _ _ _ c.loop-i.invariant.1 (byte (goal.at.loop-i-preserved c).After-shared_slice_known-1), rw (add-one, c.loop-i.invariant.2))
+loop-i-preserved c = (
+  omega arith,
+  more _ _ _ c.loop-i.invariant.1 (byte (goal.at.loop-i-preserved c).After-shared_slice_known-1),
+  rw (add-one, c.loop-i.invariant.2),
+)

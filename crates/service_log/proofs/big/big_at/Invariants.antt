@@ -1,3 +1,4 @@
+-- What each turn of `big_at` keeps, and what falls.
 use Prim.Native.Nat.{◌≤◌, ◌<◌, ◌-◌, ◌^◌}
 use mathlib.Core.Path.{◌≡◌}
 use Rattle.service_log.specs.Big.{big_at}

@@ -26,14 +26,16 @@ returns-then-version-right c =
 
 pub returns-then-is_false : goal.returns-then-is_false
 returns-then-is_false c =
-    sym (read-false _ _ (sized (goal.at.returns-then-is_false c).Else-input-size) (versioned (goal.at.returns-then-is_false c).Else-version-right)
+    sym (read-false _ _ (sized (goal.at.returns-then-is_false c).Else-input-size)
+    (versioned (goal.at.returns-then-is_false c).Else-version-right)
     c.count_bytes-width.ensures.0 c.big_at-acknowledged.ensures
     c.big_at-total.ensures c.big_at-bytes.ensures
     (sym c.is_false.ensures ∙ c.if-is_false.true))
 
 pub returns : goal.returns
 returns c =
-    sym (read-given _ _ (sized (goal.at.returns c).Else-input-size) (versioned (goal.at.returns c).Else-version-right)
+    sym (read-given _ _ (sized (goal.at.returns c).Else-input-size)
+    (versioned (goal.at.returns c).Else-version-right)
     c.count_bytes-width.ensures.0 c.big_at-acknowledged.ensures
     c.big_at-total.ensures c.big_at-bytes.ensures
     (sym c.is_false.ensures ∙ c.if-is_false.false))

@@ -20,7 +20,10 @@ narrow : (c : Else-not-counts_fit)
 narrow c = sym (counted (goal.at.Else-not-counts_fit c).After-counts_fit) ∙ c.if-not-counts_fit.false
 
 pub returns-then-not-counts_fit : goal.returns-then-not-counts_fit
-returns-then-not-counts_fit c = leaves _ (counts-wide _ _ _ _ _ _ (sym (counted (goal.at.returns-then-not-counts_fit c).After-counts_fit) ∙ c.if-not-counts_fit.true))
+returns-then-not-counts_fit c =
+    leaves _
+    (counts-wide _ _ _ _ _ _
+    (sym (counted (goal.at.returns-then-not-counts_fit c).After-counts_fit) ∙ c.if-not-counts_fit.true))
 
 pub returns-then-is_false : goal.returns-then-is_false
 returns-then-is_false c =

@@ -37,12 +37,15 @@ returns-then-not-named c =
 pub overflow_add-pieces : goal.overflow_add-pieces
 overflow_add-pieces c = omega (
   arith,
-  rank-few (board (goal.at.overflow_add-pieces c).After-survey-found) (few (goal.at.overflow_add-pieces c).After-survey-found) c.args.map.now c.args.address.0 c.survey-found.ensures
+  rank-few (board (goal.at.overflow_add-pieces c).After-survey-found)
+      (few (goal.at.overflow_add-pieces c).After-survey-found) c.args.map.now c.args.address.0
+      c.survey-found.ensures
       c.one.ensures (below (goal.at.overflow_add-pieces c).After-survey-found),
 )
 
 pub before_verify-requires : goal.before_verify-requires
-before_verify-requires c = let t = told (board (goal.at.before_verify-requires c).After-survey-found) (few (goal.at.before_verify-requires c).After-survey-found) c.args.map.now c.args.address.0
+before_verify-requires c = let t = told (board (goal.at.before_verify-requires c).After-survey-found)
+    (few (goal.at.before_verify-requires c).After-survey-found) c.args.map.now c.args.address.0
     c.survey-found.ensures in
     (t.runs-few, t.pieces-few)
 
@@ -51,13 +54,17 @@ overflow_add-result c = let m = c.args.map.now in
     let a = c.args.address.0 in
     omega (
       arith,
-      told (board (goal.at.overflow_add-result c).After-survey-found) (few (goal.at.overflow_add-result c).After-survey-found) m a c.survey-found.ensures,
-      rank-few (board (goal.at.overflow_add-result c).After-survey-found) (few (goal.at.overflow_add-result c).After-survey-found) m a c.survey-found.ensures c.one.ensures (below (goal.at.overflow_add-result c).After-survey-found),
+      told (board (goal.at.overflow_add-result c).After-survey-found)
+          (few (goal.at.overflow_add-result c).After-survey-found) m a c.survey-found.ensures,
+      rank-few (board (goal.at.overflow_add-result c).After-survey-found)
+          (few (goal.at.overflow_add-result c).After-survey-found) m a c.survey-found.ensures c.one.ensures
+          (below (goal.at.overflow_add-result c).After-survey-found),
       below (goal.at.overflow_add-result c).After-survey-found,
       few (goal.at.overflow_add-result c).After-survey-found,
       c.before_verify.ensures,
     )
 
 pub returns : goal.returns
-returns c = mark-ranked _ _ _ _ (few (goal.at.returns c).After-survey-found) c.survey-found.ensures c.one.ensures
+returns c =
+    mark-ranked _ _ _ _ (few (goal.at.returns c).After-survey-found) c.survey-found.ensures c.one.ensures
     c.before_verify.ensures (is-named (goal.at.returns c).After-survey-found)

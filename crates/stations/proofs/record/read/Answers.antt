@@ -39,16 +39,20 @@ returns-then-length-follows c =
 
 pub returns-then-input-length : goal.returns-then-input-length
 returns-then-input-length c =
-    sym (read-cut _ c.if-input-lt3.false (known (goal.at.returns-then-input-length c).Else-not-is_version) (right (goal.at.returns-then-input-length c).Else-length-follows)
+    sym (read-cut _ c.if-input-lt3.false (known (goal.at.returns-then-input-length c).Else-not-is_version)
+    (right (goal.at.returns-then-input-length c).Else-length-follows)
     (λ q. c.if-input-length.true (rw (← c.pair_at-length.ensures) at q)))
 
 pub returns-then-out_of_range : goal.returns-then-out_of_range
 returns-then-out_of_range c =
-    sym (read-wrong _ c.if-input-lt3.false (known (goal.at.returns-then-out_of_range c).Else-not-is_version) (right (goal.at.returns-then-out_of_range c).Else-length-follows) (whole (goal.at.returns-then-out_of_range c).Else-input-length)
+    sym (read-wrong _ c.if-input-lt3.false (known (goal.at.returns-then-out_of_range c).Else-not-is_version)
+    (right (goal.at.returns-then-out_of_range c).Else-length-follows)
+    (whole (goal.at.returns-then-out_of_range c).Else-input-length)
     (rw c.fields-station.ensures at (sym c.out_of_range.ensures ∙ c.if-out_of_range.true)))
 
 pub returns : goal.returns
 returns c =
     ap given c.fields-station.ensures
-    ∙ sym (read_right _ c.if-input-lt3.false (known (goal.at.returns c).Else-not-is_version) (right (goal.at.returns c).Else-length-follows) (whole (goal.at.returns c).Else-input-length)
+    ∙ sym (read_right _ c.if-input-lt3.false (known (goal.at.returns c).Else-not-is_version)
+    (right (goal.at.returns c).Else-length-follows) (whole (goal.at.returns c).Else-input-length)
     (rw c.fields-station.ensures at (sym c.out_of_range.ensures ∙ c.if-out_of_range.false)))

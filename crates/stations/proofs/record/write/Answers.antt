@@ -28,7 +28,10 @@ sound : (c : Else-out_of_range) → out_of_range c.args.station ≡ false
 sound c = sym c.out_of_range.ensures ∙ c.if-out_of_range.false
 
 pub returns-then-buffer-size : goal.returns-then-buffer-size
-returns-then-buffer-size c = leaves _ (write-small _ _ (rw (sized (goal.at.returns-then-buffer-size c).After-follows-size) at c.if-buffer-size.true))
+returns-then-buffer-size c =
+    leaves _
+    (write-small _ _
+    (rw (sized (goal.at.returns-then-buffer-size c).After-follows-size) at c.if-buffer-size.true))
 
 pub returns-then-not-is_version : goal.returns-then-not-is_version
 returns-then-not-is_version c =
@@ -37,7 +40,9 @@ returns-then-not-is_version c =
 
 pub returns-then-out_of_range : goal.returns-then-out_of_range
 returns-then-out_of_range c =
-    leaves _ (write-wrong _ _ (fits (goal.at.returns-then-out_of_range c).Else-buffer-size) (known (goal.at.returns-then-out_of_range c).Else-not-is_version)
+    leaves _
+    (write-wrong _ _ (fits (goal.at.returns-then-out_of_range c).Else-buffer-size)
+    (known (goal.at.returns-then-out_of_range c).Else-not-is_version)
     (sym c.out_of_range.ensures ∙ c.if-out_of_range.true))
 
 pub bytes_of-bytes-requires : goal.bytes_of-bytes-requires
@@ -54,7 +59,9 @@ bytes_of-bytes-requires c =
 pub returns : goal.returns
 returns c =
     let s = sized (goal.at.returns c).After-follows-size in
-    writes _ _ (write-right _ _ (fits (goal.at.returns c).Else-buffer-size) (known (goal.at.returns c).Else-not-is_version) (sound (goal.at.returns c).Else-out_of_range))
+    writes _ _
+    (write-right _ _ (fits (goal.at.returns c).Else-buffer-size)
+    (known (goal.at.returns c).Else-not-is_version) (sound (goal.at.returns c).Else-out_of_range))
     (s ∙ sym (record-length _))
     (c.write.ensures
     ∙ ap (λ (x : List ℕ). overlay x c.args.buffer.now)

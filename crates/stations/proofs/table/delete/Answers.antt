@@ -8,7 +8,8 @@ returns-then-table-ne-TABLE c = rw (delete-size _ _ c.if-table-ne-TABLE.true) (r
 
 pub returns-then-lowest-ge-PLACES : goal.returns-then-lowest-ge-PLACES
 returns-then-lowest-ge-PLACES c =
-    rw (delete-none _ _ c.if-table-ne-TABLE.false (rw c.lowest.ensures at c.if-lowest-ge-PLACES.true)) (refl, refl)
+    rw (delete-none _ _ c.if-table-ne-TABLE.false (rw c.lowest.ensures at c.if-lowest-ge-PLACES.true))
+    (refl, refl)
 
 pub returns : goal.returns
 returns c =

@@ -7,7 +7,8 @@ pub returns-then-table-ne-TABLE : goal.returns-then-table-ne-TABLE
 returns-then-table-ne-TABLE c = rw (free-size _ _ c.if-table-ne-TABLE.true) (refl, refl)
 
 pub returns-then-place-ge-PLACES : goal.returns-then-place-ge-PLACES
-returns-then-place-ge-PLACES c = rw (free-past _ _ c.if-table-ne-TABLE.false c.if-place-ge-PLACES.true) (refl, refl)
+returns-then-place-ge-PLACES c =
+    rw (free-past _ _ c.if-table-ne-TABLE.false c.if-place-ge-PLACES.true) (refl, refl)
 
 pub returns-then-suits_at : goal.returns-then-suits_at
 returns-then-suits_at c =

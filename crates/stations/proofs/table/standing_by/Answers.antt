@@ -24,7 +24,8 @@ told : (c : After-read)
     standing_of p ≡ standing_by (paper_reading c.read.result)
 told c =
     let p = c.args.place.now in
-    standing-told p (used (goal.at.After-read c).After-pair_at) (sym (behind (goal.at.After-read c).After-is_blank-2) ∙ c.if-not-is_blank.false)
+    standing-told p (used (goal.at.After-read c).After-pair_at)
+    (sym (behind (goal.at.After-read c).After-is_blank-2) ∙ c.if-not-is_blank.false)
     ∙ ap standing_by (sym (c.read.ensures
     ∙ ap read_of (c.first.ensures
     ∙ ap (λ (n : ℕ). take (2 + n) p) c.pair_at.ensures)))

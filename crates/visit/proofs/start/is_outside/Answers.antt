@@ -19,7 +19,8 @@ found c = c.next_touched-lowest.ensures
 pub returns-then-lowest-first : goal.returns-then-lowest-first
 returns-then-lowest-first c =
     let r = ranges (goal.at.returns-then-lowest-first c).After-next_touched-lowest in
-    lowest-outside _ _ (omega (arith, r.first, r.last)) (rw (found (goal.at.returns-then-lowest-first c).After-next_touched-lowest) at c.if-lowest-first.true)
+    lowest-outside _ _ (omega (arith, r.first, r.last))
+    (rw (found (goal.at.returns-then-lowest-first c).After-next_touched-lowest) at c.if-lowest-first.true)
 
 pub overflow_add-last : goal.overflow_add-last
 overflow_add-last c =
@@ -28,4 +29,5 @@ overflow_add-last c =
 pub returns : goal.returns
 returns c =
     ap (λ (n : ℕ). ltb n station_pages) c.next_touched-above.ensures
-    ∙ above-outside _ _ (omega (arith, (ranges (goal.at.returns c).After-next_touched-lowest).last)) (rw (found (goal.at.returns c).After-next_touched-lowest) at c.if-lowest-first.false)
+    ∙ above-outside _ _ (omega (arith, (ranges (goal.at.returns c).After-next_touched-lowest).last))
+    (rw (found (goal.at.returns c).After-next_touched-lowest) at c.if-lowest-first.false)

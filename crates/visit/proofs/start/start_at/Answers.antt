@@ -38,7 +38,10 @@ found : (c : After-next_touched-lowest)
 found c = c.next_touched-lowest.ensures
 
 some : (c : Else-lowest-ge-SHORT_PAGES) → named_count station_pages c.args.map.now ≡ 0 → ⊥
-some c = some-named _ (rw (found (goal.at.Else-lowest-ge-SHORT_PAGES c).After-next_touched-lowest) at c.if-lowest-ge-SHORT_PAGES.false)
+some c =
+    some-named _
+    (rw (found (goal.at.Else-lowest-ge-SHORT_PAGES c).After-next_touched-lowest)
+    at c.if-lowest-ge-SHORT_PAGES.false)
 
 inside : (c : Else-is_outside)
     → let a = c.args in outside a.station a.map.now ≡ false
@@ -49,7 +52,8 @@ module _ (image m old : List ℕ) (r : Answer Next) (after : List ℕ) where
   abbrev Shows : Answer Sent → Type 0
   Shows a = (r ≡ measured a) × (after ≡ overlay (sent_bytes a) old)
 
-  shown : {k kind : RunKind} {a : Answer Sent} → k ≡ kind → a ≡ started station_pages image m (length old) kind
+  shown : {k kind : RunKind} {a : Answer Sent} → k ≡ kind
+      → a ≡ started station_pages image m (length old) kind
       → Shows (started station_pages image m (length old) k)
       → Shows a
   shown e f h =
@@ -62,16 +66,21 @@ returns-then-not-right_sizes c =
 pub returns-then-lowest-ge-SHORT_PAGES : goal.returns-then-lowest-ge-SHORT_PAGES
 returns-then-lowest-ge-SHORT_PAGES c =
     left_alone _ (at-empty _ _ _ _ (sized (goal.at.returns-then-lowest-ge-SHORT_PAGES c).Else-not-right_sizes)
-    (none-touched _ (long (goal.at.returns-then-lowest-ge-SHORT_PAGES c).Else-not-right_sizes) (rw (found (goal.at.returns-then-lowest-ge-SHORT_PAGES c).After-next_touched-lowest) at c.if-lowest-ge-SHORT_PAGES.true)))
+    (none-touched _ (long (goal.at.returns-then-lowest-ge-SHORT_PAGES c).Else-not-right_sizes)
+    (rw (found (goal.at.returns-then-lowest-ge-SHORT_PAGES c).After-next_touched-lowest)
+    at c.if-lowest-ge-SHORT_PAGES.true)))
 
 pub returns-then-is_outside : goal.returns-then-is_outside
 returns-then-is_outside c =
-    left_alone _ (at-outside _ _ _ _ (sized (goal.at.returns-then-is_outside c).Else-not-right_sizes) (some (goal.at.returns-then-is_outside c).Else-lowest-ge-SHORT_PAGES)
+    left_alone _
+    (at-outside _ _ _ _ (sized (goal.at.returns-then-is_outside c).Else-not-right_sizes)
+    (some (goal.at.returns-then-is_outside c).Else-lowest-ge-SHORT_PAGES)
     (sym c.is_outside.ensures ∙ c.if-is_outside.true))
 
 pub returns : goal.returns
 returns c =
     let a = c.args in
     shown a.image.now a.map.now a.buffer.now _ _ c.of-kind.ensures
-    (at-inside _ _ _ _ (sized (goal.at.returns c).Else-not-right_sizes) (some (goal.at.returns c).Else-lowest-ge-SHORT_PAGES) (inside (goal.at.returns c).Else-is_outside))
+    (at-inside _ _ _ _ (sized (goal.at.returns c).Else-not-right_sizes)
+    (some (goal.at.returns c).Else-lowest-ge-SHORT_PAGES) (inside (goal.at.returns c).Else-is_outside))
     c.start.ensures

@@ -43,7 +43,8 @@ framed c =
     (sym (ap paper_check c.in_default.is) ∙ c.framing-framed.ensures)
 
 -- the shape's word on the line
-judged : (c : After-shape-shaped) → paper_check c.shape-shaped.result ≡ pointed c.args.line.now (shape_of c.args.bytes.now)
+judged : (c : After-shape-shaped)
+    → paper_check c.shape-shaped.result ≡ pointed c.args.line.now (shape_of c.args.bytes.now)
 judged c = c.shape-shaped.ensures c.args.line.now c.requires.0
 
 shaped : (c : In_default-shaped) → shape_of c.args.bytes.now ≡ given tt
@@ -64,7 +65,8 @@ returns-in-Refused c =
 pub returns-in-Refused-shaped : goal.returns-in-Refused-shaped
 returns-in-Refused-shaped c =
     apply-shape _ _ c.args.line.now _ _ _ (framed (goal.at.returns-in-Refused-shaped c).In_default) _ _
-    (sym (ap paper_check c.in-Refused-shaped.is) ∙ judged (goal.at.returns-in-Refused-shaped c).After-shape-shaped)
+    (sym (ap paper_check c.in-Refused-shaped.is)
+    ∙ judged (goal.at.returns-in-Refused-shaped c).After-shape-shaped)
 
 pub data-requires : goal.data-requires
 data-requires c =
@@ -75,16 +77,21 @@ returns-then-bytes-eq0 c =
     let a = c.args in
     c.data.ensures a.line.now
     ∙ ap (λ x. settled (pointed a.line.now x) a.image.now a.map.now)
-    (apply-data _ _ a.line.now _ _ _ (framed (goal.at.returns-then-bytes-eq0 c).In_default) (shaped (goal.at.returns-then-bytes-eq0 c).In_default-shaped)
+    (apply-data _ _ a.line.now _ _ _ (framed (goal.at.returns-then-bytes-eq0 c).In_default)
+    (shaped (goal.at.returns-then-bytes-eq0 c).In_default-shaped)
     c.if-bytes-eq0.true)
 
 pub other-requires : goal.other-requires
-other-requires c =
-    (whole (goal.at.other-requires c).In_default, shaped (goal.at.other-requires c).In_default-shaped, c.if-bytes-eq0.false)
+other-requires c = (
+  whole (goal.at.other-requires c).In_default,
+  shaped (goal.at.other-requires c).In_default-shaped,
+  c.if-bytes-eq0.false,
+)
 
 pub returns : goal.returns
 returns c =
     let a = c.args in
     rw c.other.ensures (ap (λ x. settled (pointed a.line.now x) a.image.now a.map.now)
-    (apply-other _ _ a.line.now _ _ _ (framed (goal.at.returns c).In_default) (shaped (goal.at.returns c).In_default-shaped)
+    (apply-other _ _ a.line.now _ _ _ (framed (goal.at.returns c).In_default)
+    (shaped (goal.at.returns c).In_default-shaped)
     c.if-bytes-eq0.false))

@@ -21,11 +21,13 @@ returns-then-not-self c =
 pub returns-then-not-self-2 : goal.returns-then-not-self-2
 unfolding first close_of column_of
 returns-then-not-self-2 c =
-    let s = c.args.self in
-    simp (known (goal.at.returns-then-not-self-2 c).Else-not-is_rule_set, c.if-not-self.false, c.if-not-self-2.true)
+    simp (
+      known (goal.at.returns-then-not-self-2 c).Else-not-is_rule_set,
+      c.if-not-self.false,
+      c.if-not-self-2.true,
+    )
 
 pub returns : goal.returns
 unfolding first close_of column_of
 returns c =
-    let s = c.args.self in
     simp (known (goal.at.returns c).Else-not-is_rule_set, c.if-not-self.false, c.if-not-self-2.false)

@@ -93,7 +93,8 @@ offset c = omega (arith, known c 1, known c 2)
 few : (c : Else-count-eq0) → count c.args.bytes.now ≤ 65536
 few c = omega (arith, known c 0)
 
-near-is : (c : After-row-row) → c.base-base.result + c.pair_at-offset.result ≡ near c.args.self c.args.bytes.now
+near-is : (c : After-row-row)
+    → c.base-base.result + c.pair_at-offset.result ≡ near c.args.self c.args.bytes.now
 near-is c = omega (arith, c.base-base.ensures.0, c.pair_at-offset.ensures)
 
 row_is : (c : After-row-row) → c.row-row.result ≡ row c.args.self c.args.bytes.now
@@ -104,15 +105,23 @@ row_is c =
 
 fits : (c : Else-image-place) → near c.args.self c.args.bytes.now + row c.args.self c.args.bytes.now
     ≤ length c.args.image.now
-fits c = omega (arith, near-is (goal.at.Else-image-place c).After-row-row, row_is (goal.at.Else-image-place c).After-row-row, c.if-image-place.false)
+fits c =
+    omega (
+      arith,
+      near-is (goal.at.Else-image-place c).After-row-row,
+      row_is (goal.at.Else-image-place c).After-row-row,
+      c.if-image-place.false,
+    )
 
-putting : (c : After-put) (t : Bool) → c.put.result ≡ t → Puts c.args.image.now c.args.map.now (near c.args.self c.args.bytes.now)
+putting : (c : After-put) (t : Bool) → c.put.result ≡ t
+    → Puts c.args.image.now c.args.map.now (near c.args.self c.args.bytes.now)
     (near_bytes c.args.self c.args.bytes.now) (base_of c.args.self)
     (rest_bytes c.args.self c.args.bytes.now) t c.put.new.image c.put.new.map
 putting c t e =
     lent c.args.self c.args.bytes.now _ _ _ _
     (c.base-base.result + c.pair_at-offset.result) c.base-base.result
-    c.row-row.result c.wide-count.result _ t (near-is (goal.at.After-put c).After-row-row) c.base-base.ensures.0
+    c.row-row.result c.wide-count.result _ t (near-is (goal.at.After-put c).After-row-row)
+    c.base-base.ensures.0
     (row_is (goal.at.After-put c).After-row-row) c.wide-count.ensures.0 e c.put.ensures
 
 pub returns-then-count-eq0 : goal.returns-then-count-eq0
@@ -120,15 +129,27 @@ returns-then-count-eq0 c line = data-none _ _ _ _ _ line (sym c.wide-count.ensur
 
 pub returns-then-image-place : goal.returns-then-image-place
 returns-then-image-place c line =
-    data-high _ _ c.args.bytes.now _ _ line (offset (goal.at.returns-then-image-place c).Else-count-eq0) (few (goal.at.returns-then-image-place c).Else-count-eq0) (some (goal.at.returns-then-image-place c).Else-count-eq0)
-    (omega (arith, near-is (goal.at.returns-then-image-place c).After-row-row, row_is (goal.at.returns-then-image-place c).After-row-row, c.if-image-place.true))
+    data-high _ _ c.args.bytes.now _ _ line (offset (goal.at.returns-then-image-place c).Else-count-eq0)
+    (few (goal.at.returns-then-image-place c).Else-count-eq0)
+    (some (goal.at.returns-then-image-place c).Else-count-eq0)
+    (omega (
+      arith,
+      near-is (goal.at.returns-then-image-place c).After-row-row,
+      row_is (goal.at.returns-then-image-place c).After-row-row,
+      c.if-image-place.true,
+    ))
 
 pub returns-then-not-put : goal.returns-then-not-put
 returns-then-not-put c line =
-    data-twice _ _ c.args.bytes.now _ _ line (offset (goal.at.returns-then-not-put c).Else-count-eq0) (few (goal.at.returns-then-not-put c).Else-count-eq0) (some (goal.at.returns-then-not-put c).Else-count-eq0) (fits (goal.at.returns-then-not-put c).Else-image-place) c.requires.0 _ _
+    data-twice _ _ c.args.bytes.now _ _ line (offset (goal.at.returns-then-not-put c).Else-count-eq0)
+    (few (goal.at.returns-then-not-put c).Else-count-eq0)
+    (some (goal.at.returns-then-not-put c).Else-count-eq0)
+    (fits (goal.at.returns-then-not-put c).Else-image-place) c.requires.0 _ _
     (putting (goal.at.returns-then-not-put c).After-put false (c.if-not-put.true))
 
 pub returns : goal.returns
 returns c line =
-    data-given _ _ c.args.bytes.now _ _ line (offset (goal.at.returns c).Else-count-eq0) (few (goal.at.returns c).Else-count-eq0) (some (goal.at.returns c).Else-count-eq0) (fits (goal.at.returns c).Else-image-place) c.requires.0 _ _
+    data-given _ _ c.args.bytes.now _ _ line (offset (goal.at.returns c).Else-count-eq0)
+    (few (goal.at.returns c).Else-count-eq0) (some (goal.at.returns c).Else-count-eq0)
+    (fits (goal.at.returns c).Else-image-place) c.requires.0 _ _
     (putting (goal.at.returns c).After-put true (c.if-not-put.false))

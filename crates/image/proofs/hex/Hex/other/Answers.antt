@@ -13,4 +13,5 @@ pub pair_at-requires : goal.pair_at-requires
 pair_at-requires c = room (goal.at.pair_at-requires c).Start (ap count_for c.if-kind-eq2.true)
 
 pub pair_at-requires-then-kind-eq4 : goal.pair_at-requires-then-kind-eq4
-pair_at-requires-then-kind-eq4 c = room (goal.at.pair_at-requires-then-kind-eq4 c).Start (ap count_for c.if-kind-eq4.true)
+pair_at-requires-then-kind-eq4 c =
+    room (goal.at.pair_at-requires-then-kind-eq4 c).Start (ap count_for c.if-kind-eq4.true)

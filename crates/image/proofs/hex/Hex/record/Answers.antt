@@ -18,12 +18,14 @@ module _ (size : ℕ) (h : Hex) (line image map : List ℕ) where
 
   module _ (e : right_sizes_in size (length image) (length map) ≡ true) where
     record-unknown : is_rule_set h.rules ≡ false
-        → settled_as (wrong 34 0) image map ≡ settled (pointed line (record_in size h line image map)) image map
+        → settled_as (wrong 34 0) image map
+        ≡ settled (pointed line (record_in size h line image map)) image map
     unfolding first record_in column_of
     record-unknown k = simp (e, k)
 
     record-ended : is_rule_set h.rules ≡ true → h.ended ≡ true
-        → settled_as (wrong 21 0) image map ≡ settled (pointed line (record_in size h line image map)) image map
+        → settled_as (wrong 21 0) image map
+        ≡ settled (pointed line (record_in size h line image map)) image map
     unfolding first record_in column_of
     record-ended k t = simp (e, k, t)
 
@@ -44,4 +46,5 @@ returns-then-not-is_rule_set c =
 
 pub returns-then-self : goal.returns-then-self
 returns-then-self c =
-    record-ended _ _ _ _ _ (sized (goal.at.returns-then-self c).Else-not-right_sizes) (known (goal.at.returns-then-self c).Else-not-is_rule_set) c.if-self.true
+    record-ended _ _ _ _ _ (sized (goal.at.returns-then-self c).Else-not-right_sizes)
+    (known (goal.at.returns-then-self c).Else-not-is_rule_set) c.if-self.true

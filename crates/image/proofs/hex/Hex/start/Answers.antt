@@ -14,12 +14,14 @@ use Rattle.image.proofs.hex.Hex.start.Goals.{Else-not-is_rule_set, Else-not-righ
 
 module _ (size rules : ℕ) (image map : List ℕ) where
   start-size : right_sizes_in size (length image) (length map) ≡ false
-      → settled_as (wrong 20 0) image map ≡ settled (pointed no_line (start_in size rules image map)) image map
+      → settled_as (wrong 20 0) image map
+      ≡ settled (pointed no_line (start_in size rules image map)) image map
   unfolding first start_in column_of
   start-size e = simp e
 
   start-unknown : right_sizes_in size (length image) (length map) ≡ true → is_rule_set rules ≡ false
-      → settled_as (wrong 34 0) image map ≡ settled (pointed no_line (start_in size rules image map)) image map
+      → settled_as (wrong 34 0) image map
+      ≡ settled (pointed no_line (start_in size rules image map)) image map
   unfolding first start_in column_of
   start-unknown e k = simp (e, k)
 
@@ -55,6 +57,7 @@ returns-then-not-is_rule_set c =
 
 pub returns : goal.returns
 returns c =
-    start-given _ _ _ _ _ _ _ _ (sized (goal.at.returns c).Else-not-right_sizes) (known (goal.at.returns c).Else-not-is_rule_set)
+    start-given _ _ _ _ _ _ _ _ (sized (goal.at.returns c).Else-not-right_sizes)
+    (known (goal.at.returns c).Else-not-is_rule_set)
     c.size.ensures.0 c.fill.ensures
     c.map.ensures.0 c.fill-2.ensures

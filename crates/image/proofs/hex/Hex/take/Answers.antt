@@ -68,7 +68,8 @@ slice_bounds-apply-end-2 c =
 pub apply-requires : goal.apply-requires
 apply-requires c =
     let pre = c.requires in
-    let long = characters-length (line_at (goal.at.apply-requires c).In_default) (passed (goal.at.apply-requires c).In_default) in (
+    let long = characters-length (line_at (goal.at.apply-requires c).In_default)
+    (passed (goal.at.apply-requires c).In_default) in (
       spelt (goal.at.apply-requires c).In_default,
       omega (arith, bytes-long (goal.at.apply-requires c).In_default, long.odd),
       omega (arith, bytes-long (goal.at.apply-requires c).In_default, long.least),

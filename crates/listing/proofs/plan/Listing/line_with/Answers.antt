@@ -68,7 +68,8 @@ send-n-requires c = (
   c.requires.0.file.right,
   c.requires.0.file.long,
   omega (arith, c.requires.2),
-  listed_start (board (goal.at.send-n-requires c).Start) c.args.image.now c.args.map.now c.args.self c.requires.0
+  listed_start (board (goal.at.send-n-requires c).Start) c.args.image.now c.args.map.now c.args.self
+      c.requires.0
       c.args.step
       c.requires.1,
 )
@@ -76,13 +77,16 @@ send-n-requires c = (
 pub follow-requires : goal.follow-requires
 follow-requires c = (
   c.requires.0.file.long,
-  listed_start (board (goal.at.follow-requires c).Start) c.args.image.now c.args.map.now c.args.self c.requires.0
+  listed_start (board (goal.at.follow-requires c).Start) c.args.image.now c.args.map.now c.args.self
+      c.requires.0
       c.args.step
       c.requires.1,
 )
 
 pub returns : goal.returns
-returns c = line-put (board (goal.at.returns c).Start) c.args.image.now c.args.map.now c.args.self c.requires.0 c.args.step
+returns c =
+    line-put (board (goal.at.returns c).Start) c.args.image.now c.args.map.now c.args.self c.requires.0
+    c.args.step
     c.requires.1
     _ _ _ c.requires.2 c.send-n.auto.buffer c.send-n.ensures _ _ _ _ _ c.step_line-end.ensures
     c.follow.ensures

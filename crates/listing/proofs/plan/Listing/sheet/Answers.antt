@@ -6,7 +6,7 @@ use Rattle.basis.specs.declared.kind.RunKind.{RunKind}
 use Rattle.order.specs.Plan.{plan}
 use Rattle.order.specs.declared.cursor.Following.{Following}
 use Rattle.order.specs.declared.step.Step.{Step}
-use Rattle.listing.specs.Laws.Plan.{listed_more, listed-left, listed-end, next-listed, sheet-end, sheet-full, sheet-line}
+use Rattle.listing.specs.Laws.Plan.{listed-left, listed-end, next-listed, sheet-end, sheet-full, sheet-line}
 use Rattle.listing.specs.Lines.{step_line}
 use Rattle.listing.specs.Plan.{Listed, reset_packet_at, listing_at, longest_line, Sheet, sheet, sheet_of}
 use Rattle.listing.specs.declared.plan.Listing.{Listing}
@@ -47,18 +47,6 @@ module _ (board : ℕ) (image m old : List ℕ) (g : Sheet) (l : Listing) (h : L
   module _ (s : Step) (next-is : l.next ≡ Following.Step s) (room : longest_line ≤ length buffer - at) where
     abbrev line : List ℕ
     line = step_line (l.listed + 1) (reset_packet_at board image m l.listed)
-
-    -- and one less is left
-    writing-falls : (x : Listing) → x ≡ listing_at board m (l.listed + 1)
-        → x.total - x.listed < l.total - l.listed
-    writing-falls x e =
-        omega (
-          arith,
-          ap (λ (y : Listing). y.listed) e,
-          ap (λ (y : Listing). y.total) e,
-          ap (λ (y : Listing). y.total) h.stands,
-          listed_more board image m l h s next-is,
-        )
 
     -- one line more
     writing-next : (x : Listing) (b : List ℕ) (e : ℕ) → x ≡ listing_at board m (l.listed + 1)

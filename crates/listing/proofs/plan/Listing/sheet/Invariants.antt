@@ -1,3 +1,4 @@
+-- What each turn of `sheet` keeps, and what falls.
 use Rattle.std.proofs.Common.{◌≡◌, ℕ, ◌+◌, ◌-◌, ◌≤◌, List, length, drop}
 use Rattle.basis.specs.Board.{pages_of}
 use Rattle.basis.specs.Lists.{copy_of}
@@ -22,7 +23,8 @@ pub record Writing (g : Sheet) (old buffer : List ℕ) (at : ℕ) (h : Sheet) : 
 abbrev pub invariant-loop-step : goal.invariant-loop-step
 invariant-loop-step l =
     Listed (pages_of l.board) l.image l.map l.listing
-    × Writing (left (pages_of l.board) l.image l.map (length l.initial.buffer) l.initial.listing) l.initial.buffer l.buffer l.at
+    × Writing (left (pages_of l.board) l.image l.map (length l.initial.buffer) l.initial.listing)
+    l.initial.buffer l.buffer l.at
     (left (pages_of l.board) l.image l.map (length l.buffer - l.at) l.listing)
 
 abbrev pub decreases-loop-step : goal.decreases-loop-step

@@ -42,7 +42,8 @@ returns-then-self-bytes c =
 pub returns-then-self-listed : goal.returns-then-self-listed
 unfolding came_of
 returns-then-self-listed c =
-    sym (both-second _ _ (some (goal.at.returns-then-self-listed c).Else-bytes-eq0) ∙ both-second _ _ (counted (goal.at.returns-then-self-listed c).Else-self-bytes)
+    sym (both-second _ _ (some (goal.at.returns-then-self-listed c).Else-bytes-eq0)
+    ∙ both-second _ _ (counted (goal.at.returns-then-self-listed c).Else-self-bytes)
     ∙ both_false _ _ (ne_eqb _ _
     (λ q. c.if-self-listed.true
     (q ∙ sym (ap (λ (x : Listed). x.total) c.list-listed.ensures)))))
@@ -51,6 +52,7 @@ pub returns : goal.returns
 unfolding came_of
 returns c =
     c.came.ensures
-    ∙ sym (both-second _ _ (some (goal.at.returns c).Else-bytes-eq0) ∙ both-second _ _ (counted (goal.at.returns c).Else-self-bytes)
+    ∙ sym (both-second _ _ (some (goal.at.returns c).Else-bytes-eq0)
+    ∙ both-second _ _ (counted (goal.at.returns c).Else-self-bytes)
     ∙ both-second _ _ (eq-eqb _ _
     (c.if-self-listed.false ∙ ap (λ (x : Listed). x.total) c.list-listed.ensures)))

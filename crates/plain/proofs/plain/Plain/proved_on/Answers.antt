@@ -28,9 +28,11 @@ returns-then-not-fits c =
 pub returns-then-marked : goal.returns-then-marked
 returns-then-marked c =
     ap given (sym c.if-marked.true ∙ c.marked.ensures)
-    ∙ sym (mark-given _ _ _ _ (long (goal.at.returns-then-marked c).Else-map-size) (fitted (goal.at.returns-then-marked c).Else-not-fits))
+    ∙ sym (mark-given _ _ _ _ (long (goal.at.returns-then-marked c).Else-map-size)
+    (fitted (goal.at.returns-then-marked c).Else-not-fits))
 
 pub returns : goal.returns
 returns c =
     ap given (sym c.if-marked.false ∙ c.marked.ensures)
-    ∙ sym (mark-given _ _ _ _ (long (goal.at.returns c).Else-map-size) (fitted (goal.at.returns c).Else-not-fits))
+    ∙ sym (mark-given _ _ _ _ (long (goal.at.returns c).Else-map-size)
+    (fitted (goal.at.returns c).Else-not-fits))

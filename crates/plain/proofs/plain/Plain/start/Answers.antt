@@ -73,8 +73,10 @@ returns-then-bytes-eq0 c =
 pub returns : goal.returns
 returns c = let a = c.args in
     handed _ _ _
-    (start-given (board (goal.at.returns c).Else-not-right_sizes) a.image.now a.map.now (length a.buffer.now) a.kind (sized (goal.at.returns c).Else-not-right_sizes)
+    (start-given (board (goal.at.returns c).Else-not-right_sizes) a.image.now a.map.now
+    (length a.buffer.now) a.kind (sized (goal.at.returns c).Else-not-right_sizes)
     (λ q. c.if-bytes-eq0.false (c.named_bytes-bytes.ensures ∙ q)))
     (opened (board (goal.at.returns c).Else-not-right_sizes) a.map.now a.kind c.pages.ensures.0
     (ap (λ (x : Listed). x.total) c.list-listed.ensures) c.named_bytes-bytes.ensures) refl
-    (set_split a.buffer.now 0 opening_byte (omega (arith, (right (goal.at.returns c).Else-not-right_sizes).2)))
+    (set_split a.buffer.now 0 opening_byte
+    (omega (arith, (right (goal.at.returns c).Else-not-right_sizes).2)))

@@ -32,12 +32,14 @@ returns-then-not-right_sizes c =
 pub returns-then-ended : goal.returns-then-ended
 returns-then-ended c =
     left_alone _
-    (step-ended _ _ _ _ _ _ (sized (goal.at.returns-then-ended c).Else-not-right_sizes) (sym c.ended.ensures ∙ c.if-ended.true))
+    (step-ended _ _ _ _ _ _ (sized (goal.at.returns-then-ended c).Else-not-right_sizes)
+    (sym c.ended.ensures ∙ c.if-ended.true))
 
 pub returns-then-not-fits : goal.returns-then-not-fits
 returns-then-not-fits c =
     left_alone _
-    (step-foreign _ _ _ _ _ _ (sized (goal.at.returns-then-not-fits c).Else-not-right_sizes) (going (goal.at.returns-then-not-fits c).Else-ended)
+    (step-foreign _ _ _ _ _ _ (sized (goal.at.returns-then-not-fits c).Else-not-right_sizes)
+    (going (goal.at.returns-then-not-fits c).Else-ended)
     (sym c.fits.ensures ∙ c.if-not-fits.true))
 
 pub returns : goal.returns
@@ -46,5 +48,6 @@ returns c = let a = c.args in
     handed _ _ _
     (sym (ap (step_of (pages_of a.board) a.image.now a.map.now (length a.buffer.now) a.self)
     c.classify-event.ensures)
-    ∙ step-taken _ _ _ _ _ _ (sized (goal.at.returns c).Else-not-right_sizes) (going (goal.at.returns c).Else-ended) (fitted (goal.at.returns c).Else-not-fits))
+    ∙ step-taken _ _ _ _ _ _ (sized (goal.at.returns c).Else-not-right_sizes)
+    (going (goal.at.returns c).Else-ended) (fitted (goal.at.returns c).Else-not-fits))
     t.0 t.1 t.2

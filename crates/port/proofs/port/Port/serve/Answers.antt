@@ -19,12 +19,14 @@ sized c = c.size-size.ensures.0
 
 -- past both tests the bytes are taken
 right : (c : Else-answer-lt-ANSWER) → let a = c.args in
-    turned (goal.at.Else-answer-lt-ANSWER c).Start (port_of (pages_of a.board) a.self a.bytes.now a.flash.now (length a.answer.now))
+    turned (goal.at.Else-answer-lt-ANSWER c).Start
+    (port_of (pages_of a.board) a.self a.bytes.now a.flash.now (length a.answer.now))
     ≡ turn_of (pages_of a.board) (length a.answer.now) a.self a.flash.now a.bytes.now
 right c = let a = c.args in
     ap (turned (goal.at.Else-answer-lt-ANSWER c).Start)
     (port-turn (pages_of a.board) a.self a.bytes.now a.flash.now (length a.answer.now)
-    (c.if-flash-size.false ∙ sized (goal.at.Else-answer-lt-ANSWER c).After-receiver-1) c.if-answer-lt-ANSWER.false)
+    (c.if-flash-size.false ∙ sized (goal.at.Else-answer-lt-ANSWER c).After-receiver-1)
+    c.if-answer-lt-ANSWER.false)
 
 pub returns-then-flash-size : goal.returns-then-flash-size
 returns-then-flash-size c =

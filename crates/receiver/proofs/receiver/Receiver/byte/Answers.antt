@@ -71,7 +71,8 @@ pub returns-then-len-last : goal.returns-then-len-last
 returns-then-len-last c =
     let a = c.args in (
       c.quiet-then-len-last.ensures.0 ∙ ap keeping c.gather-then-len-last.ensures.0
-          ∙ sym (at_on a.self a.b (search rules) (more (goal.at.returns-then-len-last c).After-last-1) (fits (goal.at.returns-then-len-last c).After-last-1) (omega arith)),
+          ∙ sym (at_on a.self a.b (search rules) (more (goal.at.returns-then-len-last c).After-last-1)
+          (fits (goal.at.returns-then-len-last c).After-last-1) (omega arith)),
       c.quiet-then-len-last.ensures.1,
     )
 
@@ -79,7 +80,8 @@ pub returns-then-len-last-2 : goal.returns-then-len-last-2
 returns-then-len-last-2 c =
     let a = c.args in (
       c.hand-then-len-last-2.ensures.0 ∙ ap giving c.gather-then-len-last-2.ensures.0
-          ∙ sym (at-last a.self a.b (search rules) (more (goal.at.returns-then-len-last-2 c).After-last-1) (fits (goal.at.returns-then-len-last-2 c).After-last-1) (omega arith)),
+          ∙ sym (at-last a.self a.b (search rules) (more (goal.at.returns-then-len-last-2 c).After-last-1)
+          (fits (goal.at.returns-then-len-last-2 c).After-last-1) (omega arith)),
       c.hand-then-len-last-2.ensures.1,
     )
 
@@ -87,6 +89,7 @@ pub returns : goal.returns
 returns c =
     let a = c.args in (
       c.quiet-2.ensures.0 ∙ ap keeping c.hunt-2.ensures
-          ∙ sym (at-past a.self a.b (search rules) (more (goal.at.returns c).After-last-1) (fits (goal.at.returns c).After-last-1) (past (goal.at.returns c).Else-len-last-2)),
+          ∙ sym (at-past a.self a.b (search rules) (more (goal.at.returns c).After-last-1)
+          (fits (goal.at.returns c).After-last-1) (past (goal.at.returns c).Else-len-last-2)),
       c.quiet-2.ensures.1,
     )

@@ -1,3 +1,4 @@
+-- What each turn of `bytes` keeps, and what falls.
 use Prim.Native.Nat.{◌-◌, ◌≤◌}
 use mathlib.Core.Path.{◌≡◌}
 use lib.ListN.{length, drop}
@@ -6,7 +7,8 @@ use Rattle.receiver.proofs.receiver.Receiver.bytes.Given as goal
 
 abbrev pub invariant-loop-i : goal.invariant-loop-i
 invariant-loop-i l =
-    (l.i ≤ length l.bytes) × (bytes_of l.initial.receiver l.bytes ≡ further l.i (bytes_of l.receiver (drop l.i l.bytes)))
+    (l.i ≤ length l.bytes)
+    × (bytes_of l.initial.receiver l.bytes ≡ further l.i (bytes_of l.receiver (drop l.i l.bytes)))
 
 abbrev pub decreases-loop-i : goal.decreases-loop-i
 decreases-loop-i l = length l.bytes - l.i

@@ -35,7 +35,9 @@ decided : (c : Else-self-total) (ph : Phase)
     → came_by c.survey-found.result x.kind x.total ph x.acknowledged
     ≡ came_of (board (goal.at.Else-self-total c).After-survey-found) c.args.map.now x)
 decided c ph q =
-    fits-place (board (goal.at.Else-self-total c).After-survey-found) (few-pages (goal.at.Else-self-total c).After-survey-found) c.args.map.now c.args.self (surveyed (goal.at.Else-self-total c).After-survey-found)
+    fits-place (board (goal.at.Else-self-total c).After-survey-found)
+    (few-pages (goal.at.Else-self-total c).After-survey-found) c.args.map.now c.args.self
+    (surveyed (goal.at.Else-self-total c).After-survey-found)
     c.if-all-eq0.false c.if-self-all.false _ c.total.ensures c.if-self-total.false
     (omega (
       arith,
@@ -61,18 +63,26 @@ returns-then-past-at c =
 
 pub returns-then-all-eq0 : goal.returns-then-all-eq0
 returns-then-all-eq0 c =
-    fits-empty (board (goal.at.returns-then-all-eq0 c).After-survey-found) (few-pages (goal.at.returns-then-all-eq0 c).After-survey-found) c.args.map.now c.args.self (surveyed (goal.at.returns-then-all-eq0 c).After-survey-found)
+    fits-empty (board (goal.at.returns-then-all-eq0 c).After-survey-found)
+    (few-pages (goal.at.returns-then-all-eq0 c).After-survey-found) c.args.map.now c.args.self
+    (surveyed (goal.at.returns-then-all-eq0 c).After-survey-found)
     c.if-all-eq0.true
 
 pub returns-then-self-all : goal.returns-then-self-all
-returns-then-self-all c = fits-named (board (goal.at.returns-then-self-all c).After-survey-found) (few-pages (goal.at.returns-then-self-all c).After-survey-found) c.args.map.now c.args.self (surveyed (goal.at.returns-then-self-all c).After-survey-found)
+returns-then-self-all c =
+    fits-named (board (goal.at.returns-then-self-all c).After-survey-found)
+    (few-pages (goal.at.returns-then-self-all c).After-survey-found) c.args.map.now c.args.self
+    (surveyed (goal.at.returns-then-self-all c).After-survey-found)
     c.if-all-eq0.false c.if-self-all.true
 
 pub total-requires : goal.total-requires
 total-requires c = let t = few (goal.at.total-requires c).After-survey-found in (t.runs-few, t.pieces-few)
 
 pub returns-then-self-total : goal.returns-then-self-total
-returns-then-self-total c = fits-total (board (goal.at.returns-then-self-total c).After-survey-found) (few-pages (goal.at.returns-then-self-total c).After-survey-found) c.args.map.now c.args.self (surveyed (goal.at.returns-then-self-total c).After-survey-found)
+returns-then-self-total c =
+    fits-total (board (goal.at.returns-then-self-total c).After-survey-found)
+    (few-pages (goal.at.returns-then-self-total c).After-survey-found) c.args.map.now c.args.self
+    (surveyed (goal.at.returns-then-self-total c).After-survey-found)
     c.if-all-eq0.false
     c.if-self-all.false _ c.total.ensures c.if-self-total.true
 

@@ -89,8 +89,11 @@ pub returns : goal.returns
 returns c = let a = c.args in
     let m = a.map.now in
     handed _ _ _
-    (start-given (board (goal.at.returns c).Else-not-right_sizes) a.image.now m (length a.buffer.now) a.kind (sized (goal.at.returns c).Else-not-right_sizes)
+    (start-given (board (goal.at.returns c).Else-not-right_sizes) a.image.now m (length a.buffer.now) a.kind
+    (sized (goal.at.returns c).Else-not-right_sizes)
     (λ q. c.if-all-eq0.false ((tells (goal.at.returns c).After-survey-found).bytes ∙ q)))
-    (opened (board (goal.at.returns c).Else-not-right_sizes) (pages-few a.board) m a.kind c.pages-pages.ensures.0
+    (opened (board (goal.at.returns c).Else-not-right_sizes)
+    (pages-few a.board) m a.kind c.pages-pages.ensures.0
     c.survey-found.ensures c.total.ensures) refl
-    (set_split a.buffer.now 0 opening_byte (omega (arith, (right (goal.at.returns c).Else-not-right_sizes).2)))
+    (set_split a.buffer.now 0 opening_byte
+    (omega (arith, (right (goal.at.returns c).Else-not-right_sizes).2)))
