@@ -1,10 +1,5 @@
 -- What the loader's part of an exchange shows, by what befalls it, and what the session's part makes of it.
-use Prim.Native.Nat.{ℕ, ◌≤◌}
-use mathlib.Core.List.{List}
-use mathlib.Core.Path.{◌≡◌, refl, sym, ap, subst, ◌∙◌}
-use native.Mathlib.Omega.{arith}
-use lib.Dec.{eqb}
-use lib.ListN.{length, take, length-append}
+use Rattle.std.proofs.Common.{ℕ, ◌≤◌, List, ◌≡◌, refl, sym, ap, subst, ◌∙◌, arith, eqb, length, take, length-append}
 use lib.Seq.{take-append_seam}
 use Rattle.basis.specs.Board.{answer_most}
 use Rattle.basis.specs.Laws.Refusals.{apart, given-one}

@@ -1,9 +1,5 @@
 -- How a judgement is shown, by its two ways out, and what it then does.
-use Prim.Native.Nat.{ℕ, ◌+◌, ◌-◌, ◌≤◌}
-use mathlib.Core.List.{List}
-use mathlib.Core.Path.{◌≡◌, sym, ap}
-use native.Mathlib.Omega.{arith}
-use lib.ListN.{length, take, drop, length-take, length-drop}
+use Rattle.std.proofs.Common.{ℕ, ◌+◌, ◌-◌, ◌≤◌, List, ◌≡◌, sym, ap, arith, length, take, drop, length-take, length-drop}
 use Rattle.basis.specs.Refusals.{Answer, refused, given}
 use Rattle.loader.specs.Commands.{Effect}
 use Rattle.loader.specs.Deeds.{data_in, deed_of, Fits, Judges}

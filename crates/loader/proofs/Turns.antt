@@ -1,13 +1,5 @@
 -- One turn of each loop, and its end, in the loop's own terms.
-use Prim.Native.Nat.{ℕ, ◌+◌, ◌≤◌, ◌<◌}
-use mathlib.Core.Bool.{true, false}
-use mathlib.Core.List.{List}
-use mathlib.Core.Path.{◌≡◌}
-use native.Mathlib.Nat.{add_assoc}
-use native.Mathlib.Numerals.{add-one}
-use borrow.Author.Tests.{eq-eqb, ne_eqb}
-use lib.ListN.{length, get_or, drop, drop_of_length-le}
-use lib.Seq.{drop-cons}
+use Rattle.std.proofs.Common.{ℕ, ◌+◌, ◌≤◌, ◌<◌, true, false, List, ◌≡◌, add_assoc, add-one, eq-eqb, ne_eqb, length, get_or, drop, drop_of_length-le, drop-cons}
 use Rattle.loader.specs.Verify.{equals_of}
 use Rattle.packet.specs.Turn.{restored_of}
 

@@ -1,14 +1,5 @@
 -- One turn of a load: where its rubbish ends, and which bytes it has; and turns are not too many.
-use Prim.Native.Nat.{ℕ, ◌+◌, ◌-◌, ◌*◌, ◌≤◌}
-use mathlib.Core.Bool.{false}
-use mathlib.Core.List.{List}
-use mathlib.Core.Path.{◌≡◌, sym, ap, ◌∙◌}
-use native.Mathlib.Nat.{add-mul, one-mul}
-use native.Mathlib.Omega.{arith}
-use borrow.Author.Tests.{ltb-true, ltb-false}
-use lib.Dec.{ltb}
-use lib.ListN.{length, take, drop, length-drop, drop_of_length-le}
-use lib.Seq.{take_all, drop-drop}
+use Rattle.std.proofs.Common.{ℕ, ◌+◌, ◌-◌, ◌*◌, ◌≤◌, false, List, ◌≡◌, sym, ap, ◌∙◌, add-mul, one-mul, arith, ltb-true, ltb-false, ltb, length, take, drop, length-drop, drop_of_length-le, take_all, drop-drop}
 use Rattle.basis.specs.Laws.Choice.{decide}
 use Rattle.basis.specs.declared.kind.RunKind.{RunKind}
 use Rattle.line.specs.declared.exchange.Loss.{Loss}

@@ -1,9 +1,5 @@
 -- What the board's part and the session's make together is an exchange.
-use Prim.Native.Nat.{ℕ, ◌≤◌}
-use mathlib.Core.List.{List, []}
-use mathlib.Core.Path.{◌≡◌, ap, ◌∙◌}
-use native.Mathlib.Omega.{arith}
-use lib.ListN.{length, take, length-append}
+use Rattle.std.proofs.Common.{ℕ, ◌≤◌, List, [], ◌≡◌, ap, ◌∙◌, arith, length, take, length-append}
 use lib.Seq.{take-append_seam}
 use Rattle.basis.specs.Board.{answer_most}
 use Rattle.basis.specs.Lists.{overlay}

@@ -1,7 +1,5 @@
 -- What the session's part of an exchange shows, by what its step says.
-use Prim.Native.Nat.{ℕ}
-use mathlib.Core.List.{List}
-use mathlib.Core.Path.{◌≡◌, refl, sym}
+use Rattle.std.proofs.Common.{ℕ, List, ◌≡◌, refl, sym}
 use Rattle.basis.specs.Laws.Refusals.{apart, given-one}
 use Rattle.basis.specs.Refusals.{Answer, refused, given}
 use Rattle.line.specs.Line.{event_from}

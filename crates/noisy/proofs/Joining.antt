@@ -1,12 +1,7 @@
 -- Answers joined one behind the other, and the bytes that are still to go in.
-use Prim.Native.Nat.{ℕ, ◌+◌, ◌-◌, ◌≤◌, ◌<◌}
-use mathlib.Core.List.{List, [], ◌++◌, append_assoc, append-nil}
-use mathlib.Core.Path.{◌≡◌, refl, sym, ap, ◌∙◌}
-use native.Mathlib.Omega.{arith}
-use borrow.Author.Tests.{leb-true, leb-false}
-use lib.Dec.{leb}
-use lib.ListN.{length, take, drop, length-append, length-take, length-drop, take-append-drop, drop_of_length-le}
-use lib.Seq.{length-take-le, take_all, take_at, take-take, take-append-le, take-append-add, take-append_seam, drop-drop}
+use Rattle.std.proofs.lemmas.List.{take-append-le}
+use Rattle.std.proofs.Common.{ℕ, ◌+◌, ◌-◌, ◌≤◌, ◌<◌, List, [], ◌++◌, append_assoc, append-nil, ◌≡◌, refl, sym, ap, ◌∙◌, arith, leb-true, leb-false, leb, length, take, drop, length-append, length-take, length-drop, take-append-drop, drop_of_length-le, length-take-le, take_all, take_at, take-take, drop-drop}
+use lib.Seq.{take-append-add, take-append_seam}
 use Rattle.basis.specs.Board.{answer_most}
 use Rattle.basis.specs.Laws.Choice.{decide}
 use Rattle.basis.specs.Laws.Lists.{copy-overlay}

@@ -1,8 +1,5 @@
 -- What a start and a step hand back: a refusal leaves the buffer, and else it has the packet.
-use Prim.Native.Nat.{ℕ}
-use mathlib.Core.List.{List}
-use mathlib.Core.Path.{◌≡◌, refl, ap}
-use lib.ListN.{length}
+use Rattle.std.proofs.Common.{ℕ, List, ◌≡◌, refl, ap, length}
 use Rattle.basis.specs.Lists.{overlay}
 use Rattle.basis.specs.Refusals.{Answer, refused, given}
 use Rattle.plain.specs.Plain.{Sent, measured, sent_bytes}

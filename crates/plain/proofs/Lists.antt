@@ -1,9 +1,5 @@
 -- What the three walks tell of the list: where each kind of packet ends, and the step that is due.
-use Prim.Native.Nat.{ℕ, ◌+◌, ◌-◌, ◌≤◌, ◌<◌}
-use mathlib.Core.List.{List}
-use mathlib.Core.Path.{◌≡◌, ap}
-use native.Mathlib.Omega.{arith}
-use borrow.Author.Tests.{lt-ltb, le-ltb}
+use Rattle.std.proofs.Common.{ℕ, ◌+◌, ◌-◌, ◌≤◌, ◌<◌, List, ◌≡◌, ap, arith, lt-ltb, le-ltb}
 use Rattle.basis.specs.Units.{start_of}
 use Rattle.basis.specs.declared.kind.RunKind.{RunKind}
 use Rattle.order.specs.Plan.{before_verify, before_r, r_count, total}

@@ -1,8 +1,5 @@
 -- A walk has two tallies, and the survey is told by those of its halts.
-use Prim.Native.Nat.{ℕ, ◌+◌}
-use lib.Dec.{ltb}
-use mathlib.Core.Path.{◌≡◌, ap}
-use mathlib.Core.List.{List}
+use Rattle.std.proofs.Common.{ℕ, ◌+◌, ltb, ◌≡◌, ap, List}
 use Rattle.basis.specs.Units.{page_of, start_of}
 use Rattle.runs.specs.Map.{named}
 use Rattle.runs.specs.Pages.{touched}

@@ -1,10 +1,5 @@
 -- Tallies: where they begin, how they go on, and what bounds them.
-use Prim.Native.Nat.{ℕ, suc, ◌+◌, ◌≤◌, ◌<◌}
-use native.Mathlib.Numerals.{add-one}
-use mathlib.Core.Path.{◌≡◌, refl, sym, ap₂, ◌∙◌}
-use mathlib.Core.List.{List}
-use mathlib.Core.Bool.{Bool}
-use lib.Dec.{ltb}
+use Rattle.std.proofs.Common.{ℕ, suc, ◌+◌, ◌≤◌, ◌<◌, add-one, ◌≡◌, refl, sym, ap₂, ◌∙◌, List, Bool, ltb}
 use Rattle.basis.specs.Units.{start_of}
 use Rattle.runs.specs.Map.{named}
 use Rattle.runs.specs.Pages.{touched}

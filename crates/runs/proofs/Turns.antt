@@ -1,10 +1,5 @@
 -- One turn of a search and of a walk along a row, and their ends.
-use Prim.Native.Nat.{ℕ, zero, suc, ◌+◌, ◌-◌, ◌≤◌, ◌<◌}
-use native.Mathlib.Numerals.{add-one}
-use native.Mathlib.Nat.{add-zero}
-use native.Mathlib.Omega.{arith}
-use mathlib.Core.Path.{◌≡◌, refl, ap, ap₂, subst}
-use mathlib.Core.Bool.{Bool, true, false}
+use Rattle.std.proofs.Common.{ℕ, zero, suc, ◌+◌, ◌-◌, ◌≤◌, ◌<◌, add-one, add-zero, arith, ◌≡◌, refl, ap, ap₂, subst, Bool, true, false}
 use Rattle.runs.specs.Runs.{next, len}
 
 -- one less to go

@@ -1,12 +1,6 @@
 -- Words of the map: a long one is two short ones joined, and the bits of one are taken as its places are.
-use Prim.Native.Nat.{ℕ, zero, suc, ◌+◌, ◌*◌, ◌/◌, ◌%◌, ◌^◌, ◌<◌}
-use native.Mathlib.Nat.{add-zero, add-suc, pow-succ', zero-add, suc-add, mul_assoc, pow-suc, div-one, div-div-eq-div-mul}
-use native.Mathlib.Omega.{arith}
-use mathlib.Core.Path.{◌≡◌, sym, ap, ap₂, ◌∙◌}
-use mathlib.Core.List.{List}
-use mathlib.Core.Bool.{Bool}
-use lib.Dec.{eqb}
-use lib.ListN.{get_or}
+use Rattle.std.proofs.Common.{ℕ, zero, suc, ◌+◌, ◌*◌, ◌/◌, ◌%◌, ◌^◌, ◌<◌, add-zero, add-suc, zero-add, suc-add, mul_assoc, pow-suc, div-one, arith, ◌≡◌, sym, ap, ap₂, ◌∙◌, List, Bool, eqb, get_or}
+use native.Mathlib.Nat.{pow-succ', div-div-eq-div-mul}
 use Rattle.basis.specs.Lists.{Bytes}
 use Rattle.runs.specs.declared.tally.Tally.{Tally}
 use Rattle.runs.specs.Tally.{tally_at, took_of, took_bits}

@@ -1,13 +1,10 @@
 -- A word of k places taken at once: what passed, what started and what is open after it.
-use Prim.Native.Nat.{ℕ, zero, suc, ◌+◌, ◌-◌, ◌*◌, ◌/◌, ◌%◌, ◌^◌, ◌≤◌, ◌<◌, min}
-use native.Mathlib.Nat.{pow-suc, zero-min}
-use native.Mathlib.Omega.{arith}
-use mathlib.Core.Path.{◌≡◌, refl, sym, ap, ap₂, ◌∙◌}
-use mathlib.Core.Bool.{Bool, true, false}
-use lib.Bits.{bit_and, and_step, and_mask}
-use lib.Count.{ones, ones_in, ones_step, ones-ones, count_leading_zeros, leading_of_zero, leading_unique, count_trailing_zeros, trailing_of_zero, trailing_le}
-use lib.Dec.{eqb, ltb}
-use borrow.Author.Tests.{eq-eqb, ne_eqb, eqb-true, eqb-false, lt-ltb, le-ltb, ltb-true, ltb-false}
+use Rattle.std.proofs.lemmas.Bool.{eqb-false}
+use Rattle.std.proofs.lemmas.Nat.{and_mask, trailing_le}
+use Rattle.std.proofs.Common.{ℕ, zero, suc, ◌+◌, ◌-◌, ◌*◌, ◌/◌, ◌%◌, ◌^◌, ◌≤◌, ◌<◌, min, pow-suc, arith, ◌≡◌, refl, sym, ap, ap₂, ◌∙◌, Bool, true, false, bit_and, eqb, ltb, eq-eqb, ne_eqb, eqb-true, lt-ltb, le-ltb, ltb-true, ltb-false}
+use native.Mathlib.Nat.{zero-min}
+use lib.Bits.{and_step}
+use lib.Count.{ones, ones_in, ones_step, ones-ones, count_leading_zeros, leading_of_zero, leading_unique, count_trailing_zeros, trailing_of_zero}
 use Rattle.basis.specs.Choice.{pick}
 use Rattle.basis.specs.Laws.Choice.{decide}
 use Rattle.runs.specs.declared.tally.Tally.{Tally}

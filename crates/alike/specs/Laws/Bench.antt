@@ -1,9 +1,8 @@
 -- Demand 3 for the plain session: a load on the bench is the quick one's, moment by moment, so what is proved
 -- of that (`line` Laws/Demand) holds of it.
-use Prim.Native.Nat.{ℕ, zero, suc, ◌+◌, ◌≤◌, ◌<◌}
 use Rattle.std.specs.Prelude.{Bool, true, false, List, [], ◌≡◌, length, get_or}
 use Rattle.std.proofs.Math.Path.{refl, sym, ap}
-use Rattle.std.proofs.Common.{subst, ◌∙◌}
+use Rattle.std.proofs.Common.{subst, ◌∙◌, ℕ, zero, suc, ◌+◌, ◌≤◌, ◌<◌}
 use Rattle.alike.specs.Alike.{phase_of, quick_of, as_quick}
 use Rattle.alike.specs.Bench.{Moment, quick_moment, between, reply, steps_on, exchange_of, load_at, AllProved, Valid, Held, AsAsked, Safe}
 use Rattle.alike.specs.Laws.Steps.{ended_same, same_step, same-mark}

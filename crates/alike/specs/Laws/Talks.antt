@@ -2,9 +2,8 @@
 -- of events, answers' bytes and silence alike, each step shows the same packet, byte for byte, the same
 -- ending or refusal and the same log record.
 use Rattle.std.specs.Prelude.{ℕ, ◌≡◌}
-use mathlib.Core.List.{List, [], ◌∷◌}
 use Rattle.std.proofs.Math.Path.{refl, ap₂}
-use Rattle.std.proofs.Common.{ap, ◌∙◌}
+use Rattle.std.proofs.Common.{ap, ◌∙◌, List, [], ◌∷◌}
 use Rattle.alike.specs.Alike.{quick_of, as_quick, Heard, Shown, quick_shows, plain_shows, quick_next, plain_next, quick_talk, plain_talk, quick_after, plain_after, quick_all, plain_all}
 use Rattle.alike.specs.Laws.Steps.{same_start, same-stepped, same_outcome, same_log}
 use Rattle.basis.specs.Refusals.{Answer, refused, given}

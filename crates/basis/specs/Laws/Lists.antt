@@ -1,10 +1,9 @@
 -- Laws of lists and of lent buffers.
 use Rattle.std.specs.Prelude.{◌≡◌, ℕ, zero, suc, ◌+◌, ◌-◌, ◌<◌, ◌≤◌, List, [], ◌∷◌, ◌++◌, length, take, drop, replicate, nat_lt, slice_index, slice_index_or, slice_set}
-use Rattle.std.proofs.Common.{append_assoc, append-nil, sym, ◌∙◌, suc-add, not-suc-le-zero, ltb-true, ltb-false, lit<, length-append, length-take, length-drop, drop_of_length-le, length-take-le, take-suc, take_all, take_at, drop_at, drop-drop, get_or-take, get_or-drop}
+use Rattle.std.proofs.Common.{append_assoc, append-nil, sym, ◌∙◌, suc-add, not-suc-le-zero, ltb-true, ltb-false, lit<, length-append, length-take, length-drop, drop_of_length-le, length-take-le, take-suc, take_all, take_at, drop_at, drop-drop, get_or-take, get_or-drop, arith}
 use Rattle.std.proofs.Math.Path.{refl}
 use Rattle.std.proofs.Math.Nat.{add-zero, add-suc, add_assoc}
 use Rattle.std.proofs.Math.Numerals.{add-one}
-use native.Mathlib.Omega.{arith}
 use borrow.Rule.Slice.PartMut.{put_mid}
 use Rattle.std.proofs.Math.ListN.{length-set, get_or-eq_default}
 use Rattle.std.proofs.Math.Seq.{drop-cons, get_or-set_same, get_or-set_other}

@@ -1,9 +1,8 @@
 -- Laws of the places of a record's bytes: they stand in one row, or in two where a segment wraps.
 use Rattle.std.specs.Prelude.{◌≡◌, ℕ, zero, suc, ◌+◌, ◌-◌, ◌%◌, ◌<◌, ◌≤◌, Bool, true, false, not, List, [], ◌∷◌, ◌++◌, length, take, drop, ◌==◌, nat_le, nat_lt}
 use Rattle.std.proofs.Math.Path.{refl}
-use Rattle.std.proofs.Common.{sym, ap, set, ◌∙◌, zero-add, suc-add, length-drop, length-take-le, take-add, drop-drop, eq-eqb, lt-ltb, le-ltb, le-leb, ltb-true, ltb-false}
+use Rattle.std.proofs.Common.{sym, ap, set, ◌∙◌, zero-add, suc-add, length-drop, length-take-le, take-add, drop-drop, eq-eqb, lt-ltb, le-ltb, le-leb, ltb-true, ltb-false, arith}
 use Rattle.std.proofs.Math.Nat.{add-zero}
-use native.Mathlib.Omega.{arith}
 use Rattle.std.proofs.lemmas.Bool.{lt-leb}
 use Rattle.basis.specs.Choice.{pick, both, either, any}
 use Rattle.basis.specs.Laws.Choice.{decide, any_none, any_some}

@@ -1,8 +1,8 @@
 -- A series of records with no type 02 reads alike under both rule sets.
+use Rattle.std.proofs.lemmas.Bool.{not-true}
 use Rattle.std.specs.Prelude.{◌≡◌, ℕ, Bool, true, false, not, List, [], ◌∷◌, ◌++◌, map, length, drop, ◌==◌, nat_eq, nat_le}
 use Rattle.std.proofs.Math.Path.{refl, ap}
-use Rattle.std.proofs.Common.{sym, subst, ◌∙◌, add-zero}
-use borrow.Author.Tests.{eq-eqb, not-true}
+use Rattle.std.proofs.Common.{sym, subst, ◌∙◌, add-zero, eq-eqb}
 use Rattle.basis.specs.Choice.{pick, any}
 use Rattle.basis.specs.Units.{right_sizes_in}
 use Rattle.runs.specs.Map.{named}

@@ -1,9 +1,8 @@
 -- The session of a load carries the load's board from the start on, so what its own `step` and `proved` say
 -- is what demand 3 speaks of.
-use Prim.Native.Nat.{ℕ, zero, suc}
 use Rattle.std.specs.Prelude.{Bool, List, ◌≡◌}
 use Rattle.std.proofs.Math.Path.{refl}
-use Rattle.std.proofs.Common.{◌∙◌}
+use Rattle.std.proofs.Common.{◌∙◌, ℕ, zero, suc}
 use Rattle.basis.specs.Board.{pages_of}
 use Rattle.basis.specs.Laws.Choice.{decide}
 use Rattle.basis.specs.Refusals.{Answer, refused, given}

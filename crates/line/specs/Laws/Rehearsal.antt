@@ -1,10 +1,8 @@
 -- What demand 3 says of `rehearse`: of the verdict and the flash that it leaves.
+use Rattle.std.proofs.lemmas.Bool.{eqb-false, not-false}
 use Rattle.std.specs.Prelude.{ℕ, ◌+◌, ◌≤◌, true, ◌≡◌, refl, eqb, length}
-use mathlib.Core.List.{List}
-use Rattle.std.proofs.Common.{sym, subst, ◌∙◌}
+use Rattle.std.proofs.Common.{sym, subst, ◌∙◌, List, arith, eqb-true}
 use Rattle.std.proofs.Math.Path.{ap}
-use native.Mathlib.Omega.{arith}
-use borrow.Author.Tests.{eqb-true, eqb-false, not-false}
 use Rattle.std.proofs.Math.ListN.{get_or}
 use Rattle.basis.specs.Laws.Choice.{both_true}
 use Rattle.basis.specs.Laws.Refusals.{passed, done, apart, given-one}

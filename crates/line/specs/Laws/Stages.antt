@@ -1,8 +1,7 @@
 -- Every moment of a load over a line that may lose anything: where the session stands, and what flash holds.
-use Prim.Native.Nat.{ℕ, zero, suc, ◌+◌, ◌≤◌, ◌<◌}
 use Rattle.std.specs.Prelude.{true, false, List, [], ◌∷◌, map, ◌≡◌, ltb, length, get_or}
 use Rattle.std.proofs.Math.Path.{refl}
-use Rattle.std.proofs.Common.{sym, ap, subst, ◌∙◌, arith, eq-eqb, ltb-true, ltb-false}
+use Rattle.std.proofs.Common.{sym, ap, subst, ◌∙◌, arith, eq-eqb, ltb-true, ltb-false, ℕ, zero, suc, ◌+◌, ◌≤◌, ◌<◌}
 use Rattle.basis.specs.Board.{opening_byte}
 use Rattle.basis.specs.Choice.{pick}
 use Rattle.basis.specs.Laws.Choice.{decide}

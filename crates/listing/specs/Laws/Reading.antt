@@ -1,9 +1,8 @@
 -- What a text comes to, byte by byte, is what its lines give, however long they are.
+use Rattle.std.proofs.lemmas.Bool.{eqb-false}
 use Rattle.std.specs.Prelude.{◌≡◌, ℕ, ◌+◌, ◌-◌, ◌%◌, ◌^◌, ◌<◌, ◌≤◌, Bool, true, false, not, List, [], ◌∷◌, ◌++◌, length, take, ◌==◌, ◌≢◌, nat_eq, nat_lt, slice_index, slice_set}
 use Rattle.std.proofs.Math.Path.{refl, sym, ap}
-use Rattle.std.proofs.Common.{◌∙◌, mod-eq_of_lt, add-one, take-take, get_or-take}
-use native.Mathlib.Omega.{arith}
-use borrow.Author.Tests.{eq-eqb, ne_eqb, lt-ltb, le-ltb, eqb-true, eqb-false, ltb-true, ltb-false}
+use Rattle.std.proofs.Common.{◌∙◌, mod-eq_of_lt, add-one, take-take, get_or-take, arith, eq-eqb, ne_eqb, lt-ltb, le-ltb, eqb-true, ltb-true, ltb-false}
 use Rattle.std.proofs.Math.ListN.{length-append, length-take, length-set}
 use Rattle.std.proofs.Math.Seq.{take_all, take-length, take-nil, take-suc-set, set_out}
 use Rattle.std.proofs.lemmas.List.{take-append-le, get_or_at}

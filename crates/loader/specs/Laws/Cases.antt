@@ -1,12 +1,10 @@
 -- The paper's cases marked (p) hold, for every flash of the board's size.
-use Prim.Native.Nat.{ℕ, ◌+◌, ◌*◌, ◌≤◌, ◌<◌}
+use Rattle.std.proofs.lemmas.Bool.{lt-leb}
 use Rattle.std.proofs.Math.Bool.{true, not}
 use Rattle.std.specs.Prelude.{false, ◌≡◌, leb, length, get_or, set, take, drop, replicate}
-use mathlib.Core.List.{List, [], ◌∷◌, ◌++◌, append_assoc}
 use Rattle.std.proofs.Math.Path.{refl, ap}
-use Rattle.std.proofs.Common.{sym, subst, ◌∙◌, arith, lit<, length-append, length-set, take-append-drop, length-take-le, get_or-set_same}
+use Rattle.std.proofs.Common.{sym, subst, ◌∙◌, arith, lit<, length-append, length-set, take-append-drop, length-take-le, get_or-set_same, ℕ, ◌+◌, ◌*◌, ◌≤◌, ◌<◌, List, [], ◌∷◌, ◌++◌, append_assoc, le-leb, le-ltb, ne_eqb}
 use Rattle.std.proofs.Math.Nat.{zero-div}
-use borrow.Author.Tests.{le-leb, lt-leb, le-ltb, ne_eqb}
 use Rattle.std.proofs.lemmas.List.{length-replicate}
 use Rattle.basis.specs.Bits.{bit}
 use Rattle.basis.specs.Board.{pages_of, pages_most, page_size, group_size, data_most, answer_most}

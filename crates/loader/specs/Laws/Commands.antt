@@ -1,9 +1,9 @@
 -- Laws of the commands.
+use Rattle.std.proofs.lemmas.Bool.{lt-leb, eqb-false, not-false}
 use Rattle.std.specs.Prelude.{ℕ, ◌+◌, ◌*◌, ◌≤◌, ◌<◌, true, false, List, [], ◌∷◌, ◌≡◌, leb, eqb, length, get_or}
 use Rattle.std.proofs.Math.Bool.{not}
 use Rattle.std.proofs.Math.Path.{refl}
-use Rattle.std.proofs.Common.{sym, ap, subst, ◌∙◌}
-use borrow.Author.Tests.{lt-ltb, le-ltb, le-leb, lt-leb, eq-eqb, ne_eqb, ltb-false, leb-false, eqb-false, not-false}
+use Rattle.std.proofs.Common.{sym, ap, subst, ◌∙◌, lt-ltb, le-ltb, le-leb, eq-eqb, ne_eqb, ltb-false, leb-false}
 use Rattle.basis.specs.Board.{page_size}
 use Rattle.basis.specs.Laws.Choice.{either_first, either_second, either-false, either-none}
 use Rattle.basis.specs.Laws.Refusals.{skip, stop, done, passed, first_then, by-table}

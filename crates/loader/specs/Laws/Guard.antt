@@ -1,9 +1,9 @@
 -- What protection refuses and keeps, told of the entry: for every loader, flash, input and room.
+use Rattle.std.proofs.lemmas.Bool.{eqb-false, not-false}
 use Rattle.std.specs.Prelude.{ℕ, ◌+◌, ◌*◌, ◌≤◌, ◌<◌, Bool, true, List, ◌≡◌, ltb, eqb, get_or, replicate}
 use Rattle.std.proofs.Math.Bool.{false}
 use Rattle.std.proofs.Math.Path.{refl, sym, ap}
-use Rattle.std.proofs.Common.{◌∙◌, arith, length-take, length-drop}
-use borrow.Author.Tests.{le-ltb, ltb-true, ltb-false, eqb-true, eqb-false, ne_eqb, not-false}
+use Rattle.std.proofs.Common.{◌∙◌, arith, length-take, length-drop, le-ltb, ltb-true, ltb-false, eqb-true, ne_eqb}
 use Rattle.std.specs.Int.Bits.{bit_and}
 use Rattle.std.proofs.Math.ListN.{length}
 use Rattle.std.proofs.lemmas.List.{length-replicate}

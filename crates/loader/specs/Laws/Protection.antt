@@ -1,11 +1,8 @@
 -- Laws of protection: which groups a set has, and when the protection and the key in force change.
-use Prim.Native.Nat.{ℕ, ◌+◌, ◌-◌, ◌*◌, ◌≤◌, ◌<◌}
 use Rattle.std.specs.Prelude.{Bool, not, List, [], ◌≡◌, leb, eqb, length, get_or, drop}
 use Rattle.std.proofs.Math.Bool.{true, false}
 use Rattle.std.proofs.Math.Path.{refl, subst}
-use Rattle.std.proofs.Common.{sym, ap, ◌∙◌, get_or-take, get_or-drop}
-use native.Mathlib.Omega.{arith}
-use borrow.Author.Tests.{leb-true, leb-false, eqb-true}
+use Rattle.std.proofs.Common.{sym, ap, ◌∙◌, get_or-take, get_or-drop, ℕ, ◌+◌, ◌-◌, ◌*◌, ◌≤◌, ◌<◌, arith, leb-true, leb-false, eqb-true}
 use Rattle.basis.specs.Bits.{bit}
 use Rattle.basis.specs.Board.{group_size}
 use Rattle.basis.specs.Choice.{pick, either}

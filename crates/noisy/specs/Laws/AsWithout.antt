@@ -1,8 +1,7 @@
 -- A whole load with rubbish between its packets ends as without.
-use Prim.Native.Nat.{ℕ, zero, suc, ◌≤◌, ◌<◌}
 use Rattle.std.specs.Prelude.{true, false, List, [], ◌≡◌, length}
 use Rattle.std.proofs.Math.Path.{refl, sym, ap}
-use Rattle.std.proofs.Common.{subst, ◌∙◌, arith}
+use Rattle.std.proofs.Common.{subst, ◌∙◌, arith, ℕ, zero, suc, ◌≤◌, ◌<◌}
 use Rattle.basis.specs.Laws.Choice.{decide, true-false}
 use Rattle.basis.specs.Lists.{Bytes}
 use Rattle.basis.specs.Units.{start_of, map_bytes}

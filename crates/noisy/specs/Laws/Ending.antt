@@ -1,8 +1,7 @@
 -- Whatever rubbish comes, a load ends by itself, after at most the total and one exchange more.
-use Prim.Native.Nat.{ℕ, zero, suc, ◌+◌, ◌≤◌, ◌<◌}
 use Rattle.std.specs.Prelude.{true, false, List, ◌≡◌, ltb, length}
 use Rattle.std.proofs.Math.Path.{refl, ap, subst}
-use Rattle.std.proofs.Common.{sym, ◌∙◌, arith, eq-eqb, ltb-true, ltb-false}
+use Rattle.std.proofs.Common.{sym, ◌∙◌, arith, eq-eqb, ltb-true, ltb-false, ℕ, zero, suc, ◌+◌, ◌≤◌, ◌<◌}
 use Rattle.basis.specs.Laws.Choice.{decide, true-false}
 use Rattle.basis.specs.Refusals.{Answer, given}
 use Rattle.basis.specs.declared.kind.RunKind.{RunKind}

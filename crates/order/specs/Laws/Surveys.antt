@@ -1,8 +1,6 @@
 -- What a survey tells of a file, field by field, and of the step at its place.
 use Rattle.std.specs.Prelude.{ℕ, ◌^◌, ◌≤◌, ◌<◌, false, List, ◌≡◌, leb, length}
-use Rattle.std.proofs.Common.{ap, zero-add}
-use native.Mathlib.Omega.{arith}
-use borrow.Author.Tests.{leb-true, leb-false}
+use Rattle.std.proofs.Common.{ap, zero-add, arith, leb-true, leb-false}
 use Rattle.basis.specs.Board.{pages_most}
 use Rattle.basis.specs.Laws.Choice.{decide, both_false}
 use Rattle.basis.specs.Units.{page_of, start_of, map_bytes}

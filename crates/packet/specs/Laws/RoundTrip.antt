@@ -1,10 +1,7 @@
 -- What the builder accepts, the reader reads back; what the reader accepts is what the builder writes.
-use Prim.Native.Nat.{ℕ, suc, ◌+◌, ◌-◌, ◌/◌, ◌%◌, ◌^◌, ◌≤◌, ◌<◌}
 use Rattle.std.specs.Prelude.{Bool, true, false, ◌≡◌, refl, leb, ltb, eqb, take, drop}
-use mathlib.Core.List.{List, [], ◌∷◌, ◌++◌, map}
 use Rattle.std.proofs.Math.Path.{ap, sym}
-use Rattle.std.proofs.Common.{◌∙◌, arith, take_all, get_or-drop}
-use borrow.Author.Tests.{eqb-true}
+use Rattle.std.proofs.Common.{◌∙◌, arith, take_all, get_or-drop, ℕ, suc, ◌+◌, ◌-◌, ◌/◌, ◌%◌, ◌^◌, ◌≤◌, ◌<◌, List, [], ◌∷◌, ◌++◌, map, eqb-true}
 use Rattle.std.proofs.Math.ListN.{length, get_or, length-drop, length-map}
 use Rattle.std.proofs.Math.Seq.{take-suc, length-take-le}
 use Rattle.basis.specs.Choice.{pick}

@@ -1,10 +1,8 @@
 -- Laws of bytes that go in one after another: cuts change nothing, and what the loader gets of them.
-use Prim.Native.Nat.{ℕ, zero, suc, ◌+◌, ◌≤◌, ◌<◌}
+use Rattle.std.proofs.lemmas.Bool.{eqb-false}
 use Rattle.std.specs.Prelude.{true, false, eqb, get_or, take}
-use mathlib.Core.List.{List, [], ◌∷◌, ◌++◌, append_assoc, append-nil}
-use Rattle.std.proofs.Common.{inl, inr, ◌∙◌, arith, length-append}
+use Rattle.std.proofs.Common.{inl, inr, ◌∙◌, arith, length-append, ℕ, zero, suc, ◌+◌, ◌≤◌, ◌<◌, List, [], ◌∷◌, ◌++◌, append_assoc, append-nil, eq-eqb, ne_eqb, eqb-true}
 use Rattle.std.proofs.Math.Path.{◌≡◌, refl, sym, ap, subst}
-use borrow.Author.Tests.{eq-eqb, ne_eqb, eqb-true, eqb-false}
 use Rattle.std.proofs.Math.ListN.{length}
 use Rattle.basis.specs.Board.{answer_most, opening_byte}
 use Rattle.basis.specs.Laws.Choice.{decide}

@@ -1,9 +1,9 @@
 -- Laws of pieces: every number that passes lies in exactly one, pieces hold nothing else, are at most cap
 -- long, cut from the run's start, ascending and disjoint; with no cap reached they are the maximal runs.
+use Rattle.std.proofs.lemmas.Bool.{eqb-false}
 use Rattle.std.specs.Prelude.{ℕ, zero, suc, ◌+◌, ◌-◌, ◌≤◌, ◌<◌, ◌≡◌, Bool, true, false, eqb, ltb}
-use Rattle.std.proofs.Common.{add-zero, add-suc, eq-or-lt_of_le, le_of_suc-le-suc, arith, sym, ap, subst, ◌∙◌, ⊎_elim}
+use Rattle.std.proofs.Common.{add-zero, add-suc, eq-or-lt_of_le, le_of_suc-le-suc, arith, sym, ap, subst, ◌∙◌, ⊎_elim, eq-eqb, ne_eqb, eqb-true, ltb-true, ltb-false}
 use Rattle.std.proofs.Math.Path.{refl}
-use borrow.Author.Tests.{eq-eqb, ne_eqb, eqb-true, eqb-false, ltb-true, ltb-false}
 use Rattle.basis.specs.Laws.Choice.{decide, both_true, true-false}
 use Rattle.runs.specs.Runs.{count, off, starts, len, next, home, follow}
 use Rattle.runs.specs.Laws.Runs.{count-zero, count_yes, count-skip, rank-only, next-ge, next-pass, next-skip, len-le, len-in, len-ge, len_out}

@@ -1,6 +1,7 @@
 -- Laws of false records: each test decides what the definition decides, once those before it have failed.
+use Rattle.std.proofs.lemmas.Bool.{lt-leb}
+use Rattle.std.proofs.Common.{eq-eqb, ne_eqb, lt-ltb, le-ltb, le-leb}
 use Rattle.std.specs.Prelude.{ℕ, ◌≤◌, ◌<◌, true, false, not, ◌≡◌, eqb, ltb}
-use borrow.Author.Tests.{eq-eqb, ne_eqb, lt-ltb, le-ltb, le-leb, lt-leb}
 use Rattle.basis.specs.Units.{start_of}
 use Rattle.service_log.specs.Log.{known, few, is_false_of}
 

@@ -1,9 +1,8 @@
 -- A session is written as its outcome and counts are, what is written reads back, a record that reads as
 -- valid or held says that all is acknowledged, and the log of a session tells its file's own counts.
 use Rattle.std.specs.Prelude.{ℕ, ◌+◌, ◌*◌, ◌^◌, ◌≤◌, ◌<◌, true, false, not, ◌≡◌, eqb, ltb}
-use mathlib.Core.List.{List, [], ◌∷◌, ◌++◌, append_assoc, append-nil}
 use Rattle.std.proofs.Math.Path.{refl, sym, ap}
-use Rattle.std.proofs.Common.{◌∙◌, arith, eq-eqb, ne_eqb, eqb-true, ltb-true, lt-ltb, le-ltb, leb-true, le-leb}
+use Rattle.std.proofs.Common.{◌∙◌, arith, eq-eqb, ne_eqb, eqb-true, ltb-true, lt-ltb, le-ltb, leb-true, le-leb, List, [], ◌∷◌, ◌++◌, append_assoc, append-nil}
 use Rattle.std.proofs.lemmas.Bool.{not-false}
 use Rattle.std.proofs.Math.ListN.{length, length-append}
 use Rattle.basis.specs.Board.{pages_of, board_of, version_of, count_bytes, log_length, board_logged}

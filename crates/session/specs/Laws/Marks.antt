@@ -1,12 +1,10 @@
 -- Laws of marks: a byte is marked by the ACK to the V that carries it, and R is out only when all named
 -- bytes are, where it was asked for.
-use Prim.Native.Nat.{ℕ, ◌+◌, ◌≤◌, ◌<◌}
+use Rattle.std.proofs.lemmas.Bool.{eqb-false}
 use Rattle.std.proofs.Math.Bool.{true, not}
 use Rattle.std.specs.Prelude.{List, ◌≡◌, eqb, length, get_or}
 use Rattle.std.proofs.Math.Path.{refl, sym}
-use Rattle.std.proofs.Common.{ap, subst, ◌∙◌}
-use native.Mathlib.Omega.{arith}
-use borrow.Author.Tests.{eq-eqb, eqb-true, eqb-false, le-leb, leb-true}
+use Rattle.std.proofs.Common.{ap, subst, ◌∙◌, ℕ, ◌+◌, ◌≤◌, ◌<◌, arith, eq-eqb, eqb-true, le-leb, leb-true}
 use Rattle.basis.specs.Laws.Choice.{decide, both_true, both-second, both_false}
 use Rattle.basis.specs.Laws.Refusals.{skip, done}
 use Rattle.basis.specs.Refusals.{given}

@@ -1,5 +1,5 @@
 -- `classify` meets its contract: each test is one of the definition's, in its order.
-use mathlib.Core.Path.{sym, ◌∙◌}
+use Rattle.std.proofs.Common.{sym, ◌∙◌}
 use Rattle.events.specs.Events.{classify_of}
 use Rattle.events.proofs.event.classify.Goals as goal
 

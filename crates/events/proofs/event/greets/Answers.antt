@@ -1,11 +1,5 @@
 -- `greets` meets its contract: each test is one of the definition's, in its order.
-use Prim.Native.Nat.{ℕ, ◌-◌, ◌≤◌}
-use mathlib.Core.List.{List}
-use mathlib.Core.Path.{sym, ap, ◌∙◌}
-use native.Mathlib.Omega.{arith}
-use borrow.Author.Tests.{eq-eqb, ne_eqb}
-use lib.ListN.{length, take, drop, length-drop}
-use lib.Seq.{take_all}
+use Rattle.std.proofs.Common.{ℕ, ◌-◌, ◌≤◌, List, sym, ap, ◌∙◌, arith, eq-eqb, ne_eqb, length, take, drop, length-drop, take_all}
 use Rattle.basis.specs.Board.{pages_of, greeting_of}
 use Rattle.basis.specs.Laws.Choice.{both-second, both_false}
 use Rattle.events.specs.Events.{same_of, greets_of}

@@ -1,7 +1,6 @@
 -- `same` meets its contract: the answer from the start is the answer from here, until two bytes differ or
 -- none is left.
-use mathlib.Core.Path.{sym, ◌∙◌}
-use native.Mathlib.Omega.{arith}
+use Rattle.std.proofs.Common.{sym, ◌∙◌, arith}
 use Rattle.events.proofs.Turns.{same-unlike, same_next, same_differs, same_end}
 use Rattle.events.proofs.event.same.Goals as goal
 

@@ -1,7 +1,5 @@
 -- What each turn of `same` keeps, and what falls.
-use Prim.Native.Nat.{◌≤◌, ◌-◌}
-use mathlib.Core.Path.{◌≡◌}
-use lib.ListN.{length, drop}
+use Rattle.std.proofs.Common.{◌≤◌, ◌-◌, ◌≡◌, length, drop}
 use Rattle.events.specs.Events.{same_of}
 use Rattle.events.proofs.event.same.Given as goal
 

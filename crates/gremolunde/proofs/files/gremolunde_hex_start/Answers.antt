@@ -1,6 +1,6 @@
 -- `gremolunde_hex_start` meets its contract: it is the start of a reader on the board, its answer as C gets
 -- it.
-use mathlib.Core.Path.{refl, sym, ◌∙◌}
+use Rattle.std.proofs.Common.{refl, sym, ◌∙◌}
 use Rattle.image.specs.Record.{wrong, column_of}
 use Rattle.gremolunde.specs.Answers.{hex_answer}
 use Rattle.gremolunde.proofs.files.gremolunde_hex_start.Goals as goal

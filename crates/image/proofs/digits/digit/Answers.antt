@@ -1,6 +1,6 @@
 -- `digit` meets its contract: each arm knows in which row of characters the one at hand stands.
+use Rattle.std.proofs.lemmas.Bool.{lt-leb}
 use Rattle.std.proofs.Common.{◌≡◌, ℕ, ◌<◌, ◌≤◌, true, false, leb, ap, ◌∙◌, arith, le-leb}
-use borrow.Author.Tests.{lt-leb}
 use Rattle.basis.specs.Choice.{both}
 use Rattle.basis.specs.Laws.Choice.{both-no}
 use Rattle.image.specs.Digits.{digit_of}

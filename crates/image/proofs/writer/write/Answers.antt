@@ -1,6 +1,6 @@
 -- `write` meets its contract: one lemma for each way out.
+use Rattle.std.proofs.lemmas.Bool.{lt-leb}
 use Rattle.std.proofs.Common.{◌≡◌, ℕ, ◌+◌, ◌-◌, ◌<◌, ◌≤◌, true, false, List, [], length, sym, ap, ◌∙◌, arith, le-ltb, lt-ltb, le-leb}
-use borrow.Author.Tests.{lt-leb}
 use Rattle.basis.specs.Board.{pages_of}
 use Rattle.basis.specs.Units.{start_of, right_sizes_in}
 use Rattle.basis.specs.Refusals.{refused, given, first}

@@ -1,9 +1,5 @@
 -- `exchange` meets its contract: what arrives stands at the start of the buffer, and the session steps on it.
-use Prim.Native.Nat.{◌≤◌}
-use mathlib.Core.Path.{◌≡◌, ap, ◌∙◌, sym}
-use native.Mathlib.Omega.{arith}
-use lib.ListN.{length, take}
-use lib.Seq.{length-take-le}
+use Rattle.std.proofs.Common.{◌≤◌, ◌≡◌, ap, ◌∙◌, sym, arith, length, take, length-take-le}
 use Rattle.basis.specs.Board.{pages_of}
 use Rattle.line.proofs.Delivering.{goes, keeps}
 use Rattle.line.specs.Line.{Moment, moment_on}

@@ -1,6 +1,5 @@
 -- `begin` meets its contract: what the start refuses is refused, and what it gives is a moment just begun.
-use mathlib.Core.Path.{sym, ap, ◌∙◌}
-use native.Mathlib.Omega.{arith}
+use Rattle.std.proofs.Common.{sym, ap, ◌∙◌, arith}
 use Rattle.line.proofs.Beginning.{begun-again, begun-load}
 use Rattle.basis.specs.Board.{pages_of}
 use Rattle.line.specs.Laws.Rehearsing.{start-refused, start-driven}

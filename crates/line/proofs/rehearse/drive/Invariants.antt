@@ -1,6 +1,5 @@
 -- What each turn of `drive` keeps, and what falls.
-use Prim.Native.Nat.{◌+◌, ◌-◌, ◌≤◌}
-use mathlib.Core.Path.{◌≡◌}
+use Rattle.std.proofs.Common.{◌+◌, ◌-◌, ◌≤◌, ◌≡◌}
 use Rattle.basis.specs.Board.{pages_of}
 use Rattle.line.specs.Line.{Lent, loss_at, moment_at, moment_on}
 use Rattle.order.specs.Plan.{total}

@@ -1,5 +1,5 @@
 -- `erase` meets its contract: the sequence first, then the mass erase, then the table of 7 and 8.
-use mathlib.Core.Path.{◌∙◌, sym}
+use Rattle.std.proofs.Common.{◌∙◌, sym}
 use Rattle.basis.specs.Board.{pages_of}
 use Rattle.loader.specs.Laws.Commands.{erasing-open, erasing-mass, erasing-pages}
 use Rattle.loader.proofs.Judging.{refuses, accepts}

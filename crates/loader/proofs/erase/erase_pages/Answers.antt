@@ -1,8 +1,6 @@
 -- `erase_pages` meets its contract: each test is a row of the table,
 -- and the groups asked for are those of the pages.
-use Prim.Native.Nat.{ℕ, ◌+◌, ◌-◌, ◌*◌, ◌≤◌, ◌<◌}
-use mathlib.Core.Path.{◌≡◌, ap, ap₂, sym, ◌∙◌}
-use native.Mathlib.Omega.{arith}
+use Rattle.std.proofs.Common.{ℕ, ◌+◌, ◌-◌, ◌*◌, ◌≤◌, ◌<◌, ◌≡◌, ap, ap₂, sym, ◌∙◌, arith}
 use Rattle.basis.specs.Board.{pages_of, page_size, group_size}
 use Rattle.basis.specs.Refusals.{given}
 use Rattle.basis.specs.Units.{page_of, page_group_of, group_of, start_of}

@@ -1,7 +1,5 @@
 -- `judge` meets its contract: each command is judged as its definition says.
-use Prim.Native.Nat.{ℕ}
-use mathlib.Core.List.{List}
-use mathlib.Core.Path.{◌≡◌, ap, sym, ◌∙◌}
+use Rattle.std.proofs.Common.{ℕ, List, ◌≡◌, ap, sym, ◌∙◌}
 use Rattle.basis.specs.Board.{pages_of}
 use Rattle.loader.specs.Commands.{erasing, writing, keeping, protecting, obey_of}
 use Rattle.loader.specs.Laws.Commands.{obey-erase, obey-write, obey-verify, obey-protect, obey-run}

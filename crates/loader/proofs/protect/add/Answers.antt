@@ -1,6 +1,6 @@
 -- `add` meets its contract: 9, then 7, then the address is to be added.
-use mathlib.Core.Path.{ap, ◌∙◌}
-use borrow.Author.Tests.{le-leb, lt-leb}
+use Rattle.std.proofs.lemmas.Bool.{lt-leb}
+use Rattle.std.proofs.Common.{ap, ◌∙◌, le-leb}
 use Rattle.basis.specs.Laws.Refusals.{skip, stop, done}
 use Rattle.loader.specs.Commands.{keeping, adding}
 use Rattle.loader.proofs.Judging.{refuses, accepts}

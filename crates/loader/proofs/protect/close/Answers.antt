@@ -1,5 +1,5 @@
 -- `close` meets its contract: 9, or the sequence is to close.
-use mathlib.Core.Path.{ap, ◌∙◌}
+use Rattle.std.proofs.Common.{ap, ◌∙◌}
 use Rattle.basis.specs.Laws.Refusals.{skip, stop, done}
 use Rattle.loader.specs.Commands.{keeping, closing}
 use Rattle.loader.proofs.Judging.{refuses, accepts}

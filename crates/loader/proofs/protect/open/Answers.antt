@@ -1,5 +1,5 @@
 -- `open` meets its contract: 9, or a sequence is to open.
-use mathlib.Core.Path.{ap, ◌∙◌}
+use Rattle.std.proofs.Common.{ap, ◌∙◌}
 use Rattle.basis.specs.Laws.Refusals.{skip, stop, done}
 use Rattle.loader.specs.Commands.{keeping, opening}
 use Rattle.loader.proofs.Judging.{refuses, accepts}

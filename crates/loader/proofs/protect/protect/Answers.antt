@@ -1,5 +1,5 @@
 -- `protect` meets its contract: the type decides.
-use borrow.Author.Tests.{ne_eqb}
+use Rattle.std.proofs.Common.{ne_eqb}
 use Rattle.loader.specs.Commands.{protecting}
 use Rattle.loader.proofs.protect.protect.Goals as goal
 

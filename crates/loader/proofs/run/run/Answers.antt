@@ -1,6 +1,5 @@
 -- `run` meets its contract: 9, then 7, then the loader is to be left.
-use mathlib.Core.Path.{ap, ◌∙◌}
-use borrow.Author.Tests.{lt-ltb, le-ltb}
+use Rattle.std.proofs.Common.{ap, ◌∙◌, lt-ltb, le-ltb}
 use Rattle.basis.specs.Laws.Refusals.{skip, stop, done}
 use Rattle.loader.specs.Commands.{keeping, running}
 use Rattle.loader.proofs.Judging.{refuses, accepts}

@@ -1,5 +1,5 @@
 -- `hear` meets its contract: each condition has its case.
-use mathlib.Core.Path.{sym, ◌∙◌}
+use Rattle.std.proofs.Common.{sym, ◌∙◌}
 use Rattle.basis.specs.Board.{pages_of}
 use Rattle.loader.specs.Laws.Take.{heard-waiting, waiting-unheard, heard-serving, left-unheard}
 use Rattle.loader.proofs.Judging.{refuses, accepts}

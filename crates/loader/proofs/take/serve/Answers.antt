@@ -1,9 +1,5 @@
 -- `serve` meets its contract: what was read is judged, on the bytes that it names.
-use Prim.Native.Nat.{ℕ, ◌+◌, ◌≤◌}
-use mathlib.Core.List.{List}
-use mathlib.Core.Path.{◌≡◌, ap, sym, ◌∙◌}
-use native.Mathlib.Omega.{arith}
-use lib.ListN.{length}
+use Rattle.std.proofs.Common.{ℕ, ◌+◌, ◌≤◌, List, ◌≡◌, ap, sym, ◌∙◌, arith, length}
 use Rattle.basis.specs.Board.{pages_of}
 use Rattle.basis.specs.Refusals.{given}
 use Rattle.loader.specs.Commands.{obey_of}

@@ -1,9 +1,5 @@
 -- `take` meets its contract: the two sizes, then what was heard, done or left, and told.
-use Prim.Native.Nat.{ℕ}
-use mathlib.Core.Bool.{Bool}
-use mathlib.Core.List.{List}
-use mathlib.Core.Path.{◌≡◌, refl, ap, sym, ◌∙◌}
-use lib.ListN.{length}
+use Rattle.std.proofs.Common.{ℕ, Bool, List, ◌≡◌, refl, ap, sym, ◌∙◌, length}
 use Rattle.basis.specs.Board.{pages_of}
 use Rattle.basis.specs.Lists.{overlay}
 use Rattle.basis.specs.Refusals.{refused, given}

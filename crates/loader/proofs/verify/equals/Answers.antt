@@ -1,6 +1,5 @@
 -- `equals` meets its contract: the bytes passed so far are equal.
-use mathlib.Core.Path.{sym, ◌∙◌}
-use native.Mathlib.Omega.{arith}
+use Rattle.std.proofs.Common.{sym, ◌∙◌, arith}
 use Rattle.loader.proofs.Turns.{equals-on, equals-differs, equals-end}
 use Rattle.loader.proofs.verify.equals.Goals as goal
 

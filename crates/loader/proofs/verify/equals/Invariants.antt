@@ -1,7 +1,5 @@
 -- What each turn of `equals` keeps, and what falls.
-use Prim.Native.Nat.{◌+◌, ◌≤◌, ◌-◌}
-use mathlib.Core.Path.{◌≡◌}
-use lib.ListN.{length, drop}
+use Rattle.std.proofs.Common.{◌+◌, ◌≤◌, ◌-◌, ◌≡◌, length, drop}
 use Rattle.loader.specs.Verify.{equals_of}
 use Rattle.loader.proofs.verify.equals.Given as goal
 

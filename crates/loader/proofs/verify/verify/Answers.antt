@@ -1,9 +1,5 @@
 -- `verify` meets its contract: each test is a row of the table.
-use Prim.Native.Nat.{◌+◌}
-use mathlib.Core.Bool.{not, false}
-use mathlib.Core.Path.{◌≡◌, ap, sym, ◌∙◌}
-use lib.Dec.{ltb}
-use lib.ListN.{length}
+use Rattle.std.proofs.Common.{◌+◌, not, false, ◌≡◌, ap, sym, ◌∙◌, ltb, length}
 use Rattle.basis.specs.Board.{pages_of}
 use Rattle.basis.specs.Laws.Refusals.{skip, stop, done}
 use Rattle.basis.specs.Units.{start_of}

@@ -1,10 +1,6 @@
 -- `write` meets its contract: each test is a row of the table,
 -- and the groups asked for are those of the bytes.
-use Prim.Native.Nat.{ℕ, ◌+◌, ◌-◌, ◌≤◌}
-use mathlib.Core.Path.{◌≡◌, ap, ap₂, sym, ◌∙◌}
-use mathlib.Core.List.{List}
-use borrow.Author.Tests.{ltb-true, ltb-false}
-use lib.ListN.{length}
+use Rattle.std.proofs.Common.{ℕ, ◌+◌, ◌-◌, ◌≤◌, ◌≡◌, ap, ap₂, sym, ◌∙◌, List, ltb-true, ltb-false, length}
 use Rattle.basis.specs.Board.{pages_of}
 use Rattle.basis.specs.Refusals.{given, first}
 use Rattle.basis.specs.Units.{start_of}

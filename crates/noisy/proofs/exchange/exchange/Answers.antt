@@ -1,7 +1,5 @@
 -- `exchange` meets its contract: the board's part, then the session's.
-use Prim.Native.Nat.{◌≤◌}
-use native.Mathlib.Omega.{arith}
-use lib.ListN.{length}
+use Rattle.std.proofs.Common.{◌≤◌, arith, length}
 use Rattle.basis.specs.Board.{pages_of}
 use Rattle.noisy.proofs.Exchanging.{exchanges}
 use Rattle.noisy.proofs.exchange.exchange.Goals as goal

@@ -1,8 +1,5 @@
 -- `feed` meets its contract: what is left, from here, gives what was to be given.
-use Prim.Native.Nat.{◌+◌, ◌≤◌, ◌<◌}
-use mathlib.Core.Path.{◌∙◌}
-use native.Mathlib.Omega.{arith}
-use lib.ListN.{length, take, drop, length-take}
+use Rattle.std.proofs.Common.{◌+◌, ◌≤◌, ◌<◌, ◌∙◌, arith, length, take, drop, length-take}
 use Rattle.basis.specs.Board.{pages_of, answer_most}
 use Rattle.noisy.proofs.Joining.{remains-less, remains-none, serves-rest, rest-taken, room-full, answered-bytes}
 use Rattle.port.specs.Port.{turn_of, Serves}

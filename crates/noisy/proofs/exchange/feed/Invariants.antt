@@ -1,7 +1,5 @@
 -- What each turn of `feed` keeps, and what falls.
-use Prim.Native.Nat.{◌-◌, ◌≤◌}
-use mathlib.Core.Path.{◌≡◌}
-use lib.ListN.{length, take}
+use Rattle.std.proofs.Common.{◌-◌, ◌≤◌, ◌≡◌, length, take}
 use Rattle.basis.specs.Board.{pages_of, answer_most}
 use Rattle.basis.specs.Units.{start_of}
 use Rattle.noisy.proofs.Joining.{Remains}

@@ -1,11 +1,6 @@
 -- `drive` meets its contract: after i turns the moment after i exchanges stands, and i is at most total + 1.
-use Prim.Native.Nat.{◌+◌, ◌≤◌}
-use mathlib.Core.Bool.{false}
-use mathlib.Core.Path.{◌≡◌, refl, sym, ap, ◌∙◌}
-use native.Mathlib.Nat.{zero-mul}
-use native.Mathlib.Omega.{arith}
-use borrow.Author.Tests.{not-true, not-false}
-use lib.ListN.{length}
+use Rattle.std.proofs.lemmas.Bool.{not-true, not-false}
+use Rattle.std.proofs.Common.{◌+◌, ◌≤◌, false, ◌≡◌, refl, sym, ap, ◌∙◌, zero-mul, arith, length}
 use Rattle.basis.specs.Board.{pages_of}
 use Rattle.basis.specs.Laws.Boards.{pages-few}
 use Rattle.line.specs.Line.{loss_at}

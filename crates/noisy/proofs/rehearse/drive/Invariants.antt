@@ -1,7 +1,5 @@
 -- What each turn of `drive` keeps, and what falls.
-use Prim.Native.Nat.{◌+◌, ◌-◌, ◌*◌, ◌≤◌}
-use mathlib.Core.Path.{◌≡◌}
-use lib.ListN.{length, drop}
+use Rattle.std.proofs.Common.{◌+◌, ◌-◌, ◌*◌, ◌≤◌, ◌≡◌, length, drop}
 use Rattle.basis.specs.Board.{pages_of}
 use Rattle.line.specs.Line.{Lent, loss_at}
 use Rattle.noisy.specs.Noisy.{noisy_at, rubbish_at, heard_most, noisy_on}

@@ -1,7 +1,5 @@
 -- `follow` meets its contract, step by step; a step at a start stands on the board.
-use Prim.Native.Nat.{ℕ, ◌<◌}
-use mathlib.Core.Path.{◌≡◌, refl, sym, ap, ◌∙◌}
-use lib.ListN.{length}
+use Rattle.std.proofs.Common.{ℕ, ◌<◌, ◌≡◌, refl, sym, ap, ◌∙◌, length}
 use Rattle.basis.specs.Board.{pages_of}
 use Rattle.basis.specs.Units.{start_of, map_bytes}
 use Rattle.runs.specs.Pieces.{piece_starts}

@@ -1,5 +1,5 @@
 -- `next_piece` meets its contract: what follows a piece is the next named byte behind it.
-use native.Mathlib.Omega.{arith}
+use Rattle.std.proofs.Common.{arith}
 use Rattle.runs.specs.Laws.Runs.{len-le}
 use Rattle.runs.specs.Map.{named}
 use Rattle.runs.specs.Pieces.{piece_most}

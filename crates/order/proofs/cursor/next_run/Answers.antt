@@ -1,5 +1,5 @@
 -- `next_run` meets its contract: what follows a run is the next touched page behind it.
-use native.Mathlib.Omega.{arith}
+use Rattle.std.proofs.Common.{arith}
 use Rattle.runs.specs.Laws.Runs.{len-le}
 use Rattle.runs.specs.Pages.{touched}
 use Rattle.order.proofs.cursor.next_run.Goals as goal

@@ -1,5 +1,6 @@
 -- `page_place` meets its contract: a page of the board has its start, any other the board's end.
-use borrow.Author.Tests.{le-leb, lt-leb}
+use Rattle.std.proofs.lemmas.Bool.{lt-leb}
+use Rattle.std.proofs.Common.{le-leb}
 use Rattle.order.specs.Steps.{place_of}
 use Rattle.order.proofs.cursor.page_place.Goals as goal
 

@@ -1,5 +1,5 @@
 -- `place` meets its contract, step by step.
-use mathlib.Core.Path.{sym, ap}
+use Rattle.std.proofs.Common.{sym, ap}
 use Rattle.order.specs.Steps.{place_of}
 use Rattle.order.proofs.cursor.place.Goals as goal
 

@@ -1,5 +1,5 @@
 -- `send_erase` meets its contract: a run has at most 248 pages.
-use native.Mathlib.Omega.{arith}
+use Rattle.std.proofs.Common.{arith}
 use Rattle.basis.specs.Board.{pages_of}
 use Rattle.basis.specs.Laws.Boards.{pages-few}
 use Rattle.runs.specs.Laws.Runs.{len-le}

@@ -1,9 +1,5 @@
 -- `send_piece` meets its contract: a piece has 1 to 250 bytes, all in the image.
-use Prim.Native.Nat.{◌*◌, ◌/◌, ◌%◌, ℕ}
-use mathlib.Core.List.{List}
-use mathlib.Core.Path.{◌≡◌}
-use native.Mathlib.Omega.{arith}
-use lib.ListN.{length}
+use Rattle.std.proofs.Common.{◌*◌, ◌/◌, ◌%◌, ℕ, List, ◌≡◌, arith, length}
 use Rattle.basis.specs.Units.{start_of, map_bytes}
 use Rattle.runs.specs.Laws.Files.{file-piece}
 use Rattle.order.specs.Laws.Starts.{piece-below, piece-carried}

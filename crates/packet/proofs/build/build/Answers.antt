@@ -1,9 +1,5 @@
 -- `build` meets its contract: the table decides, and what it passes is written.
-use Prim.Native.Nat.{ℕ, ◌+◌, ◌≤◌}
-use mathlib.Core.List.{List}
-use mathlib.Core.Path.{◌≡◌, ap, sym, ◌∙◌}
-use native.Mathlib.Omega.{arith}
-use lib.ListN.{length, get_or}
+use Rattle.std.proofs.Common.{ℕ, ◌+◌, ◌≤◌, List, ◌≡◌, ap, sym, ◌∙◌, arith, length, get_or}
 use Rattle.basis.specs.Laws.Refusals.{leaves, writes, alike}
 use Rattle.basis.specs.Refusals.{refused, given, first}
 use Rattle.packet.specs.Laws.Packet.{packet-length, build-small, build-table, build-packet}

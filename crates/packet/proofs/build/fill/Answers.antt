@@ -1,9 +1,7 @@
 -- `fill` meets its contract: the bytes written so far are the first of those to be carried.
-use Prim.Native.Nat.{◌<◌}
-use mathlib.Core.List.{map}
-use native.Mathlib.Omega.{arith}
-use borrow.Author.Rules.{rules}
-use lib.ListN.{length, length-set, length-map, get_or-map}
+use Rattle.std.proofs.lemmas.List.{length-map}
+use Rattle.std.proofs.Common.{◌<◌, map, arith, rules, length, length-set}
+use lib.ListN.{get_or-map}
 use Rattle.basis.specs.Laws.Lists.{overlay-more}
 use Rattle.packet.specs.Packet.{carried_of}
 use Rattle.packet.proofs.build.fill.Goals as goal

@@ -1,8 +1,5 @@
 -- What each turn of `fill` keeps, and what falls.
-use Prim.Native.Nat.{◌≤◌, ◌-◌}
-use mathlib.Core.List.{map}
-use mathlib.Core.Path.{◌≡◌}
-use lib.ListN.{length, take}
+use Rattle.std.proofs.Common.{◌≤◌, ◌-◌, map, ◌≡◌, length, take}
 use Rattle.basis.specs.Lists.{overlay}
 use Rattle.packet.specs.Packet.{carried_of}
 use Rattle.packet.proofs.build.fill.Given as goal

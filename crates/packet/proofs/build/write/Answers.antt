@@ -1,11 +1,7 @@
 -- `write` meets its contract: front, data and checksum follow one another.
-use Prim.Native.Nat.{ℕ, ◌+◌, ◌-◌, ◌<◌}
-use mathlib.Core.List.{List, ◌++◌, map}
-use mathlib.Core.Path.{◌≡◌, refl, ap, ◌∙◌}
-use native.Mathlib.Omega.{arith}
+use Rattle.std.proofs.lemmas.List.{length-map}
+use Rattle.std.proofs.Common.{ℕ, ◌+◌, ◌-◌, ◌<◌, List, ◌++◌, map, ◌≡◌, refl, ap, ◌∙◌, arith, length, take, drop, set, take_at}
 use borrow.Rule.Slice.PartMut.{put_mid}
-use lib.ListN.{length, take, drop, set, length-map}
-use lib.Seq.{take_at}
 use Rattle.basis.specs.Laws.Lists.{overlay-part, overlay-next}
 use Rattle.basis.specs.Lists.{overlay}
 use Rattle.basis.specs.Sums.{checksum_of}

@@ -1,12 +1,6 @@
 -- `read` meets its contract: each test is a row of the table, in its order.
-use Prim.Native.Nat.{ℕ, ◌-◌, ◌≤◌}
-use mathlib.Core.Bool.{not}
-use mathlib.Core.List.{List}
-use mathlib.Core.Path.{◌≡◌, ap, sym, ◌∙◌}
-use native.Mathlib.Omega.{arith}
-use borrow.Author.Tests.{le-leb, lt-leb, lt-ltb, le-ltb, eq-eqb, ne_eqb}
-use lib.ListN.{length, drop, length-drop}
-use lib.Seq.{take_all}
+use Rattle.std.proofs.lemmas.Bool.{lt-leb}
+use Rattle.std.proofs.Common.{ℕ, ◌-◌, ◌≤◌, not, List, ◌≡◌, ap, sym, ◌∙◌, arith, le-leb, lt-ltb, le-ltb, eq-eqb, ne_eqb, length, drop, length-drop, take_all}
 use Rattle.basis.specs.Laws.Refusals.{skip, stop, done}
 use Rattle.basis.specs.Refusals.{first}
 use Rattle.basis.specs.Sums.{sum_of}

@@ -1,7 +1,5 @@
 -- `tabled` meets its contract: the table's word on the command is its word on the packet.
-use Prim.Native.Nat.{ℕ, ◌-◌}
-use mathlib.Core.List.{List}
-use mathlib.Core.Path.{◌≡◌, ap, sym, ◌∙◌}
+use Rattle.std.proofs.Common.{ℕ, ◌-◌, List, ◌≡◌, ap, sym, ◌∙◌}
 use Rattle.basis.specs.Laws.Refusals.{alike}
 use Rattle.basis.specs.Refusals.{refused, given, first}
 use Rattle.packet.specs.Laws.Table.{table-passes, table-holds}

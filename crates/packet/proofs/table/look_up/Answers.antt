@@ -1,9 +1,5 @@
 -- `look_up` meets its contract: each arm is a row of the table.
-use Prim.Native.Nat.{ℕ}
-use mathlib.Core.Bool.{Bool, true, false, not}
-use mathlib.Core.Path.{◌≡◌, refl, ap, sym, ◌∙◌}
-use borrow.Author.Tests.{eq-eqb, ne_eqb}
-use lib.Dec.{eqb}
+use Rattle.std.proofs.Common.{ℕ, Bool, true, false, not, ◌≡◌, refl, ap, sym, ◌∙◌, eq-eqb, ne_eqb, eqb}
 use Rattle.basis.specs.Choice.{pick}
 use Rattle.basis.specs.Laws.Choice.{both-second, both_false}
 use Rattle.basis.specs.Laws.Refusals.{stop}

@@ -1,6 +1,5 @@
 -- `bytes` meets its contract: the walk is the one over the bytes passed.
-use native.Mathlib.Omega.{arith}
-use borrow.Author.Rules.{rules}
+use Rattle.std.proofs.Common.{arith, rules}
 use Rattle.plain.specs.Laws.List.{walk_none, walk-again, walk-most}
 use Rattle.plain.proofs.list.bytes.Goals as goal
 

@@ -1,7 +1,5 @@
 -- `list` meets its contract: what the three walks tell.
-use Prim.Native.Nat.{ℕ, ◌<◌}
-use mathlib.Core.Path.{◌≡◌, ap, ◌∙◌}
-use native.Mathlib.Omega.{arith}
+use Rattle.std.proofs.Common.{ℕ, ◌<◌, ◌≡◌, ap, ◌∙◌, arith}
 use Rattle.basis.specs.Board.{pages_of}
 use Rattle.basis.specs.Laws.Boards.{pages-few, pages-some}
 use Rattle.basis.specs.Units.{start_of}

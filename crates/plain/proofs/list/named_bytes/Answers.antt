@@ -1,7 +1,5 @@
 -- `named_bytes` meets its contract: what is counted is named, and below the place.
-use mathlib.Core.Path.{sym}
-use native.Mathlib.Omega.{arith}
-use borrow.Author.Rules.{rules}
+use Rattle.std.proofs.Common.{sym, arith, rules}
 use Rattle.plain.specs.Laws.List.{count-again}
 use Rattle.runs.specs.Laws.Runs.{count-zero, count-le}
 use Rattle.runs.specs.Map.{named}

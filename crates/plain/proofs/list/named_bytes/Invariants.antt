@@ -1,6 +1,5 @@
 -- What each turn of `named_bytes` keeps, and what falls.
-use Prim.Native.Nat.{◌-◌, ◌≤◌}
-use mathlib.Core.Path.{◌≡◌}
+use Rattle.std.proofs.Common.{◌-◌, ◌≤◌, ◌≡◌}
 use Rattle.runs.specs.Map.{named}
 use Rattle.runs.specs.Runs.{count}
 use Rattle.plain.proofs.list.named_bytes.Given as goal

@@ -1,6 +1,5 @@
 -- `pages` meets its contract: the walk is the one over the pages passed.
-use native.Mathlib.Omega.{arith}
-use borrow.Author.Rules.{rules}
+use Rattle.std.proofs.Common.{arith, rules}
 use Rattle.plain.specs.Laws.List.{walk_none, walk-again, walk-most}
 use Rattle.plain.proofs.list.pages.Goals as goal
 

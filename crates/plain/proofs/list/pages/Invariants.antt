@@ -1,6 +1,5 @@
 -- What each turn of `pages` keeps, and what falls.
-use Prim.Native.Nat.{◌-◌, ◌≤◌}
-use mathlib.Core.Path.{◌≡◌}
+use Rattle.std.proofs.Common.{◌-◌, ◌≤◌, ◌≡◌}
 use Rattle.plain.specs.List.{walk_at}
 use Rattle.runs.specs.Pages.{touched}
 use Rattle.plain.proofs.list.pages.Given as goal

@@ -1,7 +1,5 @@
 -- `marked` meets its contract: the walks number the V of the byte's piece.
-use Prim.Native.Nat.{◌<◌}
-use mathlib.Core.Path.{◌≡◌, sym, ap, ◌∙◌}
-use native.Mathlib.Omega.{arith}
+use Rattle.std.proofs.Common.{◌<◌, ◌≡◌, sym, ap, ◌∙◌, arith}
 use Rattle.basis.specs.Board.{pages_of}
 use Rattle.basis.specs.Laws.Boards.{pages-few, pages-some}
 use Rattle.order.specs.Laws.Marks.{mark-unnamed, mark-past, mark-by}

@@ -1,6 +1,5 @@
 -- `piece_len` meets its contract: what was passed is named, and what comes next is not, or one too many.
-use mathlib.Core.Path.{sym, ◌∙◌}
-use native.Mathlib.Omega.{arith}
+use Rattle.std.proofs.Common.{sym, ◌∙◌, arith}
 use Rattle.plain.specs.Laws.List.{row-only}
 use Rattle.runs.specs.Laws.Files.{bytes_past}
 use Rattle.plain.proofs.sending.piece_len.Goals as goal

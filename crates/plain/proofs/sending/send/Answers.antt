@@ -1,9 +1,5 @@
 -- `send` meets its contract, step by step.
-use Prim.Native.Nat.{ℕ, ◌+◌, ◌≤◌, ◌<◌}
-use mathlib.Core.Bool.{true}
-use mathlib.Core.Path.{◌≡◌, refl, sym, ap, ◌∙◌}
-use native.Mathlib.Omega.{arith}
-use lib.ListN.{length}
+use Rattle.std.proofs.Common.{ℕ, ◌+◌, ◌≤◌, ◌<◌, true, ◌≡◌, refl, sym, ap, ◌∙◌, arith, length}
 use Rattle.basis.specs.Board.{pages_of, pages_most}
 use Rattle.basis.specs.Laws.Boards.{pages-few}
 use Rattle.basis.specs.Units.{start_of}

@@ -1,6 +1,5 @@
 -- `send_due` meets its contract: the list's step is the one whose packet is the plan's.
-use mathlib.Core.List.{[]}
-use mathlib.Core.Path.{◌≡◌, ap}
+use Rattle.std.proofs.Common.{[], ◌≡◌, ap}
 use Rattle.basis.specs.Board.{pages_of}
 use Rattle.order.specs.Laws.Plan.{plan-at}
 use Rattle.order.specs.Laws.Steps.{at-stands, stands-start}

@@ -1,6 +1,5 @@
 -- `gather` meets its contract: what the bytes come to is what the receiver made of them.
-use mathlib.Core.Path.{◌≡◌, sym, ap, ◌∙◌}
-use lib.ListN.{length}
+use Rattle.std.proofs.Common.{◌≡◌, sym, ap, ◌∙◌, length}
 use Rattle.basis.specs.Board.{pages_of}
 use Rattle.port.specs.Laws.Port.{through-none, serves-as}
 use Rattle.port.specs.Port.{Turn, through}

@@ -1,5 +1,5 @@
 -- `pass` meets its contract: no byte came, or the first goes to the loader as it comes.
-use lib.ListN.{length}
+use Rattle.std.proofs.Common.{length}
 use Rattle.basis.specs.Board.{pages_of}
 use Rattle.port.specs.Laws.Port.{passes_none, serves-as}
 use Rattle.port.proofs.port.pass.Goals as goal

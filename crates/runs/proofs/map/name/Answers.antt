@@ -1,11 +1,5 @@
 -- `name` meets its contract: a one shifted to the address's bit is joined to its byte.
-use Prim.Native.Nat.{ℕ, ◌*◌, ◌/◌, ◌%◌, ◌^◌}
-use mathlib.Core.Path.{◌≡◌, ap, ◌∙◌}
-use native.Mathlib.Nat.{one-mul}
-use native.Mathlib.Omega.{arith}
-use lib.Bits.{bit_or}
-use lib.ListN.{get_or, set}
-use lib.Pow.{shl_exact}
+use Rattle.std.proofs.Common.{ℕ, ◌*◌, ◌/◌, ◌%◌, ◌^◌, ◌≡◌, ap, ◌∙◌, one-mul, arith, bit_or, get_or, set, shl_exact}
 use Rattle.runs.specs.Map.{name_of}
 use Rattle.runs.proofs.map.name.Goals as goal
 

@@ -1,5 +1,5 @@
 -- `named` meets its contract: the shift brings the address's bit to the bottom.
-use borrow.Author.Rules.{rules}
+use Rattle.std.proofs.Common.{rules}
 use Rattle.runs.specs.Map.{named}
 use Rattle.runs.proofs.map.named.Goals as goal
 

@@ -1,8 +1,5 @@
 -- `next_touched` meets its contract: the page of the lowest named byte is the lowest touched page.
-use Prim.Native.Nat.{ℕ, ◌-◌, ◌≤◌}
-use mathlib.Core.List.{List}
-use mathlib.Core.Path.{◌≡◌, sym, ap, ◌∙◌}
-use native.Mathlib.Omega.{arith}
+use Rattle.std.proofs.Common.{ℕ, ◌-◌, ◌≤◌, List, ◌≡◌, sym, ap, ◌∙◌, arith}
 use Rattle.basis.specs.Units.{page_of, start_of}
 use Rattle.runs.specs.Map.{named}
 use Rattle.runs.specs.Pages.{touched}

@@ -1,8 +1,6 @@
 -- `page_row_len` meets its contract: the row from the start is what was passed and the row from here; past
 -- the map no page is touched.
-use mathlib.Core.Path.{sym, ◌∙◌}
-use native.Mathlib.Omega.{arith}
-use borrow.Author.Rules.{rules}
+use Rattle.std.proofs.Common.{sym, ◌∙◌, arith, rules}
 use Rattle.runs.specs.Laws.Pages.{touched-past}
 use Rattle.runs.proofs.Turns.{len-stop, len-go, len-end}
 use Rattle.runs.proofs.pages.page_row_len.Goals as goal

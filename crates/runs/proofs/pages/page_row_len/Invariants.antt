@@ -1,6 +1,5 @@
 -- What each turn of `page_row_len` keeps, and what falls.
-use Prim.Native.Nat.{◌+◌, ◌-◌, ◌≤◌}
-use mathlib.Core.Path.{◌≡◌}
+use Rattle.std.proofs.Common.{◌+◌, ◌-◌, ◌≤◌, ◌≡◌}
 use Rattle.runs.specs.Pages.{touched}
 use Rattle.runs.specs.Runs.{len}
 use Rattle.runs.proofs.pages.page_row_len.Given as goal

@@ -1,6 +1,5 @@
 -- `touched` meets its contract: the page's addresses are asked.
-use Prim.Native.Nat.{ℕ}
-use mathlib.Core.Path.{ap, ◌∙◌}
+use Rattle.std.proofs.Common.{ℕ, ap, ◌∙◌}
 use Rattle.basis.specs.Board.{page_size}
 use Rattle.runs.specs.Map.{any_named}
 use Rattle.runs.specs.Pages.{touched}

@@ -1,9 +1,5 @@
 -- `any_named` meets its contract: one is named where the search ends before their end.
-use Prim.Native.Nat.{ℕ, ◌+◌, ◌-◌}
-use mathlib.Core.Bool.{Bool}
-use mathlib.Core.Path.{◌≡◌, sym}
-use native.Mathlib.Omega.{arith}
-use lib.Dec.{ltb}
+use Rattle.std.proofs.Common.{ℕ, ◌+◌, ◌-◌, Bool, ◌≡◌, sym, arith, ltb}
 use Rattle.basis.specs.Choice.{any}
 use Rattle.runs.specs.Laws.Runs.{any_next}
 use Rattle.runs.specs.Runs.{next}

@@ -1,9 +1,5 @@
 -- `name_all` meets its contract: naming what is left, from here, gives what was to be given.
-use Prim.Native.Nat.{ℕ, suc, ◌+◌, ◌-◌, ◌≤◌, ◌<◌}
-use mathlib.Core.Path.{◌≡◌, sym, ◌∙◌}
-use mathlib.Core.List.{List}
-use native.Mathlib.Nat.{add_assoc}
-use native.Mathlib.Omega.{arith}
+use Rattle.std.proofs.Common.{ℕ, suc, ◌+◌, ◌-◌, ◌≤◌, ◌<◌, ◌≡◌, sym, ◌∙◌, List, add_assoc, arith}
 use Rattle.runs.specs.Map.{name_of, name_all_of}
 use Rattle.runs.proofs.places.name_all.Goals as goal
 

@@ -1,7 +1,5 @@
 -- What each turn of `name_all` keeps, and what falls.
-use Prim.Native.Nat.{◌+◌, ◌-◌, ◌≤◌}
-use mathlib.Core.Path.{◌≡◌}
-use lib.ListN.{length}
+use Rattle.std.proofs.Common.{◌+◌, ◌-◌, ◌≤◌, ◌≡◌, length}
 use Rattle.runs.specs.Map.{name_all_of}
 use Rattle.runs.proofs.places.name_all.Given as goal
 

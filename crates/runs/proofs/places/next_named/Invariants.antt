@@ -1,6 +1,5 @@
 -- What each turn of `next_named` keeps, and what falls.
-use Prim.Native.Nat.{◌-◌}
-use mathlib.Core.Path.{◌≡◌}
+use Rattle.std.proofs.Common.{◌-◌, ◌≡◌}
 use Rattle.runs.specs.Map.{named}
 use Rattle.runs.specs.Runs.{next}
 use Rattle.runs.proofs.places.next_named.Given as goal

@@ -1,7 +1,5 @@
 -- `row_len` meets its contract: the row from the start is what was passed and the row from here.
-use mathlib.Core.Path.{sym}
-use native.Mathlib.Omega.{arith}
-use borrow.Author.Rules.{rules}
+use Rattle.std.proofs.Common.{sym, arith, rules}
 use Rattle.runs.proofs.Turns.{len-stop, len-step, len-end}
 use Rattle.runs.proofs.places.row_len.Goals as goal
 

@@ -1,12 +1,5 @@
 -- `stride` meets its contract: past the map nothing is named; 0xFF names eight.
-use Prim.Native.Nat.{ℕ, ◌+◌, ◌/◌, ◌%◌, ◌^◌, ◌≤◌, ◌<◌}
-use mathlib.Core.Bool.{true, false}
-use mathlib.Core.List.{List}
-use mathlib.Core.Path.{◌≡◌}
-use native.Mathlib.Omega.{arith}
-use borrow.Author.Tests.{eq-eqb}
-use Rattle.std.proofs.Common.{rules}
-use lib.ListN.{get_or}
+use Rattle.std.proofs.Common.{rules, ℕ, ◌+◌, ◌/◌, ◌%◌, ◌^◌, ◌≤◌, ◌<◌, true, false, List, ◌≡◌, arith, eq-eqb, get_or}
 use Rattle.basis.specs.Bits.{bit}
 use Rattle.basis.specs.Laws.Computed.{agree}
 use Rattle.runs.specs.Laws.Map.{named_past}

@@ -1,8 +1,6 @@
 -- `survey` meets its contract: the walk halts at the place's page,
 -- and the counts grow where a run or a piece starts.
-use Prim.Native.Nat.{ℕ}
-use mathlib.Core.Path.{ap, ◌∙◌}
-use native.Mathlib.Omega.{arith}
+use Rattle.std.proofs.Common.{ℕ, ap, ◌∙◌, arith}
 use Rattle.runs.specs.Survey.{survey_of}
 use Rattle.runs.proofs.Surveys.{tallies-none, tallies-bytes, surveyed}
 use Rattle.runs.proofs.survey.survey.Goals as goal

@@ -1,5 +1,5 @@
 -- `cut` meets its contract: the test is the definition's.
-use borrow.Author.Tests.{lt-ltb, le-ltb}
+use Rattle.std.proofs.Common.{lt-ltb, le-ltb}
 use Rattle.runs.specs.Tally.{cut_of}
 use Rattle.runs.proofs.tally.cut.Goals as goal
 

@@ -1,5 +1,5 @@
 -- `joins` meets its contract: its tests are the definition's.
-use mathlib.Core.Path.{sym}
+use Rattle.std.proofs.Common.{sym}
 use Rattle.runs.proofs.WordSteps.{joins-closed, joins-none, joins-cut, joins-yes}
 use Rattle.runs.proofs.tally.joins.Goals as goal
 

@@ -1,9 +1,6 @@
 -- `over_pages` meets its contract: the tallies are those of the pages passed; a page is touched where the
 -- count of named bytes grows.
-use Prim.Native.Nat.{◌+◌, ◌*◌}
-use mathlib.Core.Path.{◌≡◌, ap, ◌∙◌}
-use native.Mathlib.Omega.{arith}
-use borrow.Author.Rules.{rules}
+use Rattle.std.proofs.Common.{◌+◌, ◌*◌, ◌≡◌, ap, ◌∙◌, arith, rules}
 use Rattle.basis.specs.Units.{start_of}
 use Rattle.runs.specs.Map.{named}
 use Rattle.runs.specs.Pages.{touched}

@@ -1,6 +1,5 @@
 -- What each turn of `over_pages` keeps, and what falls.
-use Prim.Native.Nat.{◌-◌, ◌≤◌}
-use mathlib.Core.Path.{◌≡◌}
+use Rattle.std.proofs.Common.{◌-◌, ◌≤◌, ◌≡◌}
 use Rattle.basis.specs.Units.{start_of}
 use Rattle.runs.specs.Map.{named}
 use Rattle.runs.specs.Pages.{touched}

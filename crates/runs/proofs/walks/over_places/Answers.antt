@@ -1,6 +1,5 @@
 -- `over_places` meets its contract: the tally is that of the places passed.
-use native.Mathlib.Omega.{arith}
-use borrow.Author.Rules.{rules}
+use Rattle.std.proofs.Common.{arith, rules}
 use Rattle.runs.specs.Map.{named}
 use Rattle.runs.specs.Pieces.{piece_most}
 use Rattle.runs.proofs.Tallies.{tally-again, tally-le}

@@ -1,6 +1,5 @@
 -- What each turn of `over_places` keeps, and what falls.
-use Prim.Native.Nat.{◌-◌, ◌≤◌}
-use mathlib.Core.Path.{◌≡◌}
+use Rattle.std.proofs.Common.{◌-◌, ◌≤◌, ◌≡◌}
 use Rattle.runs.specs.Map.{named}
 use Rattle.runs.specs.Pieces.{piece_most}
 use Rattle.runs.specs.Tally.{tally_at}

@@ -1,7 +1,5 @@
 -- `over_words` meets its contract: the tally is that of the words passed.
-use Prim.Native.Nat.{◌*◌}
-use native.Mathlib.Omega.{arith}
-use borrow.Author.Rules.{rules}
+use Rattle.std.proofs.Common.{◌*◌, arith, rules}
 use Rattle.basis.specs.Lists.{Bytes}
 use Rattle.runs.specs.Map.{named}
 use Rattle.runs.specs.Pieces.{piece_most}

@@ -1,5 +1,5 @@
 -- `pair` meets its contract: two bytes, the first lowest.
-use native.Mathlib.Omega.{arith}
+use Rattle.std.proofs.Common.{arith}
 use Rattle.runs.specs.Map.{word_of}
 use Rattle.runs.proofs.words.pair.Goals as goal
 

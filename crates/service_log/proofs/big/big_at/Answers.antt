@@ -1,11 +1,6 @@
 -- `big_at` meets its contract: the bytes read so far say a number that as many bytes hold.
-use Prim.Native.Nat.{ℕ, ◌<◌, ◌+◌, ◌*◌, ◌^◌}
-use mathlib.Core.Path.{refl}
-use native.Mathlib.Nat.{pow-suc, pow-le-pow_right, zero-lt-suc}
-use native.Mathlib.Numerals.{add-one}
-use native.Mathlib.Omega.{arith}
-use borrow.Author.Rules.{rules}
-use lib.ListN.{get_or}
+use Rattle.std.proofs.Common.{ℕ, ◌<◌, ◌+◌, ◌*◌, ◌^◌, refl, pow-suc, zero-lt-suc, add-one, arith, rules, get_or}
+use native.Mathlib.Nat.{pow-le-pow_right}
 use Rattle.service_log.specs.Big.{big_at}
 use Rattle.service_log.proofs.big.big_at.Goals as goal
 use Rattle.service_log.proofs.big.big_at.Goals.{After-shared_slice_known-1}

@@ -1,6 +1,5 @@
 -- What each turn of `big_at` keeps, and what falls.
-use Prim.Native.Nat.{◌≤◌, ◌<◌, ◌-◌, ◌^◌}
-use mathlib.Core.Path.{◌≡◌}
+use Rattle.std.proofs.Common.{◌≤◌, ◌<◌, ◌-◌, ◌^◌, ◌≡◌}
 use Rattle.service_log.specs.Big.{big_at}
 use Rattle.service_log.proofs.big.big_at.Given as goal
 

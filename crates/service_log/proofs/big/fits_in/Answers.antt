@@ -1,11 +1,6 @@
 -- `fits_in` meets its contract: nothing is left above so many bytes.
-use Prim.Native.Nat.{ℕ, zero, suc, ◌*◌, ◌/◌, ◌^◌}
-use mathlib.Core.Path.{◌≡◌, refl, sym, ◌∙◌}
-use native.Mathlib.Nat.{mul-suc, pow-suc, div-eq_of_lt, div-lt_iff_lt-mul}
-use native.Mathlib.Omega.{arith}
-use borrow.Author.Tests.{eq-eqb, ne_eqb, ltb-true, ltb-false}
-use lib.Dec.{eqb, ltb}
-use lib.Pow.{pow_pos, pow-add}
+use Rattle.std.proofs.Common.{ℕ, zero, suc, ◌*◌, ◌/◌, ◌^◌, ◌≡◌, refl, sym, ◌∙◌, mul-suc, pow-suc, div-lt_iff_lt-mul, arith, eq-eqb, ne_eqb, ltb-true, ltb-false, eqb, ltb, pow_pos, pow-add}
+use native.Mathlib.Nat.{div-eq_of_lt}
 use Rattle.basis.specs.Laws.Choice.{decide}
 use Rattle.service_log.specs.Big.{fits_in}
 use Rattle.service_log.proofs.big.fits_in.Goals as goal

@@ -1,10 +1,6 @@
 -- `put_big` meets its contract: putting what is left, in what place is left, gives what was to be given.
-use Prim.Native.Nat.{ℕ, suc, ◌≤◌, ◌+◌, ◌/◌, ◌%◌}
-use mathlib.Core.List.{List, [], ◌∷◌}
-use mathlib.Core.Path.{◌≡◌, refl, sym, ap, ◌∙◌}
-use native.Mathlib.Omega.{arith}
-use lib.ListN.{length, set, length-set}
-use lib.Seq.{set_comm}
+use Rattle.std.proofs.lemmas.List.{set_comm}
+use Rattle.std.proofs.Common.{ℕ, suc, ◌≤◌, ◌+◌, ◌/◌, ◌%◌, List, [], ◌∷◌, ◌≡◌, refl, sym, ap, ◌∙◌, arith, length, set, length-set}
 use Rattle.basis.specs.Laws.Lists.{stored-append}
 use Rattle.basis.specs.Lists.{stored, new, copy_of}
 use Rattle.service_log.specs.Big.{big_of}

@@ -1,7 +1,5 @@
 -- What each turn of `put_big` keeps, and what falls.
-use Prim.Native.Nat.{◌≤◌}
-use mathlib.Core.Path.{◌≡◌}
-use lib.ListN.{length}
+use Rattle.std.proofs.Common.{◌≤◌, ◌≡◌, length}
 use Rattle.basis.specs.Lists.{copy_of}
 use Rattle.service_log.specs.Big.{big_of}
 use Rattle.service_log.proofs.big.put_big.Given as goal

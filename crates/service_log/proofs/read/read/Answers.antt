@@ -1,5 +1,5 @@
 -- `read` meets its contract: 50, and then by the board that the length field tells, or 51.
-use mathlib.Core.Path.{sym, ◌∙◌}
+use Rattle.std.proofs.Common.{sym, ◌∙◌}
 use Rattle.service_log.specs.Laws.Log.{read_short, read-by}
 use Rattle.service_log.proofs.read.read.Goals as goal
 

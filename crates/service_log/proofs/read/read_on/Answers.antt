@@ -1,6 +1,5 @@
 -- `read_on` meets its contract: each test is a row of the table, in its order.
-use mathlib.Core.Path.{◌≡◌, sym, ◌∙◌}
-use lib.ListN.{length, get_or}
+use Rattle.std.proofs.Common.{◌≡◌, sym, ◌∙◌, length, get_or}
 use Rattle.basis.specs.Board.{version_of}
 use Rattle.service_log.specs.Log.{record_size}
 use Rattle.service_log.specs.Laws.Log.{read_length, read-version, read-false, read-given}

@@ -1,6 +1,5 @@
 -- `counts_on` meets its contract: each test is a row of the table, in its order, and what passes is written.
-use mathlib.Core.Bool.{true}
-use mathlib.Core.Path.{◌≡◌, sym, ◌∙◌}
+use Rattle.std.proofs.Common.{true, ◌≡◌, sym, ◌∙◌}
 use Rattle.basis.specs.Board.{count_bytes}
 use Rattle.basis.specs.Laws.Refusals.{leaves, writes}
 use Rattle.service_log.specs.Log.{counts_fit}

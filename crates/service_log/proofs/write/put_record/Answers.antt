@@ -1,9 +1,5 @@
 -- `put_record` meets its contract: four bytes and the three counts follow one another.
-use Prim.Native.Nat.{ℕ, ◌+◌, ◌*◌, ◌/◌, ◌%◌, ◌≤◌}
-use mathlib.Core.List.{List, [], ◌∷◌, ◌++◌}
-use mathlib.Core.Path.{◌≡◌, refl}
-use native.Mathlib.Omega.{arith}
-use lib.ListN.{length, length-append}
+use Rattle.std.proofs.Common.{ℕ, ◌+◌, ◌*◌, ◌/◌, ◌%◌, ◌≤◌, List, [], ◌∷◌, ◌++◌, ◌≡◌, refl, arith, length, length-append}
 use Rattle.basis.specs.Board.{version_of, count_bytes, log_length}
 use Rattle.basis.specs.Laws.Lists.{copy-overlay}
 use Rattle.basis.specs.Lists.{overlay, copy_of}

@@ -1,5 +1,5 @@
 -- `write_on` meets its contract: 45 before the end, and then as the outcome and the counts.
-use mathlib.Core.Path.{sym, ◌∙◌}
+use Rattle.std.proofs.Common.{sym, ◌∙◌}
 use Rattle.basis.specs.Laws.Refusals.{leaves}
 use Rattle.service_log.specs.Laws.Log.{write-unfinished, write-counts}
 use Rattle.service_log.proofs.write.write_on.Goals as goal

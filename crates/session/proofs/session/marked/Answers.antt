@@ -1,8 +1,5 @@
 -- `marked` meets its contract: the survey ranks the byte's piece among those verified.
-use Prim.Native.Nat.{ℕ, ◌≤◌, ◌<◌}
-use mathlib.Core.Bool.{true}
-use mathlib.Core.Path.{◌≡◌, sym, ◌∙◌}
-use native.Mathlib.Omega.{arith}
+use Rattle.std.proofs.Common.{ℕ, ◌≤◌, ◌<◌, true, ◌≡◌, sym, ◌∙◌, arith}
 use Rattle.basis.specs.Board.{pages_of, pages_most}
 use Rattle.basis.specs.Laws.Boards.{pages-few}
 use Rattle.basis.specs.Units.{start_of}

@@ -1,8 +1,5 @@
 -- `read` meets its contract: each test is a row of the table, in its order.
-use Prim.Native.Nat.{◌+◌}
-use mathlib.Core.Bool.{true}
-use mathlib.Core.Path.{◌≡◌, sym, ap, ◌∙◌}
-use lib.ListN.{length, get_or}
+use Rattle.std.proofs.Common.{◌+◌, true, ◌≡◌, sym, ap, ◌∙◌, length, get_or}
 use Rattle.basis.specs.Lists.{pair_at}
 use Rattle.basis.specs.Refusals.{given}
 use Rattle.stations.specs.Station.{is_version, follows_of}

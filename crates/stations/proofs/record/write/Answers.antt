@@ -1,10 +1,5 @@
 -- `write` meets its contract: each test is a row of the table, in its order, and what passes is written.
-use Prim.Native.Nat.{ℕ, ◌+◌, ◌≤◌}
-use mathlib.Core.Bool.{true, false}
-use mathlib.Core.List.{List}
-use mathlib.Core.Path.{◌≡◌, sym, ap, ◌∙◌}
-use native.Mathlib.Omega.{arith}
-use lib.ListN.{length}
+use Rattle.std.proofs.Common.{ℕ, ◌+◌, ◌≤◌, true, false, List, ◌≡◌, sym, ap, ◌∙◌, arith, length}
 use Rattle.basis.specs.Laws.Refusals.{leaves, writes}
 use Rattle.basis.specs.Lists.{overlay}
 use Rattle.stations.specs.Station.{is_version, follows_of, out_of_range, size_of}

@@ -1,5 +1,5 @@
 -- `delete` meets its contract: each test is a row of the table, in its order.
-use mathlib.Core.Path.{refl}
+use Rattle.std.proofs.Common.{refl}
 use Rattle.stations.specs.Laws.Rows.{delete-size, delete-none, delete-given}
 use Rattle.stations.proofs.table.delete.Goals as goal
 

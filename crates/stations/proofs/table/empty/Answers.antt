@@ -1,5 +1,5 @@
 -- `empty` meets its contract: every byte is filled.
-use mathlib.Core.Path.{refl, sym, ◌∙◌}
+use Rattle.std.proofs.Common.{refl, sym, ◌∙◌}
 use Rattle.basis.specs.Laws.Lists.{copy-all}
 use Rattle.stations.specs.Laws.Rows.{empty-size, empty-given}
 use Rattle.stations.proofs.table.empty.Goals as goal

@@ -1,5 +1,5 @@
 -- `find` meets its contract: what the lowest place that has the number lists.
-use mathlib.Core.Path.{sym, ap, ◌∙◌}
+use Rattle.std.proofs.Common.{sym, ap, ◌∙◌}
 use Rattle.stations.specs.Table.{list_of, find_of}
 use Rattle.stations.specs.Laws.Rows.{find-size}
 use Rattle.stations.proofs.table.find.Goals as goal

@@ -1,5 +1,5 @@
 -- `free` meets its contract: each test is a row of the table, in its order.
-use mathlib.Core.Path.{refl, sym, ◌∙◌}
+use Rattle.std.proofs.Common.{refl, sym, ◌∙◌}
 use Rattle.stations.specs.Laws.Rows.{free-size, free-past, free-none, free-given}
 use Rattle.stations.proofs.table.free.Goals as goal
 

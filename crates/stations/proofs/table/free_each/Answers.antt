@@ -1,9 +1,5 @@
 -- `free_each` meets its contract: freeing what is left, from here, gives what was to be given.
-use Prim.Native.Nat.{ℕ, ◌+◌, ◌-◌}
-use mathlib.Core.List.{List}
-use mathlib.Core.Path.{sym, ap, ◌∙◌}
-use native.Mathlib.Omega.{arith}
-use lib.ListN.{length}
+use Rattle.std.proofs.Common.{ℕ, ◌+◌, ◌-◌, List, sym, ap, ◌∙◌, arith, length}
 use Rattle.stations.specs.Table.{places, freed_from}
 use Rattle.stations.specs.Laws.Rows.{freed-if-length, freed-turn, freed-ended}
 use Rattle.stations.proofs.table.free_each.Goals as goal

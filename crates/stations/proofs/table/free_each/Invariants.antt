@@ -1,7 +1,5 @@
 -- What each turn of `free_each` keeps, and what falls.
-use Prim.Native.Nat.{◌-◌, ◌≤◌}
-use mathlib.Core.Path.{◌≡◌}
-use lib.ListN.{length}
+use Rattle.std.proofs.Common.{◌-◌, ◌≤◌, ◌≡◌, length}
 use Rattle.stations.specs.Table.{places, table_size, freed_from}
 use Rattle.stations.proofs.table.free_each.Given as goal
 

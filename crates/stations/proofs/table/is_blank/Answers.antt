@@ -1,5 +1,5 @@
 -- `is_blank` meets its contract: what all bytes tell is what those from here on tell.
-use mathlib.Core.Path.{sym, ◌∙◌}
+use Rattle.std.proofs.Common.{sym, ◌∙◌}
 use Rattle.stations.specs.Laws.Rows.{blank-here, blank-on, blank-end}
 use Rattle.stations.proofs.table.is_blank.Goals as goal
 

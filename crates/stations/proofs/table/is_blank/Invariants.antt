@@ -1,7 +1,5 @@
 -- What each turn of `is_blank` keeps, and what falls.
-use Prim.Native.Nat.{◌-◌}
-use mathlib.Core.Path.{◌≡◌}
-use lib.ListN.{length, drop}
+use Rattle.std.proofs.Common.{◌-◌, ◌≡◌, length, drop}
 use Rattle.stations.specs.Table.{blank}
 use Rattle.stations.proofs.table.is_blank.Given as goal
 

@@ -1,5 +1,5 @@
 -- `look` meets its contract: each test is a row of the table, in its order.
-use mathlib.Core.Path.{sym, ap, ◌∙◌}
+use Rattle.std.proofs.Common.{sym, ap, ◌∙◌}
 use Rattle.basis.specs.Refusals.{given}
 use Rattle.stations.specs.Laws.Rows.{look-size, look-past, look-given}
 use Rattle.stations.proofs.table.look.Goals as goal

@@ -1,6 +1,5 @@
 -- `lowest` meets its contract: the search from the start gives what the search from here does.
-use mathlib.Core.Path.{sym, ◌∙◌}
-use native.Mathlib.Omega.{arith}
+use Rattle.std.proofs.Common.{sym, ◌∙◌, arith}
 use Rattle.runs.proofs.Turns.{next-end, next-stop, next-go}
 use Rattle.stations.proofs.table.lowest.Goals as goal
 

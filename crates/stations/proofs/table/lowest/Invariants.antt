@@ -1,6 +1,5 @@
 -- What each turn of `lowest` keeps, and what falls.
-use Prim.Native.Nat.{◌-◌, ◌≤◌}
-use mathlib.Core.Path.{◌≡◌}
+use Rattle.std.proofs.Common.{◌-◌, ◌≤◌, ◌≡◌}
 use Rattle.runs.specs.Runs.{next}
 use Rattle.stations.specs.Table.{places, suits_at}
 use Rattle.stations.proofs.table.lowest.Given as goal

@@ -1,8 +1,5 @@
 -- `standing_by` meets its contract: each test is the definition's, in its order.
-use Prim.Native.Nat.{ℕ, ◌+◌}
-use mathlib.Core.Bool.{false}
-use mathlib.Core.Path.{◌≡◌, sym, ap, ◌∙◌}
-use lib.ListN.{take, drop}
+use Rattle.std.proofs.Common.{ℕ, ◌+◌, false, ◌≡◌, sym, ap, ◌∙◌, take, drop}
 use Rattle.stations.specs.Paper.{paper_reading}
 use Rattle.stations.specs.Station.{read_of}
 use Rattle.stations.specs.Table.{blank, record_length, standing_by, standing_of}

@@ -1,5 +1,5 @@
 -- `store` meets its contract: the table's size, then what reading the record gives.
-use mathlib.Core.Path.{refl, sym, ap, ◌∙◌}
+use Rattle.std.proofs.Common.{refl, sym, ap, ◌∙◌}
 use Rattle.stations.specs.Laws.Rows.{store-size, store-unread}
 use Rattle.stations.specs.Paper.{paper_reading}
 use Rattle.stations.proofs.table.store.Goals as goal

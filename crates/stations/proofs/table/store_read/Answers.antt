@@ -1,9 +1,5 @@
 -- `store_read` meets its contract: 61, or the place freed and the record copied in.
-use Prim.Native.Nat.{ℕ}
-use mathlib.Core.List.{List}
-use mathlib.Core.Path.{refl, ap, ◌∙◌}
-use native.Mathlib.Omega.{arith}
-use lib.ListN.{length}
+use Rattle.std.proofs.Common.{ℕ, List, refl, ap, ◌∙◌, arith, length}
 use Rattle.basis.specs.Lists.{copy_of}
 use Rattle.basis.specs.Refusals.{given}
 use Rattle.stations.specs.Table.{place_start, put_at}

@@ -1,7 +1,5 @@
 -- `open` meets its contract: the station that is found, or 60.
-use Prim.Native.Nat.{ℕ}
-use mathlib.Core.List.{List}
-use mathlib.Core.Path.{◌≡◌, sym, ap, ◌∙◌}
+use Rattle.std.proofs.Common.{ℕ, List, ◌≡◌, sym, ap, ◌∙◌}
 use Rattle.basis.specs.Refusals.{Answer, refused}
 use Rattle.basis.specs.Units.{start_of}
 use Rattle.image.specs.Hex.{Settled, settled_as, settled, start_in}

@@ -1,8 +1,5 @@
 -- `is_outside` meets its contract: the lowest touched page, and the lowest above the last, tell of all.
-use Prim.Native.Nat.{ℕ}
-use mathlib.Core.Path.{◌≡◌, ap, ◌∙◌}
-use native.Mathlib.Omega.{arith}
-use lib.Dec.{ltb}
+use Rattle.std.proofs.Common.{ℕ, ◌≡◌, ap, ◌∙◌, arith, ltb}
 use Rattle.stations.specs.Laws.Record.{in-range, Ranges}
 use Rattle.visit.specs.Laws.Bounds.{lowest, lowest-outside, above-outside}
 use Rattle.visit.specs.Visit.{station_pages}

@@ -1,6 +1,5 @@
 -- `start` meets its contract: the station that is found, or 60.
-use mathlib.Core.Path.{◌≡◌, sym, ap, ◌∙◌}
-use lib.ListN.{length}
+use Rattle.std.proofs.Common.{◌≡◌, sym, ap, ◌∙◌, length}
 use Rattle.basis.specs.Refusals.{Answer, refused, given}
 use Rattle.session.proofs.Handing.{left_alone}
 use Rattle.stations.specs.Laws.Finding.{find-has}

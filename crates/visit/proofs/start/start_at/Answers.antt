@@ -1,9 +1,5 @@
 -- `start_at` meets its contract: each test is a row of the table, in its order, and what passes is started.
-use Prim.Native.Nat.{ℕ}
-use mathlib.Core.Bool.{true, false}
-use mathlib.Core.List.{List}
-use mathlib.Core.Path.{◌≡◌, sym, ap, subst, ◌∙◌}
-use lib.ListN.{length}
+use Rattle.std.proofs.Common.{ℕ, true, false, List, ◌≡◌, sym, ap, subst, ◌∙◌, length}
 use Rattle.basis.specs.Lists.{overlay}
 use Rattle.basis.specs.Refusals.{Answer}
 use Rattle.basis.specs.Units.{map_bytes}

@@ -1,6 +1,6 @@
 -- `data` meets its contract: one lemma for each way out.
+use Rattle.std.proofs.lemmas.Bool.{not-true, not-false}
 use Rattle.std.proofs.Common.{◌≡◌, ℕ, ◌+◌, ◌-◌, ◌<◌, ◌≤◌, Bool, true, false, ltb, List, length, get_or, take, drop, sym, ◌∙◌, arith, le-ltb, lt-ltb}
-use borrow.Author.Tests.{not-true, not-false}
 use Rattle.basis.specs.Refusals.{first}
 use Rattle.basis.specs.Choice.{either, any}
 use Rattle.basis.specs.Laws.Choice.{both-no}

@@ -1,6 +1,6 @@
 -- `start` meets its contract: its tests are those of the table, then both are filled.
+use Rattle.std.proofs.lemmas.List.{length-replicate}
 use Rattle.std.proofs.Common.{◌≡◌, ℕ, ◌/◌, true, false, List, length, replicate, sym, ◌∙◌}
-use lib.ListN.{length-replicate}
 use Rattle.basis.specs.Lists.{copy_of}
 use Rattle.basis.specs.Laws.Lists.{copy-all}
 use Rattle.basis.specs.Laws.Units.{sizes-right}

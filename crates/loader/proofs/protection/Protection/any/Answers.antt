@@ -1,6 +1,5 @@
 -- `any` meets its contract: the groups passed so far are not protected.
-use mathlib.Core.Path.{sym, ◌∙◌}
-use borrow.Author.Tests.{eq-eqb, ne_eqb}
+use Rattle.std.proofs.Common.{sym, ◌∙◌, eq-eqb, ne_eqb}
 use Rattle.basis.specs.Laws.Choice.{any_here, any-on, any-end}
 use Rattle.loader.proofs.protection.Protection.any.Goals as goal
 

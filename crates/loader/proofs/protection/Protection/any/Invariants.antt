@@ -1,6 +1,5 @@
 -- What each turn of `any` keeps, and what falls.
-use Prim.Native.Nat.{◌≤◌, ◌-◌}
-use mathlib.Core.Path.{◌≡◌}
+use Rattle.std.proofs.Common.{◌≤◌, ◌-◌, ◌≡◌}
 use Rattle.loader.specs.Protection.{any_of}
 use Rattle.loader.proofs.protection.Protection.any.Given as goal
 

@@ -1,6 +1,5 @@
 -- `met` meets its contract: its tests are the definition's.
-use borrow.Author.Tests.{eq-eqb, ne_eqb}
-use native.Mathlib.Omega.{arith}
+use Rattle.std.proofs.Common.{eq-eqb, ne_eqb, arith}
 use Rattle.plain.specs.List.{met_of}
 use Rattle.plain.proofs.list.Walk.met.Goals as goal
 

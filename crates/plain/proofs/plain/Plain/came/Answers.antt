@@ -1,9 +1,5 @@
 -- `came` meets its contract: each test is one of the definition's, in its order.
-use mathlib.Core.Bool.{true}
-use mathlib.Core.Path.{◌≡◌, sym, ap, ◌∙◌}
-use native.Mathlib.Omega.{arith}
-use borrow.Author.Tests.{eq-eqb, ne_eqb, lt-ltb, le-ltb}
-use lib.Dec.{eqb, ltb}
+use Rattle.std.proofs.Common.{true, ◌≡◌, sym, ap, ◌∙◌, arith, eq-eqb, ne_eqb, lt-ltb, le-ltb, eqb, ltb}
 use Rattle.basis.specs.Board.{pages_of}
 use Rattle.basis.specs.Laws.Choice.{both-second, both_false}
 use Rattle.plain.specs.Plain.{came_of}

@@ -1,6 +1,5 @@
 -- `fits` meets its contract: the board is the session's, and then the file decides.
-use mathlib.Core.Path.{sym, ◌∙◌}
-use borrow.Author.Tests.{eq-eqb, ne_eqb}
+use Rattle.std.proofs.Common.{sym, ◌∙◌, eq-eqb, ne_eqb}
 use Rattle.basis.specs.Laws.Choice.{both-second}
 use Rattle.plain.specs.Plain.{fits_of}
 use Rattle.plain.proofs.plain.Plain.fits.Goals as goal

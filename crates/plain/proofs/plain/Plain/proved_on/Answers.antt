@@ -1,7 +1,5 @@
 -- `proved_on` meets its contract: 20, 46, and else the mark.
-use mathlib.Core.Bool.{true}
-use mathlib.Core.Path.{◌≡◌, sym, ap, ◌∙◌}
-use lib.ListN.{length}
+use Rattle.std.proofs.Common.{true, ◌≡◌, sym, ap, ◌∙◌, length}
 use Rattle.basis.specs.Board.{pages_of}
 use Rattle.basis.specs.Refusals.{given}
 use Rattle.basis.specs.Units.{map_bytes}

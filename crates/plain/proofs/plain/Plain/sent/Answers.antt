@@ -1,5 +1,5 @@
 -- `sent` meets its contract: the session after the event, and the packet that it then has out.
-use native.Mathlib.Omega.{arith}
+use Rattle.std.proofs.Common.{arith}
 use Rattle.basis.specs.Board.{pages_of}
 use Rattle.basis.specs.Laws.Boards.{pages-few}
 use Rattle.order.specs.Laws.Totals.{total-most}

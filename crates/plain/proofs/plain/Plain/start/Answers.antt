@@ -1,11 +1,6 @@
 -- `start` meets its contract: each test is a row of the table, in its order.
-use Prim.Native.Nat.{ℕ, ◌≤◌}
-use mathlib.Core.Path.{refl, sym, ap, ◌∙◌, ◌≡◌}
-use mathlib.Core.List.{List}
-use mathlib.Core.Bool.{true}
-use native.Mathlib.Omega.{arith}
-use lib.ListN.{length}
-use lib.Seq.{set_split}
+use Rattle.std.proofs.lemmas.List.{set_split}
+use Rattle.std.proofs.Common.{ℕ, ◌≤◌, refl, sym, ap, ◌∙◌, ◌≡◌, List, true, arith, length}
 use Rattle.basis.specs.Board.{opening_byte, pages_of}
 use Rattle.basis.specs.Units.{start_of, map_bytes}
 use Rattle.basis.specs.declared.kind.RunKind.{RunKind}

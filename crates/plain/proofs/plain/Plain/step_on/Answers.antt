@@ -1,7 +1,5 @@
 -- `step_on` meets its contract: each test is a row of the table, in its order.
-use mathlib.Core.Path.{sym, ap, ◌∙◌, ◌≡◌}
-use mathlib.Core.Bool.{true, false}
-use lib.ListN.{length}
+use Rattle.std.proofs.Common.{sym, ap, ◌∙◌, ◌≡◌, true, false, length}
 use Rattle.basis.specs.Board.{pages_of}
 use Rattle.order.specs.Sizes.{right_sizes}
 use Rattle.plain.specs.Laws.Steps.{step-size, step-ended, step-foreign, step-taken}

@@ -1,5 +1,5 @@
 -- `took` meets its contract, by what is awaited.
-use mathlib.Core.Path.{sym, ap, ◌∙◌}
+use Rattle.std.proofs.Common.{sym, ap, ◌∙◌}
 use Rattle.events.specs.declared.ending.Awaited.{Awaited}
 use Rattle.plain.specs.Plain.{heard_by, took_of}
 use Rattle.plain.proofs.plain.Plain.took.Goals as goal

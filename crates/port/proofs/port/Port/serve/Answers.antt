@@ -1,6 +1,5 @@
 -- `serve` meets its contract: the two sizes, then the bytes go to the receiver or to the loader.
-use mathlib.Core.Path.{◌≡◌, sym, ap, ◌∙◌}
-use lib.ListN.{length}
+use Rattle.std.proofs.Common.{◌≡◌, sym, ap, ◌∙◌, length}
 use Rattle.basis.specs.Board.{pages_of}
 use Rattle.basis.specs.Refusals.{Answer}
 use Rattle.basis.specs.Units.{start_of}

@@ -1,13 +1,7 @@
 -- `byte` meets its contract: one law for each way out, told by how much is gathered.
-use Prim.Native.Nat.{◌+◌, ◌≤◌, ◌<◌}
-use mathlib.Core.Path.{sym, ap, ◌∙◌}
-use native.Mathlib.Omega.{arith}
-use mir.Syntax.{w8}
-use mir.Val.{Fits}
-use lib.ListN.{get_or}
+use Rattle.std.proofs.Common.{◌+◌, ◌≤◌, ◌<◌, sym, ap, ◌∙◌, arith, w8, Fits, get_or, rules}
 use Rattle.receiver.specs.Laws.Gathered.{at_none, at_next, at_other, at-few, at_count, at_on, at-last, at-past}
 use Rattle.receiver.specs.Receiver.{keeping, giving}
-use borrow.Author.Rules.{rules}
 use Rattle.receiver.proofs.receiver.Receiver.byte.Goals as goal
 use Rattle.receiver.proofs.receiver.Receiver.byte.Goals.{After-last-1, Else-len-last-2}
 

@@ -1,9 +1,5 @@
 -- `bytes` meets its contract: what is left from here gives what was to be given.
-use Prim.Native.Nat.{ℕ, ◌+◌}
-use mathlib.Core.Path.{sym, ap, ◌∙◌}
-use native.Mathlib.Omega.{arith}
-use borrow.Author.Rules.{rules}
-use lib.ListN.{drop}
+use Rattle.std.proofs.Common.{ℕ, ◌+◌, sym, ap, ◌∙◌, arith, rules, drop}
 use Rattle.receiver.specs.Laws.Bytes.{ending, bytes_on, bytes-found, bytes-ended}
 use Rattle.receiver.specs.Receiver.{further, bytes_of}
 use Rattle.receiver.specs.declared.receiver.Received.{Received}

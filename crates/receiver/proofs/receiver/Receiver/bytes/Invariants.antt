@@ -1,7 +1,5 @@
 -- What each turn of `bytes` keeps, and what falls.
-use Prim.Native.Nat.{◌-◌, ◌≤◌}
-use mathlib.Core.Path.{◌≡◌}
-use lib.ListN.{length, drop}
+use Rattle.std.proofs.Common.{◌-◌, ◌≤◌, ◌≡◌, length, drop}
 use Rattle.receiver.specs.Receiver.{further, bytes_of}
 use Rattle.receiver.proofs.receiver.Receiver.bytes.Given as goal
 

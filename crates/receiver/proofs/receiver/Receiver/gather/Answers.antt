@@ -1,7 +1,5 @@
 -- `gather` meets its contract: one byte is stored behind what is gathered.
-use mathlib.Core.Path.{◌≡◌}
-use borrow.Author.Rules.{rules}
-use lib.ListN.{length}
+use Rattle.std.proofs.Common.{◌≡◌, rules, length}
 use Rattle.receiver.specs.Laws.Gathered.{gathers-in}
 use Rattle.receiver.proofs.receiver.Receiver.gather.Goals as goal
 

@@ -1,5 +1,5 @@
 -- `took` meets its contract: its tests are the definition's.
-use borrow.Author.Tests.{eq-eqb, ne_eqb}
+use Rattle.std.proofs.Common.{eq-eqb, ne_eqb}
 use Rattle.runs.specs.Tally.{took_of}
 use Rattle.runs.proofs.tally.Tally.took.Goals as goal
 

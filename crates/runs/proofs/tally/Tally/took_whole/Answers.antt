@@ -1,7 +1,5 @@
 -- `took_whole` meets its contract: a word that is all one run.
-use Prim.Native.Nat.{◌-◌, ◌^◌}
-use mathlib.Core.Path.{refl}
-use native.Mathlib.Omega.{arith}
+use Rattle.std.proofs.Common.{◌-◌, ◌^◌, refl, arith}
 use Rattle.runs.proofs.WordSteps.{word-whole}
 use Rattle.runs.proofs.tally.Tally.took_whole.Goals as goal
 

@@ -1,7 +1,5 @@
 -- `took_word` meets its contract: each run of a word starts a piece, but for one that goes on from before.
-use Prim.Native.Nat.{◌+◌, ◌/◌, ◌≤◌}
-use native.Mathlib.Omega.{arith}
-use lib.Bits.{bit_and}
+use Rattle.std.proofs.Common.{◌+◌, ◌/◌, ◌≤◌, arith, bit_and}
 use lib.Count.{ones}
 use Rattle.runs.proofs.WordSteps.{word-runs, word_none, word-mixed}
 use Rattle.runs.proofs.tally.Tally.took_word.Goals as goal

@@ -1,8 +1,6 @@
 -- `came` meets its contract: each test is one of the definition's, and the survey tells the rank of the
 -- cursor.
-use Prim.Native.Nat.{ℕ, ◌≤◌}
-use mathlib.Core.Path.{◌≡◌, ap, ◌∙◌}
-use native.Mathlib.Omega.{arith}
+use Rattle.std.proofs.Common.{ℕ, ◌≤◌, ◌≡◌, ap, ◌∙◌, arith}
 use Rattle.basis.specs.Board.{pages_of, pages_most}
 use Rattle.basis.specs.Laws.Boards.{pages-few, pages-some}
 use Rattle.runs.specs.Survey.{survey_of}

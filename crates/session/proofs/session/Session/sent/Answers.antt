@@ -1,6 +1,5 @@
 -- `sent` meets its contract: a session that fits has its cursor at a start, before and after the event.
-use mathlib.Core.Path.{ap, ◌∙◌}
-use native.Mathlib.Omega.{arith}
+use Rattle.std.proofs.Common.{ap, ◌∙◌, arith}
 use Rattle.basis.specs.Board.{pages_of}
 use Rattle.basis.specs.Laws.Boards.{pages-few}
 use Rattle.order.specs.Laws.Totals.{total-most}

@@ -1,5 +1,5 @@
 -- `took` meets its contract: what is awaited decides which event goes on.
-use mathlib.Core.Path.{ap, sym, ◌∙◌}
+use Rattle.std.proofs.Common.{ap, sym, ◌∙◌}
 use Rattle.basis.specs.Board.{pages_of}
 use Rattle.events.specs.declared.ending.Awaited.{Awaited}
 use Rattle.session.specs.Session.{heard_by, took_of}
