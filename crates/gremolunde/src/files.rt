@@ -39,6 +39,7 @@ pub struct HexWritten {
     pub length: usize,
 }
 
+#[tactic(auto, unfolding(image::specs::Record::column_of))]
 #[unsafe(no_mangle)]
 pub extern "C" fn gremolunde_hex_start(
     board: u32,
@@ -75,6 +76,7 @@ pub fn no_reader() -> HexState
     }
 }
 
+#[tactic(auto, unfolding(image::specs::Record::column_of))]
 #[unsafe(no_mangle)]
 pub extern "C" fn gremolunde_hex_record(
     reader: HexState,
@@ -100,6 +102,7 @@ pub extern "C" fn gremolunde_hex_record(
     }
 }
 
+#[tactic(auto, unfolding(image::specs::Record::column_of))]
 #[unsafe(no_mangle)]
 pub extern "C" fn gremolunde_hex_close(reader: HexState) -> HexRead
     ensures { let a = on_board (board_of reader.board) (λ (b : Board). close_of (hex_meant reader)) in
