@@ -4,12 +4,12 @@ use Rattle.basis.specs.Refusals.{Answer, refused, given}
 use Rattle.basis.specs.declared.kind.RunKind.{RunKind}
 use Rattle.order.specs.Steps.{step_at}
 use Rattle.plain.specs.Plain as plain
-use Rattle.plain.specs.declared.plain.Plain.{Plain}
+use Rattle.plain.specs.Plain.{Plain}
 use Rattle.plain.specs.declared.stage.Stage.{Stage}
 use Rattle.service_log.specs.Log.{logged_outcome_of, counts_by, write_of}
 use Rattle.session.specs.Session as quick
 use Rattle.session.specs.declared.phase.Phase.{Phase}
-use Rattle.session.specs.declared.session.Session.{Session}
+use Rattle.session.specs.Session.{Session}
 
 -- the log record of a plain session, into a buffer of so many bytes
 abbrev pub plain_log : ℕ → Plain → Answer (List ℕ)
@@ -27,7 +27,7 @@ quick_of m p =
     record {
       board = p.board;
       kind = p.kind;
-      phase = phase_of p.board m p.stage p.acknowledged;
+      phase = phase_of p.board m p.phase p.acknowledged;
       acknowledged = p.acknowledged;
       total = p.total;
       named = p.named;
@@ -36,7 +36,7 @@ quick_of m p =
 -- the same refusal, or the same packet with the quick session where the plain one then stands
 abbrev pub as_quick : List ℕ → Answer plain.Sent → Answer quick.Sent
 as_quick m (refused n) = refused n
-as_quick m (given x) = given (record { session = quick_of m x.plain; packet = x.packet })
+as_quick m (given x) = given (record { session = quick_of m x.session; packet = x.packet })
 
 -- ---- a whole session, as one sees it from outside
 
@@ -70,9 +70,9 @@ module _ (log_room : ℕ) where
   plain_shows (given x) =
       given (record {
         packet = x.packet;
-        outcome = plain.outcome_by x.plain;
-        acknowledged = x.plain.acknowledged;
-        log = plain_log log_room x.plain;
+        outcome = plain.outcome_by x.session;
+        acknowledged = x.session.acknowledged;
+        log = plain_log log_room x.session;
       })
 
 abbrev pub quick_next : Session → Answer quick.Sent → Session
@@ -81,7 +81,7 @@ quick_next s (given x) = x.session
 
 abbrev pub plain_next : Plain → Answer plain.Sent → Plain
 plain_next p (refused n) = p
-plain_next p (given x) = x.plain
+plain_next p (given x) = x.session
 
 -- step by step, what each shows of all that it hears over one file, into buffers of so many bytes
 module _ (image m : List ℕ) (room log_room : ℕ) where
@@ -104,7 +104,7 @@ module _ (image m : List ℕ) (room log_room : ℕ) where
 
   abbrev pub plain_after : Answer plain.Sent → List Heard → List (Answer Shown)
   plain_after (refused n) hs = []
-  plain_after (given x) hs = plain_talk x.plain hs
+  plain_after (given x) hs = plain_talk x.session hs
 
   abbrev pub quick_all : ℕ → RunKind → List Heard → List (Answer Shown)
   quick_all board kind hs =

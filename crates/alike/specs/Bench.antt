@@ -14,9 +14,8 @@ use Rattle.loader.specs.State.{reset_of}
 use Rattle.loader.specs.declared.state.Loader.{Loader}
 use Rattle.packet.specs.Packet.{packet_most, command}
 use Rattle.packet.specs.Table.{run_byte}
-use Rattle.plain.specs.Plain.{Sent, plain_with, step_of, proved_of}
+use Rattle.plain.specs.Plain.{Plain, Sent, plain_with, step_of, proved_of}
 use Rattle.plain.specs.Stages.{ended}
-use Rattle.plain.specs.declared.plain.Plain.{Plain}
 use Rattle.plain.specs.declared.stage.Stage.{Stage}
 use Rattle.runs.specs.Map.{named}
 
@@ -55,7 +54,7 @@ reply board o x = line.arrives board o x.loader x.wire x.flash
 -- one exchange: the loader's step, then the session's
 abbrev pub steps_on : Moment → Answer Sent → Moment
 steps_on x (refused n) = x
-steps_on x (given s) = record { loader = x.loader; flash = x.flash; plain = s.plain; wire = s.packet }
+steps_on x (given s) = record { loader = x.loader; flash = x.flash; plain = s.session; wire = s.packet }
 
 abbrev pub exchange_of : ℕ → List ℕ → List ℕ → Loss → Moment → Moment
 exchange_of board image m o x =
@@ -67,7 +66,7 @@ unfoldable pub load_at : ℕ → List ℕ → List ℕ → RunKind → Loader �
 load_at board image m kind l losses before zero = begun board m kind l before
 load_at board image m kind l losses before (suc n) =
     let x = load_at board image m kind l losses before n in
-    pick (ended x.plain.stage) x (exchange_of board image m (losses n) x)
+    pick (ended x.plain.phase) x (exchange_of board image m (losses n) x)
 
 -- the byte is marked proved: the plain session's own `proved`, on its board, says so; every file byte is
 abbrev pub Proved : ℕ → List ℕ → Plain → ℕ → Type 0
@@ -82,13 +81,13 @@ RunOut x = command x.wire ≡ run_byte
 
 -- the session has ended valid; or verified and held; or as asked
 abbrev pub Valid : Plain → Type 0
-Valid p = p.stage ≡ Stage.Ended Outcome.Valid
+Valid p = p.phase ≡ Stage.Ended Outcome.Valid
 
 abbrev pub Held : Plain → Type 0
-Held p = p.stage ≡ Stage.Ended Outcome.Held
+Held p = p.phase ≡ Stage.Ended Outcome.Held
 
 abbrev pub AsAsked : RunKind → Plain → Type 0
-AsAsked kind p = p.stage ≡ Stage.Ended (asked kind)
+AsAsked kind p = p.phase ≡ Stage.Ended (asked kind)
 
 -- the moment is safe, where flash was `before` at the start, and start was told the run kind
 pub record Safe (board : ℕ) (image m before : List ℕ) (kind : RunKind) (x : Moment) : Type 0 where

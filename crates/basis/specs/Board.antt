@@ -1,8 +1,7 @@
 -- The boards: their sizes, what a packet carries to one, how each greets, and its version of the service log.
-use Rattle.std.specs.Prelude.{ℕ, ◌+◌, ◌*◌, List, [], ◌∷◌, ◌==◌, nat_eq}
+use Rattle.std.specs.Prelude.{ℕ, ◌+◌, ◌*◌, List, [], ◌∷◌, ◌==◌, nat_eq, Option, Some, None}
 use Rattle.basis.specs.Choice.{pick}
 use Rattle.basis.specs.declared.board.Board.{Board}
-use Rattle.basis.specs.declared.board.Known.{Known}
 
 -- a page has 512 bytes, and a group 4 pages: 0x800 bytes
 abbrev pub page_size : ℕ
@@ -24,13 +23,13 @@ abbrev pub pages_most : ℕ
 pages_most = 248
 
 -- the board that a number names, where each board has its own
-abbrev pub board_by : (Board → ℕ) → ℕ → Known
+abbrev pub board_by : (Board → ℕ) → ℕ → Option Board
 board_by f n =
-    pick (n == f Board.Short) (Known.Board Board.Short)
-    (pick (n == f Board.Long) (Known.Board Board.Long) Known.Unknown)
+    pick (n == f Board.Short) (Some Board.Short)
+    (pick (n == f Board.Long) (Some Board.Long) None)
 
 -- the board of so many pages
-abbrev pub board_of : ℕ → Known
+abbrev pub board_of : ℕ → Option Board
 board_of = board_by pages_of
 
 -- a packet carries at most 250 bytes of a file, and so a piece has no more
@@ -79,5 +78,5 @@ abbrev pub log_length : Board → ℕ
 log_length b = 2 + 3 * count_bytes b
 
 -- the board whose log has this length
-abbrev pub board_logged : ℕ → Known
+abbrev pub board_logged : ℕ → Option Board
 board_logged = board_by log_length

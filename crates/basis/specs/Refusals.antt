@@ -1,8 +1,7 @@
 -- An answer in the paper's terms, and a table of refusals: the first whose test holds decides.
-use Rattle.std.specs.Prelude.{ℕ, Bool, List, [], ◌∷◌, length}
+use Rattle.std.specs.Prelude.{ℕ, Bool, List, [], ◌∷◌, length, Option, Some, None, Result, Ok, Err}
 use Rattle.basis.specs.Choice.{pick}
 use Rattle.basis.specs.declared.board.Board.{Board}
-use Rattle.basis.specs.declared.board.Known.{Known}
 
 -- refused with the paper's number, or given
 pub data Answer (A : Type 0) : Type 0 where
@@ -23,10 +22,15 @@ unfoldable pub first : {A : Type 0} → List Rule → Answer A → Answer A
 first [] r = r
 first (x ∷ l) r = pick x.holds (refused x.number) (first l r)
 
+-- what the code answers, in the paper's terms: an error by its number, a value as it is shown
+abbrev pub answer_of : {A B E : Type 0} → (E → ℕ) → (A → B) → Result A E → Answer B
+answer_of number shown (Ok x) = given (shown x)
+answer_of number shown (Err e) = refused (number e)
+
 -- 65 where there is no such board, else as told for it
-abbrev pub on_board : {A : Type 0} → Known → (Board → Answer A) → Answer A
-on_board Known.Unknown f = refused 65
-on_board (Known.Board b) f = f b
+abbrev pub on_board : {A : Type 0} → Option Board → (Board → Answer A) → Answer A
+on_board None f = refused 65
+on_board (Some b) f = f b
 
 -- what a check refuses is refused; what it passes goes on
 abbrev pub and_then : {A : Type 0} → Answer (Unit {0}) → Answer A → Answer A

@@ -3,61 +3,67 @@ ghost use Rattle.std.specs.Prelude.{◌≡◌, ◌+◌, ◌<◌, ◌≤◌};
 ghost use Rattle.basis.specs.Board.{pages_of, pages_most, board_of, greeting_of, version_of, count_bytes, log_length, board_logged};
 ghost use Rattle.basis.specs.Units.{start_of, map_bytes, right_sizes_in};
 
+use crate::units::Address;
+
+/// How many bytes a page has.
 pub const PAGE: u32 = 512;
 
+/// How many pages a group has.
 pub const GROUP_PAGES: u32 = 4;
 
+/// How many bytes a group has.
 pub const GROUP: u32 = GROUP_PAGES * PAGE;
 
-// The two boards.
+/// How many pages the short board has.
 pub const SHORT_PAGES: u32 = 124;
 
 const LONG_PAGES: u32 = 248;
 
-// A packet carries at most this many bytes of a file, and so a piece has no more.
+/// A packet carries at most this many bytes of a file, and so a piece has no more.
 pub const DATA: usize = 250;
 
-// The byte that opens the board.
+/// The byte that opens the board.
 pub const OPENING: u8 = 0x08;
 
-// What the loader answers to a packet that it accepts, and to one that it refuses.
+/// What the loader answers to a packet that it accepts.
 pub const ACK: u8 = 0x06;
 
+/// What the loader answers to a packet that it refuses.
 pub const BEL: u8 = 0x07;
 
-// No answer is longer than the greeting.
+/// How many bytes the greeting has; no answer is longer.
 pub const ANSWER: usize = 24;
 
 const SHORT_GREETING: [u8; ANSWER] = *b"ADuC702x   -62 I31    \n\r";
 
 const LONG_GREETING: [u8; ANSWER] = *b"ADuC702x   -124I31    \n\r";
 
-#[derive(Clone, Copy)]
+/// The two boards.
+// Which one is told at run time, by a number of pages or a log record's length: so an enum, and no type parameter.
+#[derive(Clone, Copy, Debug, PartialEq, Eq)]
 pub enum Board {
     Short,
     Long,
 }
 
-// What a number names.
-#[derive(Clone, Copy)]
-pub enum Known {
-    Board(Board),
-    Unknown,
-}
-
 impl Board {
-    pub fn of(pages: u32) -> Known
+    /// The board of so many pages, 124 or 248; where there is no such board, none.
+    // No `TryFrom`: which number refuses that, 65 or another, is told by who asks.
+    pub fn of(pages: u32) -> Option<Board>
         ensures { result ≡ board_of pages }
     {
         match pages {
-            124 => Known::Board(Board::Short),
-            248 => Known::Board(Board::Long),
-            _ => Known::Unknown,
+            SHORT_PAGES => Some(Board::Short),
+            LONG_PAGES => Some(Board::Long),
+            _ => None,
         }
     }
 
+    /// How many pages flash has: 124 or 248.
     pub fn pages(self) -> u32
-        ensures { (result ≡ pages_of self) × (0 < result) × (result ≤ pages_most) }
+        ensures pages { result ≡ pages_of self }
+        ensures some { 0 < result }
+        ensures most { result ≤ pages_most }
     {
         match self {
             Board::Short => SHORT_PAGES,
@@ -65,27 +71,34 @@ impl Board {
         }
     }
 
-    // The first address past flash.
-    pub fn end(self) -> u32
-        ensures { (result ≡ start_of (pages_of self)) × (0 < result) × (result ≤ start_of pages_most) }
+    /// The first address past flash: 0xF800 or 0x1F000.
+    pub fn end(self) -> Address
+        ensures end { result.0 ≡ start_of (pages_of self) }
+        ensures some { 0 < result.0 }
+        ensures most { result.0 ≤ start_of pages_most }
     {
-        self.pages() * PAGE
+        Address(self.pages() * PAGE)
     }
 
-    // How many bytes flash and its image have.
+    /// How many bytes flash and its image have.
     pub fn size(self) -> usize
-        ensures { (result ≡ start_of (pages_of self)) × (0 < result) × (result ≤ start_of pages_most) }
+        ensures size { result ≡ start_of (pages_of self) }
+        ensures some { 0 < result }
+        ensures most { result ≤ start_of pages_most }
     {
-        self.end() as usize
+        self.end().0 as usize
     }
 
-    // How many bytes the map has.
+    /// How many bytes the map of one bit an address has.
     pub fn map(self) -> usize
-        ensures { (result ≡ map_bytes (pages_of self)) × (0 < result) × (result ≤ map_bytes pages_most) }
+        ensures size { result ≡ map_bytes (pages_of self) }
+        ensures some { 0 < result }
+        ensures most { result ≤ map_bytes pages_most }
     {
         self.size() / 8
     }
 
+    /// The 24 bytes that it greets with.
     pub fn greeting(self) -> [u8; ANSWER]
         ensures { result ≡ greeting_of (pages_of self) }
     {
@@ -95,7 +108,7 @@ impl Board {
         }
     }
 
-    // An image as long as the board, and a map of one bit an address.
+    /// Whether an image of so many bytes is as long as the board, and a map of so many has one bit an address.
     pub fn right_sizes(self, image: usize, map: usize) -> bool
         ensures { result ≡ right_sizes_in (start_of (pages_of self)) image map }
     {
@@ -103,7 +116,7 @@ impl Board {
         image == size && map == size / 8
     }
 
-    // The service log's version.
+    /// The version of its service log: 1 or 2.
     pub fn log_version(self) -> u8
         ensures { result ≡ version_of self }
     {
@@ -113,9 +126,11 @@ impl Board {
         }
     }
 
-    // How many bytes each count of its log record has.
+    /// How many bytes each count of its log record has: 2 or 4.
     pub fn count_bytes(self) -> usize
-        ensures { (result ≡ count_bytes self) × (2 ≤ result) × (result ≤ 4) }
+        ensures bytes { result ≡ count_bytes self }
+        ensures least { 2 ≤ result }
+        ensures most { result ≤ 4 }
     {
         match self {
             Board::Short => 2,
@@ -123,21 +138,23 @@ impl Board {
         }
     }
 
-    // What the length field of its log record says.
+    /// What the length field of its log record says: 8 or 14, a version, an outcome and three counts.
     pub fn log_length(self) -> usize
-        ensures { (result ≡ log_length self) × (8 ≤ result) × (result ≤ 14) }
+        ensures length { result ≡ log_length self }
+        ensures least { 8 ≤ result }
+        ensures most { result ≤ 14 }
     {
         2 + 3 * self.count_bytes()
     }
 
-    // The board that a log record's length field tells.
-    pub fn logged(length: u16) -> Known
+    /// The board that a log record's length field tells, 8 or 14; where no board has such records, none.
+    pub fn logged(length: u16) -> Option<Board>
         ensures { result ≡ board_logged length }
     {
         match length {
-            8 => Known::Board(Board::Short),
-            14 => Known::Board(Board::Long),
-            _ => Known::Unknown,
+            8 => Some(Board::Short),
+            14 => Some(Board::Long),
+            _ => None,
         }
     }
 }

@@ -2,25 +2,26 @@
 ghost use Rattle.std.specs.Prelude.{◌≡◌};
 ghost use Rattle.basis.specs.Sums.{sum_of, complement_of, checksum_of};
 
+/// The low byte of the sum of the bytes.
+#[tactic(auto, using(crate::proofs::Steps::sums))]
 pub fn sum(bytes: &[u8]) -> u8
     ensures { result ≡ sum_of bytes.now }
 {
     let mut total: u8 = 0;
-    let mut i = 0;
-    while i < bytes.len() {
-        total = std::num::wrapping_add_u8(total, bytes[i]);
-        i += 1;
+    for b in bytes {
+        total = total.wrapping_add(*b);
     }
     total
 }
 
-// The byte that makes a total zero.
+/// The byte that makes the low byte of a total zero.
 pub fn complement(total: u8) -> u8
     ensures { result ≡ complement_of total }
 {
-    std::num::wrapping_sub_u8(0, total)
+    total.wrapping_neg()
 }
 
+/// The byte that makes the low byte of the sum zero, once it is added.
 pub fn checksum(bytes: &[u8]) -> u8
     ensures { result ≡ checksum_of bytes.now }
 {

@@ -1,5 +1,5 @@
 -- An event: an answer's bytes, or silence.
-use Rattle.std.specs.Prelude.{ℕ, Bool, true, false, List, [], ◌∷◌, eqb, length, take, drop}
+use Rattle.std.specs.Prelude.{ℕ, Bool, true, false, List, [], ◌∷◌, eqb, length, take, drop, Option, Some, None}
 use Rattle.basis.specs.Board.{greeting_of, answer_most, ack_byte, bel_byte}
 use Rattle.basis.specs.Choice.{pick, both}
 use Rattle.events.specs.declared.event.Event.{Event}
@@ -27,6 +27,15 @@ classify_of board silent b =
     (pick (same_of b (ack_byte ∷ [])) Event.Ack
     (pick (same_of b (bel_byte ∷ [])) Event.Bel
     Event.Other)))
+
+-- what came, in two parts: whether it is silence, and the bytes of an answer
+abbrev pub silent_in : Option (List ℕ) → Bool
+silent_in None = true
+silent_in (Some b) = false
+
+abbrev pub bytes_in : Option (List ℕ) → List ℕ
+bytes_in None = []
+bytes_in (Some b) = b
 
 -- the event is the greeting, or an acknowledgement
 abbrev pub is_greeting : Event → Bool

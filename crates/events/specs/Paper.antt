@@ -1,6 +1,6 @@
 -- The paper's numbers for each case of a session's refusals, and what it says of a byte.
-use Rattle.std.specs.Prelude.{ℕ, Bool, true, false}
-use Rattle.basis.specs.Refusals.{Answer, refused, given}
+use Rattle.std.specs.Prelude.{ℕ, Bool, true, false, Result}
+use Rattle.basis.specs.Refusals.{Answer, answer_of}
 use Rattle.events.specs.declared.refusal.Mark.{Mark}
 use Rattle.events.specs.declared.refusal.Refusal.{Refusal}
 
@@ -13,7 +13,9 @@ paper_refusal Refusal.Ended = 44
 paper_refusal Refusal.Foreign = 46
 
 -- the byte is marked or not, or the refusal
-abbrev pub paper_mark : Mark → Answer Bool
-paper_mark Mark.Proved = given true
-paper_mark Mark.Unproved = given false
-paper_mark (Mark.Refused x) = refused (paper_refusal x)
+abbrev pub is_proved : Mark → Bool
+is_proved Mark.Proved = true
+is_proved Mark.Unproved = false
+
+abbrev pub paper_mark : Result Mark Refusal → Answer Bool
+paper_mark = answer_of paper_refusal is_proved

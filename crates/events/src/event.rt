@@ -1,34 +1,42 @@
 // What comes back from the board, as an event: an answer's bytes, or silence.
 ghost use Rattle.std.specs.Prelude.{◌≡◌};
+ghost use Rattle.std.specs.Option.{option_copied};
 ghost use Rattle.basis.specs.Board.{pages_of};
-ghost use Rattle.events.specs.Events.{same_of, greets_of, classify_of};
+ghost use Rattle.events.specs.Events.{same_of, greets_of, silent_in, bytes_in, classify_of};
 
 use basis::board::{ACK, ANSWER, BEL, Board};
 
-#[derive(Clone, Copy)]
+/// What comes back from the board.
+#[derive(Clone, Copy, Debug, PartialEq, Eq)]
 pub enum Event {
+    /// The board's greeting.
     Greeting,
+    /// The single byte 06.
     Ack,
+    /// The single byte 07.
     Bel,
-    // Any other bytes, or none.
+    /// Any other bytes, or none.
     Other,
+    /// No answer.
     Silence,
 }
 
-// Where `silent` no answer came, and `answer` counts for nothing.
-pub fn classify(board: Board, silent: bool, answer: &[u8]) -> Event
-    ensures { result ≡ classify_of (pages_of board) silent answer.now }
+/// The event that an answer is on the board; where none came it is silence.
+#[tactic(auto, unfolding(crate::specs::Events::classify_of))]
+pub fn classify(board: Board, answer: Option<&[u8]>) -> Event
+    ensures { let a = option_copied answer.entry in
+        result ≡ classify_of (pages_of board) (silent_in a) (bytes_in a) }
 {
-    if silent {
+    let Some(bytes) = answer else {
         return Event::Silence;
-    }
-    if greets(board, answer) {
+    };
+    if greets(board, bytes) {
         return Event::Greeting;
     }
-    if same(answer, &[ACK]) {
+    if same(bytes, &[ACK]) {
         return Event::Ack;
     }
-    if same(answer, &[BEL]) {
+    if same(bytes, &[BEL]) {
         return Event::Bel;
     }
     Event::Other
@@ -48,18 +56,9 @@ fn greets(board: Board, answer: &[u8]) -> bool
     same(&answer[22..], &greeting[22..])
 }
 
+// `==` by itself, told by `same_of`: the three goals of `greets` stay short.
 fn same(a: &[u8], b: &[u8]) -> bool
     ensures { result ≡ same_of a.now b.now }
 {
-    if a.len() != b.len() {
-        return false;
-    }
-    let mut i = 0;
-    while i < a.len() {
-        if a[i] != b[i] {
-            return false;
-        }
-        i += 1;
-    }
-    true
+    a == b
 }

@@ -8,13 +8,13 @@ use Rattle.image.specs.declared.hex.Hex.{Hex}
 use Rattle.line.specs.declared.rehearse.Load.{Load}
 use Rattle.loader.specs.declared.state.Loader.{Loader}
 use Rattle.packet.specs.Packet as packet
-use Rattle.plain.specs.declared.plain.Next as plain
+use Rattle.plain.specs.Plain as plain
 use Rattle.port.specs.Port.{Turn}
 use Rattle.port.specs.declared.port.Port.{Port}
 use Rattle.receiver.specs.declared.receiver.Receiver.{Receiver}
 use Rattle.receiver.specs.declared.receiver.Stretch.{Stretch}
 use Rattle.service_log.specs.declared.read.Record.{Record}
-use Rattle.session.specs.declared.session.Next.{Next}
+use Rattle.session.specs.Session.{Next}
 use Rattle.stations.specs.declared.station.Station.{Station}
 use Rattle.stations.specs.declared.table.Standing.{Standing}
 use Rattle.gremolunde.specs.States.{flag_of, loader_shown, hex_shown, session_shown, plain_shown, station_shown}
@@ -116,7 +116,7 @@ no_plain =
 
 abbrev pub plain_stepped_answer : PlainState → Answer plain.Next → PlainStepped
 plain_stepped_answer s (refused n) = record { number = n; length = 0; plain = s }
-plain_stepped_answer s (given x) = record { number = 0; length = x.len; plain = plain_shown x.plain }
+plain_stepped_answer s (given x) = record { number = 0; length = x.len; plain = plain_shown x.session }
 
 -- loader and session at the end of a rehearsal
 abbrev pub rehearsed_answer : LoaderState → Answer Load → Rehearsal

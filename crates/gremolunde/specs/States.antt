@@ -11,11 +11,11 @@ use Rattle.loader.specs.declared.state.Condition.TheVariants.{Waiting, Serving, 
 use Rattle.loader.specs.declared.state.Loader.{Loader}
 use Rattle.order.specs.Steps.{erase_at, write_at, verify_at}
 use Rattle.order.specs.declared.step.Step.{Step}
-use Rattle.plain.specs.declared.plain.Plain.{Plain}
+use Rattle.plain.specs.Plain.{Plain}
 use Rattle.plain.specs.declared.stage.Stage.{Stage}
 use Rattle.port.specs.declared.port.Port.{Port}
 use Rattle.session.specs.declared.phase.Phase.{Phase}
-use Rattle.session.specs.declared.session.Session.{Session}
+use Rattle.session.specs.Session.{Session}
 use Rattle.stations.specs.declared.station.Station.{Station}
 use Rattle.gremolunde.specs.declared.states.HexState.{HexState}
 use Rattle.gremolunde.specs.declared.states.LoaderState.{LoaderState}
@@ -207,7 +207,7 @@ plain_at s stage k =
     record {
       board = s.board;
       kind = kind_of s.run;
-      stage = stage;
+      phase = stage;
       acknowledged = k;
       total = s.total;
       named = s.named;
@@ -226,8 +226,8 @@ plain_shown p =
     record {
       board = p.board;
       run = paper_kind p.kind;
-      stage = stage_shown p.stage;
-      outcome = ending_shown p.stage;
+      stage = stage_shown p.phase;
+      outcome = ending_shown p.phase;
       acknowledged = p.acknowledged;
       total = p.total;
       named = p.named;

@@ -1,29 +1,43 @@
-// What several answers to C have in common: the number of an unknown board, a length, and a flag as a byte.
+// What several answers to C have in common: the number of an unknown board, and a length.
 ghost use Rattle.std.specs.Prelude.{◌≡◌};
-ghost use Rattle.basis.specs.Refusals.{refused};
+ghost use Rattle.basis.specs.Refusals.{refused, answer_of};
 ghost use Rattle.gremolunde.specs.Answers.{length_answer};
-ghost use Rattle.gremolunde.specs.States.{flag_of};
 
-// There is no board of so many pages.
+use basis::numbered::Numbered;
+
+/// The refusal where there is no board of so many pages.
+// A number: loader, port and hex reader take a `Board`, so their refusals have no case for it.
 pub const UNKNOWN_BOARD: u32 = 65;
 
-// How many bytes were written.
+/// How many bytes were written, or why none.
 #[repr(C)]
-#[derive(Clone, Copy)]
+#[derive(Clone, Copy, Default)]
 pub struct Length {
+    /// 0, or the refusal's number.
     pub number: u32,
+    /// In bytes; 0 where it is refused.
     pub length: usize,
 }
 
-// Nothing is written.
+/// A refusal: nothing is written.
 pub fn refused(number: u32) -> Length
     ensures { result ≡ length_answer (refused number) }
 {
-    Length { number, length: 0 }
+    Length {
+        number,
+        ..Length::default()
+    }
 }
 
-pub fn flag(set: bool) -> u8
-    ensures { result ≡ flag_of set }
+/// What a builder or a writer gives, whatever its refusals are.
+pub fn length_answer<E: Numbered + Drop>(answer: Result<usize, E>) -> Length
+    ensures { result ≡ length_answer (answer_of E.number_of (λ n. n) answer) }
 {
-    if set { 1 } else { 0 }
+    match answer {
+        Ok(length) => Length {
+            length,
+            ..Length::default()
+        },
+        Err(why) => refused(why.number()),
+    }
 }

@@ -1,25 +1,24 @@
 // Hex files for C: the reader, record by record, and the writer.
 ghost use Rattle.std.specs.Prelude.{◌≡◌, length};
-ghost use Rattle.basis.specs.Board.{pages_of, board_of};
 ghost use Rattle.basis.specs.Lists.{overlay};
-ghost use Rattle.basis.specs.Refusals.{refused, on_board};
-ghost use Rattle.basis.specs.Units.{start_of};
-ghost use Rattle.basis.specs.declared.board.Board.{Board};
+ghost use Rattle.basis.specs.Refusals.{refused};
 ghost use Rattle.gremolunde.specs.Answers.{no_reader, hex_answer, written_answer};
-ghost use Rattle.gremolunde.specs.States.{hex_meant};
+ghost use Rattle.gremolunde.specs.Files.{start_on, record_on, close_on, write_on};
 ghost use Rattle.image.specs.Paper.{paper_read, paper_written};
-ghost use Rattle.image.specs.Hex.{settled, start_in, record_in, close_of};
-ghost use Rattle.image.specs.Record.{wrong, pointed, no_line};
-ghost use Rattle.image.specs.Writer.{measured, text_bytes, write_in};
+ghost use Rattle.image.specs.Record.{wrong};
+ghost use Rattle.image.specs.Writer.{measured, text_bytes};
 
 use crate::answers::UNKNOWN_BOARD;
 use crate::states::{HexState, hex_meant, hex_shown};
-use basis::board::{Board, Known};
+use basis::board::Board;
+use basis::numbered::Numbered;
 use basis::units::Address;
-use image::hex::{Hex, Read};
+use image::hex::Hex;
+use image::record::{Blame, Refusal};
 use image::writer::{Written, write};
 
-// The next state of the reader; a refusal hands it back as it came, and has its column, 0 where it has none.
+/// The next state of the reader; a refusal hands it back as it came, and has its column, counted from 0; 0 where it
+/// has none.
 #[repr(C)]
 #[derive(Clone, Copy)]
 pub struct HexRead {
@@ -28,8 +27,8 @@ pub struct HexRead {
     pub reader: HexState,
 }
 
-// The address to go on from, the upper half to go on with, and how many characters were written; a refusal hands both
-// back.
+/// The address to go on from, the upper half to go on with, and how many characters were written; a refusal hands both
+/// back.
 #[repr(C)]
 #[derive(Clone, Copy)]
 pub struct HexWritten {
@@ -39,6 +38,8 @@ pub struct HexWritten {
     pub length: usize,
 }
 
+/// A reader at the start of a file for the board of so many pages: the image is filled with 0xFF, the map with 0.
+/// 65 no such board, 20 an image or a map of a wrong size, 34 no such rule set; they leave both as they were.
 #[tactic(auto, unfolding(image::specs::Record::column_of))]
 #[unsafe(no_mangle)]
 pub extern "C" fn gremolunde_hex_start(
@@ -47,35 +48,25 @@ pub extern "C" fn gremolunde_hex_start(
     image: &mut [u8],
     map: &mut [u8],
 ) -> HexRead
-    ensures { let i = image.old in
-        let m = map.old in
-        let a = on_board (board_of board) (λ (b : Board). start_in (start_of (pages_of b)) rules i m) in
-        let o = settled (pointed no_line a) i m in
-        (result ≡ hex_answer no_reader board o.answer) × (image.new ≡ o.image) × (map.new ≡ o.map) }
+    ensures answer { result ≡ hex_answer no_reader board (start_on board rules image.old map.old).answer }
+    ensures image { image.new ≡ (start_on board rules image.old map.old).image }
+    ensures map { map.new ≡ (start_on board rules image.old map.old).map }
 {
-    match Board::of(board) {
-        Known::Board(known) => {
-            hex_answer(no_reader(), board, Hex::start(known, rules, image, map))
-        }
-        Known::Unknown => hex_unknown(no_reader()),
-    }
+    let Some(known) = Board::of(board) else {
+        return hex_unknown(no_reader());
+    };
+    hex_answer(no_reader(), board, Hex::start(known, rules, image, map))
 }
 
-// What a start that is refused hands back.
+/// What a start that is refused hands back.
 pub fn no_reader() -> HexState
     ensures { result ≡ no_reader }
 {
-    HexState {
-        board: 0,
-        rules: 0,
-        linear: 0,
-        segment: 0,
-        segmented: 0,
-        ended: 0,
-        taken: 0,
-    }
+    HexState::default()
 }
 
+/// The next record, its line end removed. 65 no such board, 20 an image or a map of a wrong size, 34 no such rule set,
+/// 21 behind the end record, 22 to 30 as the record has them; they leave image, map and reader as they were.
 #[tactic(auto, unfolding(image::specs::Record::column_of))]
 #[unsafe(no_mangle)]
 pub extern "C" fn gremolunde_hex_record(
@@ -84,49 +75,46 @@ pub extern "C" fn gremolunde_hex_record(
     image: &mut [u8],
     map: &mut [u8],
 ) -> HexRead
-    ensures { let l = line.now in
-        let i = image.old in
-        let m = map.old in
-        let a = on_board (board_of reader.board)
-        (λ (b : Board). record_in (start_of (pages_of b)) (hex_meant reader) l i m) in
-        let o = settled (pointed l a) i m in
-        (result ≡ hex_answer reader reader.board o.answer) × (image.new ≡ o.image)
-        × (map.new ≡ o.map) }
+    ensures answer { let o = record_on reader line.now image.old map.old in
+        result ≡ hex_answer reader reader.board o.answer }
+    ensures image { image.new ≡ (record_on reader line.now image.old map.old).image }
+    ensures map { map.new ≡ (record_on reader line.now image.old map.old).map }
 {
-    let meant = hex_meant(reader);
-    match Board::of(reader.board) {
-        Known::Board(known) => {
-            hex_answer(reader, reader.board, meant.record(known, line, image, map))
-        }
-        Known::Unknown => hex_unknown(reader),
-    }
+    let Some(known) = Board::of(reader.board) else {
+        return hex_unknown(reader);
+    };
+    hex_answer(
+        reader,
+        reader.board,
+        hex_meant(reader).record(known, line, image, map),
+    )
 }
 
+/// The end of the file. 65 no such board, 34 no such rule set, 31 no end record came, 32 no data byte.
 #[tactic(auto, unfolding(image::specs::Record::column_of))]
 #[unsafe(no_mangle)]
 pub extern "C" fn gremolunde_hex_close(reader: HexState) -> HexRead
-    ensures { let a = on_board (board_of reader.board) (λ (b : Board). close_of (hex_meant reader)) in
-        result ≡ hex_answer reader reader.board (pointed no_line a) }
+    ensures { result ≡ hex_answer reader reader.board (close_on reader) }
 {
-    let meant = hex_meant(reader);
-    match Board::of(reader.board) {
-        Known::Board(_) => hex_answer(reader, reader.board, meant.close()),
-        Known::Unknown => hex_unknown(reader),
-    }
+    let Some(_) = Board::of(reader.board) else {
+        return hex_unknown(reader);
+    };
+    hex_answer(reader, reader.board, hex_meant(reader).close())
 }
 
-pub fn hex_answer(reader: HexState, board: u32, answer: Read) -> HexRead
+/// What the reader answers, with the state that it came from; the next one is for the same board.
+pub fn hex_answer(reader: HexState, board: u32, answer: Result<Hex, Blame>) -> HexRead
     ensures { result ≡ hex_answer reader board (paper_read answer) }
 {
     match answer {
-        Read::Taken(next) => HexRead {
+        Ok(next) => HexRead {
             number: 0,
             column: 0,
             reader: hex_shown(board, next),
         },
-        Read::Refused(why, column) => HexRead {
-            number: why.number(),
-            column,
+        Err(why) => HexRead {
+            number: why.refusal.number(),
+            column: why.column,
             reader,
         },
     }
@@ -142,6 +130,8 @@ fn hex_unknown(reader: HexState) -> HexRead
     }
 }
 
+/// The next record of the named bytes from an address on, closed by 0A, at the start of the buffer. 65 no such board,
+/// 20 an image or a map of a wrong size, 33 a buffer of less than 44 bytes; they write nothing.
 #[unsafe(no_mangle)]
 pub extern "C" fn gremolunde_hex_write(
     board: u32,
@@ -151,36 +141,32 @@ pub extern "C" fn gremolunde_hex_write(
     upper: u16,
     buffer: &mut [u8],
 ) -> HexWritten
-    ensures { let a = on_board (board_of board) (λ (b : Board).
-        write_in (start_of (pages_of b)) image.now map.now from upper
-        (length buffer.old)) in
-        (result ≡ written_answer from upper (measured a))
-        × (buffer.new ≡ overlay (text_bytes a) buffer.old) }
+    ensures answer { let a = write_on board image.now map.now from upper (length buffer.old) in
+        result ≡ written_answer from upper (measured a) }
+    ensures buffer { let a = write_on board image.now map.now from upper (length buffer.old) in
+        buffer.new ≡ overlay (text_bytes a) buffer.old }
 {
-    match Board::of(board) {
-        Known::Board(known) => {
-            let answer = write(known, image, map, Address(from), upper, buffer);
-            written_answer(from, upper, answer)
-        }
-        Known::Unknown => not_written(UNKNOWN_BOARD, from, upper),
-    }
+    let Some(known) = Board::of(board) else {
+        return not_written(UNKNOWN_BOARD, from, upper);
+    };
+    written_answer(
+        from,
+        upper,
+        write(known, image, map, Address(from), upper, buffer),
+    )
 }
 
-fn written_answer(from: u32, upper: u16, answer: Written) -> HexWritten
+fn written_answer(from: u32, upper: u16, answer: Result<Written, Refusal>) -> HexWritten
     ensures { result ≡ written_answer from upper (paper_written answer) }
 {
     match answer {
-        Written::Record {
-            length,
-            next,
-            upper,
-        } => HexWritten {
+        Ok(written) => HexWritten {
             number: 0,
-            next: next.0,
-            upper,
-            length,
+            next: written.next.0,
+            upper: written.upper,
+            length: written.length,
         },
-        Written::Refused(why) => not_written(why.number(), from, upper),
+        Err(why) => not_written(why.number(), from, upper),
     }
 }
 

@@ -1,4 +1,5 @@
 // The product as C programs link it. What C lends is safe at any value, and each answer is the paper's.
+// Board, image and map come apart, as C lends them.
 #![tactic(auto)]
 
 pub mod answers;

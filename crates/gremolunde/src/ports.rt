@@ -12,10 +12,10 @@ ghost use Rattle.port.specs.Port.{port_of, turn_after};
 use crate::answers::UNKNOWN_BOARD;
 use crate::loading::taken_answer;
 use crate::states::{LoaderState, PortState, port_meant};
-use basis::board::{Board, Known};
+use basis::board::Board;
 use port::port::Served;
 
-// How many bytes were taken, how many answer bytes were written, and the next state.
+/// How many bytes were taken, how many answer bytes were written, and the next state.
 #[repr(C)]
 #[derive(Clone, Copy)]
 pub struct PortTaken {
@@ -25,6 +25,9 @@ pub struct PortTaken {
     pub port: PortState,
 }
 
+/// Bytes as they came, up to and with the one that brings the loader an input, on a board of so many pages.
+///
+/// 65 for no board, 20 for a size: no byte is taken. Else as `gremolunde_loader_take`, 0 where the loader got no input.
 #[unsafe(no_mangle)]
 pub extern "C" fn gremolunde_port_take(
     board: u32,
@@ -33,48 +36,46 @@ pub extern "C" fn gremolunde_port_take(
     flash: &mut [u8],
     answer: &mut [u8],
 ) -> PortTaken
-    ensures { let p = port_meant port in
+    ensures answer { let p = port_meant port in
         let x = on_board (board_of board) (λ (b : Board).
         port_of (pages_of b) p bytes.now flash.old (length answer.old)) in
-        let t = turn_after p flash.old x in
-        (result ≡ port_answer port.loader t)
-        × (flash.new ≡ t.flash)
-        × (answer.new ≡ overlay t.answer answer.old) }
+        result ≡ port_answer port.loader (turn_after p flash.old x) }
+    ensures flash { let p = port_meant port in
+        let x = on_board (board_of board) (λ (b : Board).
+        port_of (pages_of b) p bytes.now flash.old (length answer.old)) in
+        flash.new ≡ (turn_after p flash.old x).flash }
+    ensures bytes { let p = port_meant port in
+        let x = on_board (board_of board) (λ (b : Board).
+        port_of (pages_of b) p bytes.now flash.old (length answer.old)) in
+        answer.new ≡ overlay (turn_after p flash.old x).answer answer.old }
 {
-    let loader = port.loader;
-    let meant = port_meant(port);
-    match Board::of(board) {
-        Known::Board(known) => {
-            let served = meant.serve(known, bytes, flash, answer);
-            port_answer(loader, served)
-        }
-        Known::Unknown => PortTaken {
+    let Some(known) = Board::of(board) else {
+        return PortTaken {
             number: UNKNOWN_BOARD,
             taken: 0,
             answered: 0,
             port,
-        },
-    }
+        };
+    };
+    port_answer(
+        port.loader,
+        port_meant(port).serve(known, bytes, flash, answer),
+    )
 }
 
 // The receiver moves on where the loader refuses what it was handed.
 fn port_answer(loader: LoaderState, served: Served) -> PortTaken
-    ensures { result ≡ port_answer_of loader (paper_verdict served.verdict) served.port served.taken served.answered }
+    ensures { let v = paper_verdict served.verdict in
+        result ≡ port_answer_of loader v served.port served.taken served.answered }
 {
-    let next = served.port;
-    let verdict = served.verdict;
-    let taken = served.taken;
-    let after = next.loader;
-    let receiver = next.receiver;
-    let told = taken_answer(loader, verdict, after, served.answered);
-    let shown = told.loader;
+    let told = taken_answer(loader, served.verdict, served.port.loader, served.answered);
     PortTaken {
         number: told.number,
-        taken,
+        taken: served.taken,
         answered: told.answered,
         port: PortState {
-            loader: shown,
-            receiver,
+            loader: told.loader,
+            receiver: served.port.receiver,
         },
     }
 }

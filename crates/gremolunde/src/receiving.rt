@@ -5,7 +5,7 @@ ghost use Rattle.receiver.specs.Receiver.{fresh, byte_of, bytes_of};
 
 use receiver::receiver::Receiver;
 
-// The length of the packet that stands in the receiver, 0 where there is none, and how many bytes were taken.
+/// The length of the packet that stands in the receiver, 0 where there is none, and how many bytes were taken.
 #[repr(C)]
 #[derive(Clone, Copy)]
 pub struct Received {
@@ -14,6 +14,7 @@ pub struct Received {
     pub receiver: Receiver,
 }
 
+/// A receiver that has gathered nothing.
 #[unsafe(no_mangle)]
 pub extern "C" fn gremolunde_receiver_new() -> Receiver
     ensures { result ≡ fresh }
@@ -21,26 +22,27 @@ pub extern "C" fn gremolunde_receiver_new() -> Receiver
     Receiver::new()
 }
 
-// The receiver stays in the storage of the interrupt that feeds it.
+/// One byte: the length of the packet that it completes, else 0. The receiver stays in the storage of the interrupt
+/// that feeds it.
 #[unsafe(no_mangle)]
 pub extern "C" fn gremolunde_receiver_byte(receiver: &mut Receiver, byte: u8) -> usize
-    ensures { let x = byte_of receiver.old byte in
-        (receiver.new ≡ x.receiver) × (result ≡ x.packet) }
+    ensures receiver { receiver.new ≡ (byte_of receiver.old byte).receiver }
+    ensures packet { result ≡ (byte_of receiver.old byte).packet }
 {
     let next = receiver.byte(byte);
     *receiver = next.receiver;
     next.packet
 }
 
+/// Bytes as they came, up to and with the one that completes a packet.
 #[unsafe(no_mangle)]
 pub extern "C" fn gremolunde_receiver_bytes(receiver: Receiver, bytes: &[u8]) -> Received
     ensures { result ≡ received_answer (bytes_of receiver bytes.now) }
 {
     let stretch = receiver.bytes(bytes);
-    let next = stretch.receiver;
     Received {
         packet: stretch.packet,
         taken: stretch.taken,
-        receiver: next,
+        receiver: stretch.receiver,
     }
 }

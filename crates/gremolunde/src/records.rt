@@ -5,16 +5,17 @@ ghost use Rattle.basis.specs.Refusals.{counted, written};
 ghost use Rattle.gremolunde.specs.Answers.{length_answer, record_answer};
 ghost use Rattle.gremolunde.specs.States.{session_meant};
 ghost use Rattle.service_log.specs.Log.{write_of, read_of};
-ghost use Rattle.service_log.specs.Paper.{paper_reading, paper_written};
+ghost use Rattle.service_log.specs.Paper.{paper_reading};
 
-use crate::answers::{Length, refused};
+use crate::answers::{Length, length_answer};
 use crate::states::{SessionState, session_meant};
-use service_log::read::{Reading, read};
-use service_log::write::{Written, write};
+use basis::numbered::Numbered;
+use service_log::read::{Record, Unread, read};
+use service_log::write::write;
 
-// What a record says.
+/// What a record says; all 0 but for the number where it is refused.
 #[repr(C)]
-#[derive(Clone, Copy)]
+#[derive(Clone, Copy, Default)]
 pub struct LogRecord {
     pub number: u32,
     pub version: u8,
@@ -24,23 +25,21 @@ pub struct LogRecord {
     pub bytes: u32,
 }
 
+/// Writes a session's record at the start of the buffer: how many bytes it has.
+///
+/// 65 for no board, 45 for a session that is unfinished or that no record tells, then 20 where the buffer has too few
+/// bytes; it then stays as it was.
 #[unsafe(no_mangle)]
 pub extern "C" fn gremolunde_log_write(session: SessionState, buffer: &mut [u8]) -> Length
-    ensures { let b = write_of (length buffer.old) (session_meant session) in
-        (result ≡ length_answer (counted b)) × (buffer.new ≡ overlay (written b) buffer.old) }
+    ensures answer { let b = write_of (length buffer.old) (session_meant session) in
+        result ≡ length_answer (counted b) }
+    ensures bytes { let b = write_of (length buffer.old) (session_meant session) in
+        buffer.new ≡ overlay (written b) buffer.old }
 {
-    logged_answer(write(session_meant(session), buffer))
+    length_answer(write(session_meant(session), buffer))
 }
 
-pub fn logged_answer(answer: Written) -> Length
-    ensures { result ≡ length_answer (paper_written answer) }
-{
-    match answer {
-        Written::Record(length) => Length { number: 0, length },
-        Written::Refused(why) => refused(why.number()),
-    }
-}
-
+/// Reads a record: 50 under 10 bytes, 51 for another length, 52 for another version, 53 for a false record.
 #[unsafe(no_mangle)]
 pub extern "C" fn gremolunde_log_read(input: &[u8]) -> LogRecord
     ensures { result ≡ record_answer (read_of input.now) }
@@ -48,11 +47,11 @@ pub extern "C" fn gremolunde_log_read(input: &[u8]) -> LogRecord
     record_answer(read(input))
 }
 
-fn record_answer(answer: Reading) -> LogRecord
+fn record_answer(answer: Result<Record, Unread>) -> LogRecord
     ensures { result ≡ record_answer (paper_reading answer) }
 {
     match answer {
-        Reading::Record(said) => LogRecord {
+        Ok(said) => LogRecord {
             number: 0,
             version: said.version,
             outcome: said.outcome,
@@ -60,13 +59,9 @@ fn record_answer(answer: Reading) -> LogRecord
             total: said.total,
             bytes: said.bytes,
         },
-        Reading::Refused(why) => LogRecord {
+        Err(why) => LogRecord {
             number: why.number(),
-            version: 0,
-            outcome: 0,
-            acknowledged: 0,
-            total: 0,
-            bytes: 0,
+            ..LogRecord::default()
         },
     }
 }

@@ -1,8 +1,9 @@
 // The states that a C caller keeps, and what each stands for.
+// No `From`: contracts of the exports say `.._meant` and `.._shown` by these names, and a `From` would say them once
+// more; a hex reader is shown with its board besides.
 ghost use Rattle.std.specs.Prelude.{◌≡◌};
-ghost use Rattle.gremolunde.specs.States.{condition_meant, condition_shown, loader_meant, loader_shown, port_meant, hex_meant, hex_shown, nowhere, outcome_meant, end_meant, phase_meant, without, phase_shown, page_shown, address_shown, outcome_shown, session_meant, session_shown, stage_meant, stage_shown, ending_shown, listed, plain_at, plain_meant, plain_shown, station_meant, station_shown};
+ghost use Rattle.gremolunde.specs.States.{condition_meant, loader_meant, loader_shown, port_meant, hex_meant, hex_shown, nowhere, outcome_meant, end_meant, phase_meant, session_meant, session_shown, stage_meant, stage_shown, ending_shown, listed, plain_at, plain_meant, plain_shown, station_meant, station_shown};
 
-use crate::answers::flag;
 use basis::kind::RunKind;
 use basis::units::{Address, Page};
 use events::ending::Outcome;
@@ -18,7 +19,8 @@ use session::phase::Phase;
 use session::session::Session;
 use stations::station::Station;
 
-// `condition` is 0 waiting, 1 serving, 2 left; what else it may be counts as left.
+/// A loader. `condition` is 0 waiting, 1 serving, 2 left; what else it may be counts as left. `groups` and `read` are
+/// protected, `added` and `added_read` are only added yet, by a sequence that is `opened`; a flag is false at 0 alone.
 #[repr(C)]
 #[derive(Clone, Copy)]
 pub struct LoaderState {
@@ -31,6 +33,7 @@ pub struct LoaderState {
     pub added_read: u8,
 }
 
+/// A loader on its line, with the bytes that have come of a packet.
 #[repr(C)]
 #[derive(Clone, Copy)]
 pub struct PortState {
@@ -38,9 +41,9 @@ pub struct PortState {
     pub receiver: Receiver,
 }
 
-// `board` is its number of pages, `rules` the number of its rule set.
+/// A hex reader. `board` is its number of pages, `rules` the number of its rule set.
 #[repr(C)]
-#[derive(Clone, Copy)]
+#[derive(Clone, Copy, Default)]
 pub struct HexState {
     pub board: u32,
     pub rules: u32,
@@ -51,11 +54,11 @@ pub struct HexState {
     pub taken: u8,
 }
 
-// `board` is its number of pages. `run` is the run kind: 0 reset, 1 jump, 2 hold, all else is the default, hold.
-// `phase` is 0 for the greeting, 1 to 4 for E, W, V and R, 5 for an end; E uses `page`, W and V `address`, an end
-// `outcome`.
+/// A session. `board` is its number of pages, `run` the run kind: 0 reset, 1 jump, 2 hold, all else is the default,
+/// hold. `phase` is 0 for the greeting, 1 to 4 for E, W, V and R, 5 for an end; E uses `page`, W and V `address`, an
+/// end `outcome`, and a field that the phase does not use is 0.
 #[repr(C)]
-#[derive(Clone, Copy)]
+#[derive(Clone, Copy, Default)]
 pub struct SessionState {
     pub board: u32,
     pub run: u32,
@@ -68,10 +71,10 @@ pub struct SessionState {
     pub named: u32,
 }
 
-// `board` and `run` as a session has them. `stage` is 0 waiting for the greeting, 1 under way, 2 an end by `outcome`,
-// which is 0 before.
+/// A plain session. `board` and `run` are as a session has them. `stage` is 0 waiting for the greeting, 1 under way,
+/// 2 an end by `outcome`, which is 0 before.
 #[repr(C)]
-#[derive(Clone, Copy)]
+#[derive(Clone, Copy, Default)]
 pub struct PlainState {
     pub board: u32,
     pub run: u32,
@@ -82,9 +85,10 @@ pub struct PlainState {
     pub named: u32,
 }
 
-// `station` is its number; any value of a field may stand here, and what is out of range is refused.
+/// A station's settings. `station` is its number; any value of a field may stand here, and what is out of range is
+/// refused.
 #[repr(C)]
-#[derive(Clone, Copy)]
+#[derive(Clone, Copy, Default)]
 pub struct StationState {
     pub version: u32,
     pub station: u32,
@@ -94,6 +98,7 @@ pub struct StationState {
     pub last: u32,
 }
 
+/// The loader that C's fields stand for: any value of any field stands for something.
 pub fn loader_meant(state: LoaderState) -> Loader
     ensures { result ≡ loader_meant state }
 {
@@ -126,45 +131,32 @@ fn condition_meant(number: u8) -> Condition
     }
 }
 
+/// A loader's fields for C; a flag is 0 or 1.
 pub fn loader_shown(loader: Loader) -> LoaderState
     ensures { result ≡ loader_shown loader }
 {
-    let condition = loader.condition;
-    let sequence = loader.sequence;
-    let added = sequence.added;
-    let in_force = loader.protection;
     LoaderState {
-        groups: in_force.groups,
-        added: added.groups,
+        groups: loader.protection.groups,
+        added: loader.sequence.added.groups,
         key: loader.key,
-        condition: condition_shown(condition),
-        read: flag(in_force.read),
-        opened: flag(sequence.opened),
-        added_read: flag(added.read),
+        condition: loader.condition as u8,
+        read: u8::from(loader.protection.read),
+        opened: u8::from(loader.sequence.opened),
+        added_read: u8::from(loader.sequence.added.read),
     }
 }
 
-fn condition_shown(condition: Condition) -> u8
-    ensures { result ≡ condition_shown condition }
-{
-    match condition {
-        Condition::Waiting => 0,
-        Condition::Serving => 1,
-        Condition::Left => 2,
-    }
-}
-
+/// The port that C's fields stand for.
 pub fn port_meant(state: PortState) -> Port
     ensures { result ≡ port_meant state }
 {
-    let loader = state.loader;
-    let receiver = state.receiver;
     Port {
-        loader: loader_meant(loader),
-        receiver,
+        loader: loader_meant(state.loader),
+        receiver: state.receiver,
     }
 }
 
+/// The hex reader that C's fields stand for; its board stands beside it.
 pub fn hex_meant(state: HexState) -> Hex
     ensures { result ≡ hex_meant state }
 {
@@ -178,6 +170,7 @@ pub fn hex_meant(state: HexState) -> Hex
     }
 }
 
+/// A hex reader's fields for C, with the board that it reads for.
 pub fn hex_shown(board: u32, reader: Hex) -> HexState
     ensures { result ≡ hex_shown board reader }
 {
@@ -186,12 +179,13 @@ pub fn hex_shown(board: u32, reader: Hex) -> HexState
         rules: reader.rules,
         linear: reader.linear,
         segment: reader.segment,
-        segmented: flag(reader.segmented),
-        ended: flag(reader.ended),
-        taken: flag(reader.taken),
+        segmented: u8::from(reader.segmented),
+        ended: u8::from(reader.ended),
+        taken: u8::from(reader.taken),
     }
 }
 
+/// The session that C's fields stand for; where no start leads to such fields, one that fits no file.
 pub fn session_meant(state: SessionState) -> Session
     ensures { result ≡ session_meant state }
 {
@@ -205,49 +199,32 @@ pub fn session_meant(state: SessionState) -> Session
     }
 }
 
+// No start leads to a session with a value in a field that its phase does not use.
 fn phase_meant(state: SessionState) -> Phase
     ensures { result ≡ phase_meant state.phase state.page state.address state.outcome }
 {
-    let phase = state.phase;
-    let page = state.page;
-    let address = state.address;
-    let outcome = state.outcome;
-    let erase = Phase::Out(Step::Erase(Page(page)));
-    let write = Phase::Out(Step::Write(Address(address)));
-    let verify = Phase::Out(Step::Verify(Address(address)));
-    let run = Phase::Out(Step::Run);
-    match phase {
-        0 => without(page, without(address, without(outcome, Phase::Greeting))),
-        1 => without(address, without(outcome, erase)),
-        2 => without(page, without(outcome, write)),
-        3 => without(page, without(outcome, verify)),
-        4 => without(page, without(address, without(outcome, run))),
-        5 => without(page, without(address, end_meant(outcome))),
+    match (state.phase, state.page, state.address, state.outcome) {
+        (0, 0, 0, 0) => Phase::Greeting,
+        (1, page, 0, 0) => Phase::Out(Step::Erase(Page(page))),
+        (2, 0, address, 0) => Phase::Out(Step::Write(Address(address))),
+        (3, 0, address, 0) => Phase::Out(Step::Verify(Address(address))),
+        (4, 0, 0, 0) => Phase::Out(Step::Run),
+        (5, 0, 0, outcome) => end_meant(outcome),
         _ => nowhere(),
     }
-}
-
-// No start leads to a session with a value in a field that its phase does not use.
-fn without(field: u32, phase: Phase) -> Phase
-    ensures { result ≡ without field phase }
-{
-    if field != 0 {
-        return nowhere();
-    }
-    phase
 }
 
 fn end_meant(outcome: u32) -> Phase
     ensures { result ≡ end_meant outcome }
 {
     let meant = outcome_meant(outcome);
-    if meant.number() as u32 != outcome {
+    if u32::from(meant.number()) != outcome {
         return nowhere();
     }
     Phase::Ended(meant)
 }
 
-// One that is not listed is taken for `Other`, whose number is another.
+// One that is not listed is taken for `Other`, whose number is another, as the definition has it: so no `Option`.
 fn outcome_meant(number: u32) -> Outcome
     ensures { result ≡ outcome_meant number }
 {
@@ -262,86 +239,52 @@ fn outcome_meant(number: u32) -> Outcome
 }
 
 // A phase that no file has: its page lies past every board.
-// So a step and a mark are 46, and there is no outcome.
+// So a step and a mark are 46, and there is no outcome. No `Option`: `session_meant` is told a state of any fields.
 fn nowhere() -> Phase
     ensures { result ≡ nowhere }
 {
     Phase::Out(Step::Erase(Page(0xFFFF_FFFF)))
 }
 
+/// A session's fields for C.
 pub fn session_shown(session: Session) -> SessionState
     ensures { result ≡ session_shown session }
 {
-    let kind = session.kind;
-    let phase = session.phase;
-    SessionState {
+    let state = SessionState {
         board: session.board,
-        run: kind.number(),
-        phase: phase_shown(phase),
-        page: page_shown(phase),
-        address: address_shown(phase),
-        outcome: outcome_shown(phase),
+        run: u32::from(session.kind),
         acknowledged: session.acknowledged,
         total: session.total,
         named: session.named,
-    }
-}
-
-fn phase_shown(phase: Phase) -> u32
-    ensures { result ≡ phase_shown phase }
-{
-    match phase {
-        Phase::Greeting => 0,
-        Phase::Out(step) => match step {
-            Step::Erase(_) => 1,
-            Step::Write(_) => 2,
-            Step::Verify(_) => 3,
-            Step::Run => 4,
+        ..SessionState::default()
+    };
+    match session.phase {
+        Phase::Greeting => state,
+        Phase::Out(Step::Erase(page)) => SessionState {
+            phase: 1,
+            page: page.0,
+            ..state
         },
-        Phase::Ended(_) => 5,
-    }
-}
-
-fn page_shown(phase: Phase) -> u32
-    ensures { result ≡ page_shown phase }
-{
-    match phase {
-        Phase::Greeting => 0,
-        Phase::Out(step) => match step {
-            Step::Erase(page) => page.0,
-            Step::Write(_) => 0,
-            Step::Verify(_) => 0,
-            Step::Run => 0,
+        Phase::Out(Step::Write(address)) => SessionState {
+            phase: 2,
+            address: address.0,
+            ..state
         },
-        Phase::Ended(_) => 0,
-    }
-}
-
-fn address_shown(phase: Phase) -> u32
-    ensures { result ≡ address_shown phase }
-{
-    match phase {
-        Phase::Greeting => 0,
-        Phase::Out(step) => match step {
-            Step::Erase(_) => 0,
-            Step::Write(address) => address.0,
-            Step::Verify(address) => address.0,
-            Step::Run => 0,
+        Phase::Out(Step::Verify(address)) => SessionState {
+            phase: 3,
+            address: address.0,
+            ..state
         },
-        Phase::Ended(_) => 0,
+        Phase::Out(Step::Run) => SessionState { phase: 4, ..state },
+        Phase::Ended(outcome) => SessionState {
+            phase: 5,
+            outcome: u32::from(outcome.number()),
+            ..state
+        },
     }
 }
 
-fn outcome_shown(phase: Phase) -> u32
-    ensures { result ≡ outcome_shown phase }
-{
-    match phase {
-        Phase::Greeting => 0,
-        Phase::Out(_) => 0,
-        Phase::Ended(outcome) => outcome.number() as u32,
-    }
-}
-
+/// The plain session that C's fields stand for; where no start leads to such fields, one that fits no file.
 pub fn plain_meant(state: PlainState) -> Plain
     ensures { result ≡ plain_meant state }
 {
@@ -350,6 +293,7 @@ pub fn plain_meant(state: PlainState) -> Plain
         return plain_at(state, stage, state.acknowledged);
     }
     // The greeting acknowledges no packet, so this fits no file: a step and a mark are 46, and there is no outcome.
+    // No `Option`: `plain_meant` is told a state of any fields.
     plain_at(state, Stage::Waiting, 1)
 }
 
@@ -359,7 +303,7 @@ fn plain_at(state: PlainState, stage: Stage, acknowledged: u32) -> Plain
     Plain {
         board: state.board,
         kind: RunKind::of(state.run),
-        stage,
+        phase: stage,
         acknowledged,
         total: state.total,
         named: state.named,
@@ -387,16 +331,15 @@ fn stage_meant(number: u32, outcome: u32) -> Stage
     }
 }
 
+/// A plain session's fields for C.
 pub fn plain_shown(plain: Plain) -> PlainState
     ensures { result ≡ plain_shown plain }
 {
-    let kind = plain.kind;
-    let stage = plain.stage;
     PlainState {
         board: plain.board,
-        run: kind.number(),
-        stage: stage_shown(stage),
-        outcome: ending_shown(stage),
+        run: u32::from(plain.kind),
+        stage: stage_shown(plain.phase),
+        outcome: ending_shown(plain.phase),
         acknowledged: plain.acknowledged,
         total: plain.total,
         named: plain.named,
@@ -423,6 +366,7 @@ fn ending_shown(stage: Stage) -> u32
     }
 }
 
+/// The station's settings as they came, each a number.
 pub fn station_meant(state: StationState) -> Station
     ensures { result ≡ station_meant state }
 {
@@ -436,17 +380,16 @@ pub fn station_meant(state: StationState) -> Station
     }
 }
 
+/// A station's fields for C.
 pub fn station_shown(station: Station) -> StationState
     ensures { result ≡ station_shown station }
 {
-    let first = station.first;
-    let last = station.last;
     StationState {
         version: station.version,
         station: station.number,
         run: station.run,
         rules: station.rules,
-        first: first.0,
-        last: last.0,
+        first: station.first.0,
+        last: station.last.0,
     }
 }

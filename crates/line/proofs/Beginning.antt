@@ -1,18 +1,25 @@
 -- How a rehearsal begins: what the start gives is a moment that is begun.
+use Rattle.std.specs.Prelude.{Result, Ok, Err, IsErrAnd}
 use Rattle.std.proofs.Common.{ℕ, ◌+◌, List, [], ◌∷◌, ◌≡◌, sym, ap, ◌∙◌, take}
 use Rattle.basis.specs.Board.{opening_byte}
 use Rattle.basis.specs.Lists.{overlay}
 use Rattle.basis.specs.Refusals.{Answer}
 use Rattle.basis.specs.declared.kind.RunKind.{RunKind}
+use Rattle.events.specs.declared.refusal.Refusal.{Refusal}
 use Rattle.line.specs.Line.{Moment, begun, moment_at, load_at, moment_on}
 use Rattle.line.specs.declared.exchange.Link.{Link}
 use Rattle.line.specs.declared.exchange.Loss.{Loss}
+use Rattle.line.specs.declared.rehearse.Load.{Load}
 use Rattle.loader.specs.State.{reset_of}
 use Rattle.loader.specs.declared.state.Loader.{Loader}
 use Rattle.order.specs.Plan.{total}
 use Rattle.session.specs.Laws.Steps.{Starts}
-use Rattle.session.specs.Session.{Sent, sent_bytes, started}
-use Rattle.session.specs.declared.session.Next.{Next}
+use Rattle.session.specs.Session.{Next, Sent, sent_bytes, started}
+
+-- an error that `?` hands on is the one that was met
+pub handed : (r : Result Load Refusal) (x : Refusal) → IsErrAnd r (λ (y : Refusal). y ≡ x) → r ≡ Err x
+handed (Ok d) x k = absurd k
+handed (Err y) x k = ap Err k
 
 -- with the loader reset that is a moment just begun, also by its own kind and loader
 module _ {board : ℕ} {image m : List ℕ} {kind : RunKind} {room : ℕ} {y : Next}

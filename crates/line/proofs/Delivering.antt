@@ -1,49 +1,15 @@
 -- What the loader's part of an exchange shows, by what befalls it, and what the session's part makes of it.
-use Rattle.std.proofs.Common.{ℕ, ◌≤◌, List, ◌≡◌, refl, sym, ap, subst, ◌∙◌, arith, eqb, length, take, length-append}
-use lib.Seq.{take-append_seam}
-use Rattle.basis.specs.Board.{answer_most}
+use Rattle.std.proofs.Common.{ℕ, ◌≤◌, List, ◌≡◌, refl, sym, ap, ◌∙◌, arith, eqb, length, take, length-append}
+use Rattle.std.proofs.Math.Seq.{take-append_seam}
 use Rattle.basis.specs.Laws.Refusals.{apart, given-one}
 use Rattle.basis.specs.Lists.{overlay}
 use Rattle.basis.specs.Refusals.{Answer, refused, given}
 use Rattle.events.specs.Events.{classify_of}
-use Rattle.line.specs.Line.{Moment, loader_takes, sends, arrives, reply, stepped, between, steps_on, exchange_of, Delivers, Exchanges}
+use Rattle.line.specs.Line.{Moment, sends, arrives, reply, stepped, between, steps_on, exchange_of, Delivers, Exchanges}
 use Rattle.line.specs.declared.exchange.Loss.{Loss}
-use Rattle.loader.specs.Take.{take_of, Takes}
 use Rattle.loader.specs.declared.state.Loader.{Loader}
-use Rattle.session.specs.Session.{Sent, measured, sent_bytes, step_of}
-use Rattle.session.specs.declared.session.Next.{Next}
-use Rattle.session.specs.declared.session.Session.{Session}
+use Rattle.session.specs.Session.{Next, Session, Sent, measured, sent_bytes, step_of}
 use Rattle.packet.specs.Packet.{packet_most}
-
-pub lost : {board : ℕ} {o : Loss} {l : Loader} {s f old : List ℕ} → o ≡ Loss.Lost
-    → Delivers board o l s f old l 0 f old
-lost e = rw e (record { loader-is = refl; flash-is = refl; arrived-is = refl; answer-is = refl })
-
-module _ (board : ℕ) (o : Loss) (l : Loader) (s f old : List ℕ) (room : ℕ)
-    {v : Answer (Unit {0})} {next : Loader} {answered : ℕ} {flash answer : List ℕ} (full : room ≡ answer_most)
-    (t : Takes board (take_of board l s f room) l f old v next answered flash answer) where
-  at-full : Takes board (loader_takes board l s f) l f old v next answered flash answer
-  at-full = subst (λ (n : ℕ). Takes board (take_of board l s f n) l f old v next answered flash answer) full t
-
-  pub whole : o ≡ Loss.Whole → Delivers board o l s f old next answered flash answer
-  whole e =
-      rw e
-      (record {
-        loader-is = at-full.does-is.loader-is;
-        flash-is = at-full.does-is.flash-is;
-        arrived-is = at-full.answered-is;
-        answer-is = at-full.answer-is;
-      })
-
-  pub unanswered : o ≡ Loss.Unanswered → Delivers board o l s f old next 0 flash answer
-  unanswered e =
-      rw e
-      (record {
-        loader-is = at-full.does-is.loader-is;
-        flash-is = at-full.does-is.flash-is;
-        arrived-is = refl;
-        answer-is = at-full.answer-is;
-      })
 
 -- the bytes stand at the start of the buffer
 abbrev pub Begins : List ℕ → List ℕ → Type 0

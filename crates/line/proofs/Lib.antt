@@ -2,3 +2,4 @@
 pub mod Delivering
 pub mod Driving
 pub mod Beginning
+pub mod Heard

@@ -12,9 +12,8 @@ use Rattle.packet.specs.Packet.{command}
 use Rattle.packet.specs.Table.{run_byte}
 use Rattle.runs.specs.Map.{named}
 use Rattle.runs.specs.Pages.{touched}
-use Rattle.session.specs.Session.{proved_of}
+use Rattle.session.specs.Session.{Session, proved_of}
 use Rattle.session.specs.declared.phase.Phase.{Phase}
-use Rattle.session.specs.declared.session.Session.{Session}
 
 -- the byte is marked proved: the session's own `proved`, on its board, says so
 abbrev pub Proved : ℕ → List ℕ → Session → ℕ → Type 0

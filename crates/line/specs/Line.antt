@@ -4,7 +4,7 @@ use Rattle.basis.specs.Board.{answer_most, opening_byte}
 use Rattle.basis.specs.Choice.{pick, both}
 use Rattle.basis.specs.Lists.{overlay}
 use Rattle.basis.specs.Refusals.{Answer, refused, given, ◌when◌, first}
-use Rattle.basis.specs.Units.{start_of, map_bytes}
+use Rattle.basis.specs.Units.{start_of}
 use Rattle.basis.specs.declared.kind.RunKind.{RunKind}
 use Rattle.events.specs.Events.{classify_of}
 use Rattle.events.specs.declared.event.Event.{Event}
@@ -19,8 +19,7 @@ use Rattle.order.specs.Plan.{total}
 use Rattle.order.specs.Sizes.{right_sizes}
 use Rattle.runs.specs.Pieces.{named_count}
 use Rattle.session.specs.Phases.{ended}
-use Rattle.session.specs.Session.{Sent, sent_bytes, at_greeting, step_of}
-use Rattle.session.specs.declared.session.Session.{Session}
+use Rattle.session.specs.Session.{Session, Sent, sent_bytes, at_greeting, step_of}
 use Rattle.packet.specs.Packet.{packet_most}
 
 -- what stands at a moment: the loader and its flash, the session, and what it has sent last
@@ -116,14 +115,6 @@ rehearse_of board image m kind l losses f =
     rehearsing board image m f (load_at board image m kind l losses f (total board m kind + 1))
 
 -- ---- what the functions are lent, and what they show
-
--- file, flash and both buffers have their sizes
-pub record Lent (board : ℕ) (image m flash packet answer : List ℕ) : Type 0 where
-  pub image-size : length image ≡ start_of board
-  pub map-size : length m ≡ map_bytes board
-  pub flash-size : length flash ≡ start_of board
-  pub packet-size : length packet ≡ packet_most
-  pub answer-size : length answer ≡ answer_most
 
 -- loader, session and packet buffer as a moment
 abbrev pub moment_on : Link → List ℕ → List ℕ → Moment

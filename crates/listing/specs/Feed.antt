@@ -1,5 +1,5 @@
 -- A text as it comes, byte by byte, with what is lent: the line buffer, image and map.
-use Rattle.std.specs.Prelude.{◌≡◌, ℕ, ◌+◌, ◌-◌, ◌%◌, ◌^◌, ◌≤◌, List, [], ◌∷◌, length, take, ◌==◌, nat_lt, slice_set}
+use Rattle.std.specs.Prelude.{◌≡◌, ℕ, ◌+◌, ◌-◌, ◌%◌, ◌^◌, List, [], ◌∷◌, length, take, ◌==◌, nat_lt, slice_set}
 use Rattle.basis.specs.Choice.{pick}
 use Rattle.image.specs.Hex.{Settled, settled_as, settled, record_in, close_of}
 use Rattle.image.specs.Record.{Pointed, wrong, right, pointed, no_line}
@@ -86,12 +86,11 @@ unfoldable pub feed_in : ℕ → Fed → List ℕ → Fed
 feed_in size s [] = s
 feed_in size s (b ∷ t) = feed_in size (byte_in size s b) t
 
--- a stretch of the open line, never the last byte that came: as its bytes one by one, whatever the board
-abbrev pub Keeps : Progress → List ℕ → List ℕ → Progress → List ℕ → ℕ → Type 0
-Keeps p line bytes q kept n =
-    (n ≤ length bytes - 1)
-    × ((size : ℕ) (image map : List ℕ) → state q kept image map
-    ≡ feed_in size (state p line image map) (take n bytes))
+-- bytes of the open line at once: as its bytes one by one, whatever the board
+abbrev pub KeepsAll : Text → List ℕ → List ℕ → Text → List ℕ → Type 0
+KeepsAll t line bytes u kept =
+    (size : ℕ) (image map : List ℕ) → state (going u) kept image map
+    ≡ feed_in size (state (going t) line image map) bytes
 
 -- the line after the last 0A, as it stands
 unfoldable pub last_in : ℕ → Text → List ℕ → List ℕ → List ℕ → Fed

@@ -1,35 +1,58 @@
 // A log record as its line.
-ghost use Rattle.std.specs.Prelude.{◌≡◌, ◌≤◌, length};
-ghost use Rattle.basis.specs.Lists.{overlay};
-ghost use Rattle.listing.specs.Lines.{record_line, log_room, log_line};
+ghost use Rattle.std.specs.Prelude.{◌≡◌, ◌++◌, Some};
+ghost use Rattle.listing.specs.Lines.{line_end, record_text, log_text, log_line};
 ghost use Rattle.service_log.specs.Log.{read_of};
+ghost use Rattle.service_log.specs.Paper.{paper_reading};
 
-use crate::numbers::{field, last_field};
 use crate::refusals::refusal_line;
-use service_log::read::{Reading, Record, read};
+use basis::numbered::Numbered;
+use service_log::read::{Record, Unread, read};
+use std::fmt;
 
-// No line of a record is longer: 38 characters of words, five numbers of 20 digits and 0A.
-pub const ROOM: usize = 139;
+/// What a record says.
+#[derive(Clone, Copy, Debug, PartialEq, Eq)]
+pub struct Said(pub Record);
 
-// What the input says, or why it says nothing.
-pub fn log_line(input: &[u8], buffer: &mut [u8]) -> usize
-    requires { log_room ≤ length buffer.old }
-    ensures { let s = log_line (read_of input.now) in
-        (result ≡ length s) × (buffer.new ≡ overlay s buffer.old) }
-{
-    match read(input) {
-        Reading::Record(x) => record_line(x, buffer),
-        Reading::Refused(why) => refusal_line(buffer, why.number() as u64),
+impl fmt::Display for Said {
+    ghost output = { λ x. Some (record_text x.0) };
+
+    #[tactic(auto, using(crate::proofs::Digits::decimals))]
+    fn fmt<W: fmt::Write>(&self, f: &mut fmt::Formatter<W>) -> fmt::Result {
+        let Record {
+            version,
+            outcome,
+            acknowledged,
+            total,
+            bytes,
+        } = self.0;
+        write!(
+            f,
+            "VERSION {version} OUTCOME {outcome} ACKED {acknowledged} TOTAL {total} BYTES {bytes}"
+        )
     }
 }
 
-fn record_line(x: Record, buffer: &mut [u8]) -> usize
-    requires { log_room ≤ length buffer.old }
-    ensures { (result ≡ length (record_line x)) × (buffer.new ≡ overlay (record_line x) buffer.old) }
+/// What an input says as a record, or REFUSED and why it is none: 50 to 53.
+#[derive(Clone, Copy, Debug, PartialEq, Eq)]
+pub struct LogLine(pub Result<Record, Unread>);
+
+impl fmt::Display for LogLine {
+    ghost output = { λ x. Some (log_text (paper_reading x.0)) };
+
+    #[tactic(auto, using(crate::proofs::Digits::decimals))]
+    fn fmt<W: fmt::Write>(&self, f: &mut fmt::Formatter<W>) -> fmt::Result {
+        match self.0 {
+            Ok(record) => write!(f, "{}", Said(record)),
+            Err(why) => write!(f, "{}", refusal_line(u64::from(why.number()))),
+        }
+    }
+}
+
+/// The line of an input; its 0A comes with `println`.
+#[tactic(auto, using(crate::proofs::Digits::logged))]
+pub fn log_line(input: &[u8]) -> LogLine
+    ensures said { paper_reading result.0 ≡ read_of input.now }
+    ensures line { log_text (paper_reading result.0) ++ line_end ≡ log_line (read_of input.now) }
 {
-    let version = field(buffer, 0, b"VERSION ", x.version as u64);
-    let outcome = field(buffer, version, b" OUTCOME ", x.outcome as u64);
-    let acknowledged = field(buffer, outcome, b" ACKED ", x.acknowledged as u64);
-    let total = field(buffer, acknowledged, b" TOTAL ", x.total as u64);
-    last_field(buffer, total, b" BYTES ", x.bytes as u64)
+    LogLine(read(input))
 }

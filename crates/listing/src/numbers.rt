@@ -1,4 +1,6 @@
 // Numbers and words, one behind the other in a lent buffer.
+// Beside std's printing since they cannot fail, and ask for no writer; at a place, as `copy_of` tells of the whole
+// buffer.
 ghost use Rattle.std.specs.Prelude.{◌≡◌, ◌+◌, ◌≤◌, ◌++◌, length};
 ghost use Rattle.basis.specs.Lists.{copy_of};
 ghost use Rattle.listing.specs.Lines.{line_end};
@@ -6,7 +8,7 @@ ghost use Rattle.listing.specs.Numbers.{decimal_of};
 
 use basis::buffers::copy;
 
-// The number in decimal, from `at` on; gives the place behind it.
+/// The number in decimal, from place `at` on; gives the place behind it.
 pub fn decimal(buffer: &mut [u8], at: usize, n: u64) -> usize
     requires { at + length (decimal_of n) ≤ length buffer.old }
     ensures end { result ≡ at + length (decimal_of n) }
@@ -22,7 +24,7 @@ pub fn decimal(buffer: &mut [u8], at: usize, n: u64) -> usize
     end + 1
 }
 
-// A word and the number behind it.
+/// A word and the number behind it, from place `at` on; gives the place behind them.
 pub fn field(buffer: &mut [u8], at: usize, word: &[u8], n: u64) -> usize
     requires { at + length word.now + 20 ≤ length buffer.old }
     ensures end { result ≡ at + length (word.now ++ decimal_of n) }
@@ -33,7 +35,7 @@ pub fn field(buffer: &mut [u8], at: usize, word: &[u8], n: u64) -> usize
     decimal(buffer, at + word.len(), n)
 }
 
-// The same, closed by 0A.
+/// The same, closed by 0A.
 pub fn last_field(buffer: &mut [u8], at: usize, word: &[u8], n: u64) -> usize
     requires { at + length word.now + 21 ≤ length buffer.old }
     ensures end { result ≡ at + length ((word.now ++ decimal_of n) ++ line_end) }

@@ -1,211 +1,149 @@
 // A plan's lines: what a load that ends with a reset sends, packet by packet.
-ghost use Rattle.std.specs.Prelude.{◌≡◌, ◌+◌, ◌*◌, ◌<◌, ◌≤◌, length, drop};
+ghost use Rattle.std.specs.Prelude.{◌≡◌, ◌++◌, ◌*◌, ◌<◌, ◌≤◌, length, OnOk, IfOk};
+ghost use Rattle.std.specs.Io.KnownBytes.{Appends};
 ghost use Rattle.basis.specs.Board.{pages_of};
-ghost use Rattle.basis.specs.Lists.{overlay, copy_of};
-ghost use Rattle.basis.specs.Units.{map_bytes};
+ghost use Rattle.basis.specs.Refusals.{answer_of};
 ghost use Rattle.basis.specs.declared.kind.RunKind.{RunKind};
-ghost use Rattle.order.specs.Plan.{plan, total};
+ghost use Rattle.events.specs.Paper.{paper_refusal};
+ghost use Rattle.order.specs.Plan.{plan, total as packets};
 ghost use Rattle.packet.specs.Packet.{packet_most, command};
 ghost use Rattle.runs.specs.Pieces.{named_count};
 ghost use Rattle.session.specs.Session.{started};
-ghost use Rattle.order.specs.declared.cursor.Following.{Following};
-ghost use Rattle.listing.specs.Lines.{head_line, step_line, total_room, total_line};
-ghost use Rattle.listing.specs.Paper.{paper_begun};
-ghost use Rattle.listing.specs.Plan.{Listed, listing_at, listing_by, reset_packet_at, longest_line, sheet_of};
+ghost use Rattle.listing.specs.Lines.{line_end, line_text, head_line, step_line, total_line};
+ghost use Rattle.listing.specs.Plan.{step_lines, plan_text, listing_by};
+ghost use Rattle.listing.specs.declared.lines.Line.{Line};
 
-use crate::numbers::{decimal, last_field};
+use crate::lines::Line;
 use basis::board::Board;
-use basis::buffers::write;
 use basis::kind::RunKind;
 use events::refusal::Refusal;
 use image::writer::spell;
-use order::cursor::{Following, first, follow};
 use order::sending::send;
-use order::step::Step;
+use order::steps::Steps;
 use packet::build::PACKET;
-use session::session::{Session, Stepped};
+use runs::file::File;
+use runs::map::Map;
+use session::session::Session;
+use std::io;
 
-// No step's line is longer: 20 digits, a letter, 259 bytes, two spaces and 0A.
-pub const LONGEST: usize = 542;
-
-// So many of the packets are listed; `next` is what is left then.
+/// A file that a load with a reset can take, and how many packets the load has.
 #[derive(Clone, Copy)]
-pub struct Listing {
-    pub next: Following,
-    pub listed: u32,
+pub struct Listing<'a> {
+    pub file: File<'a>,
     pub total: u32,
+    pub ghost some: { 0 < named_count (pages_of file.map.board) file.map.bits.now },
+    pub ghost whole: { total ≡ packets (pages_of file.map.board) file.map.bits.now RunKind.Reset },
 }
 
-#[derive(Clone, Copy)]
-pub enum Begun {
-    Listing(Listing),
-    Refused(Refusal),
-}
-
-// The listing after what was written, and the place behind that.
-#[derive(Clone, Copy)]
-pub struct Sheet {
-    pub listing: Listing,
-    pub end: usize,
-}
-
-impl Listing {
-    // Refused as the session's start is.
-    pub fn start(board: Board, image: &[u8], map: &[u8]) -> Begun
-        ensures { paper_begun result
+impl<'a> Listing<'a> {
+    /// Refused as a session's start is: 20 for other sizes than the board's, 32 for a file that names no byte.
+    // The clauses are `paper_begun` and `Lists`, which name this struct, so that this file cannot import them.
+    pub fn start(board: Board, image: &'a [u8], map: &'a [u8]) -> Result<Listing<'a>, Refusal>
+        ensures begun { answer_of paper_refusal (λ l. l.total) result
             ≡ listing_by (pages_of board) map.now
             (started (pages_of board) image.now map.now packet_most RunKind.Reset) }
+        ensures file { IfOk result (λ l. (l.file.map.board ≡ board) × (l.file.image.now ≡ image.now)
+            × (l.file.map.bits.now ≡ map.now)) }
     {
         let mut packet = [0u8; PACKET];
         Listing::start_with(board, image, map, &mut packet)
     }
 
     // The packet's buffer is lent from another function: its 259 bytes would stand in every fact of this one.
-    fn start_with(board: Board, image: &[u8], map: &[u8], packet: &mut [u8]) -> Begun
-        ensures { paper_begun result
-            ≡ listing_by (pages_of board) map.now
-            (started (pages_of board) image.now map.now
-            (length packet.old) RunKind.Reset) }
-    {
-        match Session::start(board, RunKind::Reset, image, map, packet) {
-            Stepped::Next(next) => Begun::Listing(Listing::opening(board, map, next.session)),
-            Stepped::Refused(x) => Begun::Refused(x),
-        }
-    }
-
-    // Nothing is listed yet.
-    fn opening(board: Board, map: &[u8], session: Session) -> Listing
-        requires { (length map.now ≡ map_bytes (pages_of board)) × (0 < named_count (pages_of board) map.now)
-            × (session.total ≡ total (pages_of board) map.now RunKind.Reset) }
-        ensures { result ≡ listing_at (pages_of board) map.now 0 }
-    {
-        Listing {
-            next: Following::Step(first(board, map)),
-            listed: 0,
-            total: session.total,
-        }
-    }
-
-    // Whole lines of the packets that are left, as long as the longest one has room.
-    pub fn sheet(self, board: Board, image: &[u8], map: &[u8], buffer: &mut [u8]) -> Sheet
-        requires { Listed (pages_of board) image.now map.now self }
-        ensures { let g = sheet_of (length buffer.old) self.listed
-            (drop self.listed
-            (plan (pages_of board) image.now map.now RunKind.Reset)) in
-            (result.listing ≡ listing_at (pages_of board) map.now g.listed)
-            × (result.end ≡ length g.text)
-            × (buffer.new ≡ overlay g.text buffer.old) }
-    {
-        let mut listing = self;
-        let mut at = 0;
-        loop {
-            let next = listing.next;
-            let Following::Step(step) = next else {
-                return Sheet { listing, end: at };
-            };
-            if buffer.len() - at < LONGEST {
-                return Sheet { listing, end: at };
-            }
-            let line = listing.line(board, step, image, map, buffer, at);
-            listing = line.listing;
-            at = line.end;
-        }
-    }
-
-    // The next packet's line, from `at` on.
-    fn line(
-        self,
+    #[tactic(auto, using(crate::proofs::Starts::begun))]
+    fn start_with(
         board: Board,
-        step: Step,
-        image: &[u8],
-        map: &[u8],
-        buffer: &mut [u8],
-        at: usize,
-    ) -> Sheet
-        requires { Listed (pages_of board) image.now map.now self × (self.next ≡ Following.Step step)
-            × (at + longest_line ≤ length buffer.old) }
-        ensures { let s = step_line (self.listed + 1)
-            (reset_packet_at (pages_of board) image.now map.now self.listed) in
-            (result.listing ≡ listing_at (pages_of board) map.now (self.listed + 1))
-            × (result.end ≡ at + length s)
-            × (buffer.new ≡ copy_of buffer.old at s) × (length s ≤ longest_line) }
-    {
-        let mut packet = [0u8; PACKET];
-        self.line_with(board, step, image, map, &mut packet, buffer, at)
-    }
-
-    // As `start_with`: the packet's buffer is lent.
-    fn line_with(
-        self,
-        board: Board,
-        step: Step,
-        image: &[u8],
-        map: &[u8],
+        image: &'a [u8],
+        map: &'a [u8],
         packet: &mut [u8],
-        buffer: &mut [u8],
-        at: usize,
-    ) -> Sheet
-        requires { Listed (pages_of board) image.now map.now self × (self.next ≡ Following.Step step)
-            × (length packet.old ≡ packet_most) × (at + longest_line ≤ length buffer.old) }
-        ensures { let s = step_line (self.listed + 1)
-            (reset_packet_at (pages_of board) image.now map.now self.listed) in
-            (result.listing ≡ listing_at (pages_of board) map.now (self.listed + 1))
-            × (result.end ≡ at + length s)
-            × (buffer.new ≡ copy_of buffer.old at s) × (length s ≤ longest_line) }
+    ) -> Result<Listing<'a>, Refusal>
+        ensures begun { answer_of paper_refusal (λ l. l.total) result
+            ≡ listing_by (pages_of board) map.now
+            (started (pages_of board) image.now map.now (length packet.old) RunKind.Reset) }
+        ensures file { IfOk result (λ l. (l.file.map.board ≡ board) × (l.file.image.now ≡ image.now)
+            × (l.file.map.bits.now ≡ map.now)) }
     {
-        let listed = self.listed + 1;
-        let n = send(board, image, map, RunKind::Reset, step, packet);
-        let end = step_line(buffer, at, listed as u64, &packet[..n]);
-        let listing = Listing {
-            next: follow(board, map, RunKind::Reset, step),
-            listed,
-            total: self.total,
-        };
-        Sheet { listing, end }
+        let next = Session::start(board, RunKind::Reset, image, map, packet)?;
+        let map = Map { board, bits: map };
+        Ok(Listing {
+            file: File { map, image },
+            total: next.session.total,
+        })
+    }
+
+    /// Prints the head line, a line for each packet, and their number.
+    pub fn print<W: io::Write>(self, out: &mut W) -> io::Result<()>
+        ensures { OnOk result (Appends (W.contents out.old) (W.contents out.new)
+            (plan_text (pages_of self.entry.file.map.board) self.entry.file.image.now
+            self.entry.file.map.bits.now)) }
+    {
+        writeln!(out, "{}", head_line())?;
+        let mut packet = [0u8; PACKET];
+        let mut hex = [0u8; 2 * PACKET];
+        print_steps(out, self.file, &mut packet, &mut hex)?;
+        writeln!(out, "{}", total_line(self.total))
     }
 }
 
-// The line above the steps.
-pub fn head_line(buffer: &mut [u8]) -> usize
-    requires { total_room ≤ length buffer.old }
-    ensures { (result ≡ length head_line) × (buffer.new ≡ overlay head_line buffer.old) }
+/// The line above the steps; its 0A comes with `writeln`.
+pub fn head_line() -> Line
+    ensures line { result ≡ Line.Head }
+    ensures text { line_text result ++ line_end ≡ head_line }
 {
-    write(buffer, b"STEP KIND PACKET\n");
-    17
+    Line::Head
 }
 
-// The line below them.
-pub fn total_line(buffer: &mut [u8], total: u32) -> usize
-    requires { total_room ≤ length buffer.old }
-    ensures { (result ≡ length (total_line total))
-        × (buffer.new ≡ overlay (total_line total) buffer.old) }
+/// TOTAL and the number of packets; its 0A comes with `writeln`.
+#[tactic(auto, unfolding(crate::specs::Lines::total_line))]
+pub fn total_line(total: u32) -> Line
+    ensures line { result ≡ Line.Total total }
+    ensures text { line_text result ++ line_end ≡ total_line total }
 {
-    last_field(buffer, 0, b"TOTAL ", total as u64)
+    Line::Total(total)
 }
 
-// Step number, command letter and whole packet, from `at` on; gives the place behind them.
-fn step_line(buffer: &mut [u8], at: usize, step: u64, packet: &[u8]) -> usize
-    requires { at + 2 * length packet.now + 24 ≤ length buffer.old }
-    ensures { let s = step_line step packet.now in
-        (result ≡ at + length s) × (buffer.new ≡ copy_of buffer.old at s)
-        × (length s ≤ 2 * length packet.now + 24) }
+// A line for each packet; the packet's buffer is lent, as that of `start_with`.
+fn print_steps<W: io::Write>(
+    out: &mut W,
+    file: File<'_>,
+    packet: &mut [u8],
+    hex: &mut [u8],
+) -> io::Result<()>
+    requires some { 0 < named_count (pages_of file.map.board) file.map.bits.now }
+    requires packet { length packet.old ≡ packet_most }
+    requires hex { 2 * packet_most ≤ length hex.old }
+    ensures { OnOk result (Appends (W.contents out.old) (W.contents out.new)
+        (step_lines 0 (plan (pages_of file.entry.map.board) file.entry.image.now
+        file.entry.map.bits.now RunKind.Reset))) }
 {
-    let end = decimal(buffer, at, step);
-    buffer[end] = b' ';
-    buffer[end + 1] = command_letter(packet);
-    buffer[end + 2] = b' ';
-    spell(buffer, end + 3, packet);
-    let last = end + 3 + 2 * packet.len();
-    buffer[last] = b'\n';
-    last + 1
+    for (i, step) in Steps::new(file.map, RunKind::Reset).enumerate() {
+        let n = send(file, RunKind::Reset, step, packet);
+        print_step(out, i + 1, &packet[..n], hex)?;
+    }
+    Ok(())
+}
+
+// Step number, command letter and whole packet. By `Display` the packet's hex would take 40 times as long as
+// spelled into a buffer, and miss the bar of speed of ./bench that this meets.
+fn print_step<W: io::Write>(
+    out: &mut W,
+    step: usize,
+    packet: &[u8],
+    hex: &mut [u8],
+) -> io::Result<()>
+    requires { 2 * length packet.now ≤ length hex.old }
+    ensures { OnOk result (Appends (W.contents out.old) (W.contents out.new) (step_line step packet.now)) }
+{
+    spell(hex, 0, packet);
+    write!(out, "{step}")?;
+    out.write_all(&[b' ', command_letter(packet), b' '])?;
+    out.write_all(&hex[..2 * packet.len()])?;
+    out.write_all(b"\n")
 }
 
 // The command is the packet's fourth byte.
-fn command_letter(packet: &[u8]) -> u8
+pub(crate) fn command_letter(packet: &[u8]) -> u8
     ensures { result ≡ command packet.now }
 {
-    if packet.len() <= 3 {
-        return 0;
-    }
-    packet[3]
+    packet.get(3).copied().unwrap_or(0)
 }

@@ -1,29 +1,43 @@
-// The line of a refusal.
-ghost use Rattle.std.specs.Prelude.{◌≡◌, ◌≤◌, length};
-ghost use Rattle.basis.specs.Lists.{overlay};
+// The lines of refusals.
+ghost use Rattle.std.specs.Prelude.{◌≡◌, ◌++◌, Some, OnOk};
+ghost use Rattle.std.specs.Io.KnownBytes.{Appends};
 ghost use Rattle.listing.specs.Paper.{paper_blame};
-ghost use Rattle.listing.specs.Lines.{refusal_room, refusal_at, refusal_line};
+ghost use Rattle.listing.specs.Lines.{line_end, line_text, refusal_text, refusal_at, refusal_line};
+ghost use Rattle.listing.specs.declared.lines.Line.{Line};
 
-use crate::numbers::{field, last_field};
+use crate::lines::Line;
 use crate::text::Blame;
+use basis::numbered::Numbered;
+use std::{fmt, io};
 
-// REFUSED, the line, the number and the column.
-pub fn refusal_at(buffer: &mut [u8], blame: Blame) -> usize
-    requires { refusal_room ≤ length buffer.old }
-    ensures { let s = refusal_at (paper_blame blame) in
-        (result ≡ length s) × (buffer.new ≡ overlay s buffer.old) }
-{
-    let first = field(buffer, 0, b"REFUSED ", blame.line);
-    let refusal = blame.refusal;
-    let second = field(buffer, first, b" ", refusal.number() as u64);
-    last_field(buffer, second, b" ", blame.column as u64)
+impl fmt::Display for Blame {
+    ghost output = { λ b. Some (refusal_text (paper_blame b)) };
+
+    #[tactic(auto, using(crate::proofs::Digits::decimals))]
+    fn fmt<W: fmt::Write>(&self, f: &mut fmt::Formatter<W>) -> fmt::Result {
+        let Blame {
+            line,
+            refusal,
+            column,
+        } = *self;
+        write!(f, "REFUSED {line} {} {column}", refusal.number())
+    }
 }
 
-// REFUSED and the number.
-pub fn refusal_line(buffer: &mut [u8], number: u64) -> usize
-    requires { refusal_room ≤ length buffer.old }
-    ensures { let s = refusal_line number in
-        (result ≡ length s) × (buffer.new ≡ overlay s buffer.old) }
+/// Prints REFUSED, the line, the number and the column.
+#[tactic(auto, unfolding(crate::specs::Lines::refusal_at))]
+pub fn print<W: io::Write>(out: &mut W, blame: Blame) -> io::Result<()>
+    ensures { OnOk result (Appends (W.contents out.old) (W.contents out.new)
+        (refusal_at (paper_blame blame))) }
 {
-    last_field(buffer, 0, b"REFUSED ", number)
+    writeln!(out, "{blame}")
+}
+
+/// REFUSED and the number; its 0A comes with `writeln`.
+#[tactic(auto, unfolding(crate::specs::Lines::refusal_line))]
+pub fn refusal_line(number: u64) -> Line
+    ensures line { result ≡ Line.Refused number }
+    ensures text { line_text result ++ line_end ≡ refusal_line number }
+{
+    Line::Refused(number)
 }

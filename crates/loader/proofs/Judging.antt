@@ -1,22 +1,17 @@
--- How a judgement is shown, by its two ways out, and what it then does.
+-- How a refusal is shown to be judged, and which bytes of an input a packet names.
+use Rattle.std.specs.Prelude.{Err}
 use Rattle.std.proofs.Common.{ℕ, ◌+◌, ◌-◌, ◌≤◌, List, ◌≡◌, sym, ap, arith, length, take, drop, length-take, length-drop}
-use Rattle.basis.specs.Refusals.{Answer, refused, given}
+use Rattle.basis.specs.Refusals.{Answer, refused}
 use Rattle.loader.specs.Commands.{Effect}
-use Rattle.loader.specs.Deeds.{data_in, deed_of, Fits, Judges}
+use Rattle.loader.specs.Deeds.{data_in, Judges}
 use Rattle.loader.specs.Paper.{paper_refusal}
-use Rattle.loader.specs.declared.deed.Deed.{Deed}
-use Rattle.loader.specs.declared.deed.Judged.TheVariants.{Accepted, Refused}
 use Rattle.loader.specs.declared.state.Loader.{Loader}
 use Rattle.loader.specs.declared.verdict.Refusal.{Refusal}
 use Rattle.packet.specs.declared.read.Packet.{Packet}
 
-module _ {board : ℕ} {l : Loader} {s f : List ℕ} {x : Answer Effect} where
-  pub refuses : {why : Refusal} → x ≡ refused (paper_refusal why) → Judges board (Refused why) l s f x
-  refuses e = record { comes-to = sym e; can-apply = tt }
-
-  pub accepts : {d : Deed} → x ≡ given (deed_of board d l s f) → Fits board d s
-      → Judges board (Accepted d) l s f x
-  accepts e h = record { comes-to = sym e; can-apply = h }
+pub refuses : {board : ℕ} {l : Loader} {s f : List ℕ} {x : Answer Effect} {why : Refusal}
+    → x ≡ refused (paper_refusal why) → Judges board (Err why) l s f x
+refuses e = record { comes-to = sym e; can-apply = tt }
 
 -- a packet has as many bytes as it says
 pub data-length : (s : List ℕ) (p : Packet) → p.at + p.len ≤ length s → length (data_in s p) ≡ p.len
@@ -27,3 +22,5 @@ pub part-data : (s : List ℕ) (p : Packet) → take (p.at + p.len - p.at) (drop
 part-data s p =
     let e : p.at + p.len - p.at ≡ p.len = omega arith in
     ap (λ (n : ℕ). take n (drop p.at s)) e
+
+pub ruleset lengths = (data-length)

@@ -1,5 +1,6 @@
 -- One turn of each loop, and its end, in the loop's own terms.
 use Rattle.std.proofs.Common.{ℕ, ◌+◌, ◌≤◌, ◌<◌, true, false, List, ◌≡◌, add_assoc, add-one, eq-eqb, ne_eqb, length, get_or, drop, drop_of_length-le, drop-cons}
+use Rattle.basis.specs.Laws.Choice.{any_here, any-end}
 use Rattle.loader.specs.Verify.{equals_of}
 use Rattle.packet.specs.Turn.{restored_of}
 
@@ -17,3 +18,8 @@ module _ (flash : List ℕ) (at i : ℕ) (s : List ℕ) where
   pub equals-end : length s ≤ i → equals_of flash (at + i) (drop i s) ≡ true
   unfolding equals_of
   equals-end h = rw (drop_of_length-le s h)
+
+-- a comparison goes on, differs and ends; a group is protected, or none is
+pub ruleset turns = (equals-on, equals-differs, equals-end)
+
+pub ruleset groups = (any_here, any-end)

@@ -1,6 +1,6 @@
 -- What an input that was judged comes to: a refusal with its number, or a deed with what it does.
-use Rattle.std.specs.Prelude.{ℕ, ◌+◌, ◌≤◌, List, ◌≡◌, length, take, drop}
-use Rattle.basis.specs.Refusals.{Answer, refused, given}
+use Rattle.std.specs.Prelude.{ℕ, ◌+◌, ◌≤◌, List, ◌≡◌, length, take, drop, Result, Ok, Err}
+use Rattle.basis.specs.Refusals.{Answer, answer_of}
 use Rattle.basis.specs.Units.{start_of}
 use Rattle.image.specs.Flash.{erase_of, store_of}
 use Rattle.loader.specs.Commands.{Effect, added_of}
@@ -9,10 +9,9 @@ use Rattle.loader.specs.Protection.{none}
 use Rattle.loader.specs.State.{with_condition, with_added, joined_of, cleared_of}
 use Rattle.loader.specs.declared.deed.Deed.{Deed}
 use Rattle.loader.specs.declared.deed.Deed.TheVariants as deed
-use Rattle.loader.specs.declared.deed.Judged.{Judged}
-use Rattle.loader.specs.declared.deed.Judged.TheVariants.{Accepted, Refused}
 use Rattle.loader.specs.declared.state.Condition.TheVariants.{Serving, Left}
 use Rattle.loader.specs.declared.state.Loader.{Loader}
+use Rattle.loader.specs.declared.verdict.Refusal.{Refusal}
 use Rattle.packet.specs.declared.read.Packet.{Packet}
 
 -- the bytes after a packet's address, as they stand in the input
@@ -32,9 +31,9 @@ deed_of board (deed.Add a) l s f =
 deed_of board (deed.Close key) l s f = record { loader = joined_of l key; flash = f }
 deed_of board deed.Leave l s f = record { loader = with_condition l Left; flash = f }
 
-abbrev pub judged_of : ℕ → Judged → Loader → List ℕ → List ℕ → Answer Effect
-judged_of board (Accepted d) l s f = given (deed_of board d l s f)
-judged_of board (Refused x) l s f = refused (paper_refusal x)
+-- how an input is judged: accepted with what it then does, or refused and why
+abbrev pub judged_of : ℕ → Result Deed Refusal → Loader → List ℕ → List ℕ → Answer Effect
+judged_of board j l s f = answer_of paper_refusal (λ (d : Deed). deed_of board d l s f) j
 
 -- a deed's bytes lie in flash, and those it stores in the input
 abbrev pub Fits : ℕ → Deed → List ℕ → Type 0
@@ -48,15 +47,16 @@ Fits board (deed.Add a) s = Unit {0}
 Fits board (deed.Close key) s = Unit {0}
 Fits board deed.Leave s = Unit {0}
 
-abbrev pub Applicable : ℕ → Judged → List ℕ → Type 0
-Applicable board (Accepted d) s = Fits board d s
-Applicable board (Refused x) s = Unit {0}
+abbrev pub Applicable : ℕ → Result Deed Refusal → List ℕ → Type 0
+Applicable board (Ok d) s = Fits board d s
+Applicable board (Err x) s = Unit {0}
 
 -- what a function that judges shows: it comes to x, and its deed can be done
-pub record Judges (board : ℕ) (j : Judged) (l : Loader) (s f : List ℕ) (x : Answer Effect) : Type 0 where
+pub record Judges (board : ℕ) (j : Result Deed Refusal) (l : Loader) (s f : List ℕ) (x : Answer Effect)
+    : Type 0 where
   pub comes-to : judged_of board j l s f ≡ x
   pub can-apply : Applicable board j s
 
 -- it judges so whatever the input and the flash
-abbrev pub JudgesAny : ℕ → Judged → Loader → (List ℕ → Answer Effect) → Type 0
+abbrev pub JudgesAny : ℕ → Result Deed Refusal → Loader → (List ℕ → Answer Effect) → Type 0
 JudgesAny board j l x = (s f : List ℕ) → Judges board j l s f (x f)

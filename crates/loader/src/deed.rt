@@ -7,40 +7,39 @@ ghost use Rattle.loader.specs.Deeds.{Fits, deed_of};
 
 use crate::protection::Protection;
 use crate::state::{Condition, Loader};
-use crate::verdict::Refusal;
 use basis::board::Board;
-use basis::units::Address;
+use basis::units::{Address, Group};
 use packet::read::Packet;
 
-#[derive(Clone, Copy)]
+/// What an accepted input does.
+#[derive(Clone, Copy, Debug, PartialEq, Eq)]
 pub enum Deed {
-    // The board is opened.
+    /// The board is opened.
     Serve,
-    // So many bytes from a page's start.
+    /// So many bytes from a page's start become 0xFF.
     Erase(Address, usize),
+    /// All of flash does, and nothing is protected any more.
     MassErase,
-    // A W, whose bytes stand in the input.
+    /// A W, whose bytes stand in the input.
     Store(Packet),
+    /// A V that found what it sent.
     Nothing,
-    // A protect sequence opens, grows, and closes with its key.
+    /// A protect sequence opens.
     Open,
+    /// It grows by the address's group, or past flash by reading.
     Add(Address),
+    /// It closes with its key.
     Close(u32),
+    /// R.
     Leave,
 }
 
-// How an input is judged: accepted with what it then does, or refused and why.
-#[derive(Clone, Copy)]
-pub enum Judged {
-    Accepted(Deed),
-    Refused(Refusal),
-}
-
-// An input changes loader and flash here and nowhere else.
+/// The loader after a deed. An input changes loader and flash here and nowhere else.
 pub fn apply(board: Board, deed: Deed, loader: Loader, input: &[u8], flash: &mut [u8]) -> Loader
-    requires { (length flash.old ≡ start_of (pages_of board)) × Fits (pages_of board) deed input.now }
-    ensures { let x = deed_of (pages_of board) deed loader input.now flash.old in
-        (result ≡ x.loader) × (flash.new ≡ x.flash) }
+    requires flash { length flash.old ≡ start_of (pages_of board) }
+    requires fits { Fits (pages_of board) deed input.now }
+    ensures loader { result ≡ (deed_of (pages_of board) deed loader input.now flash.old).loader }
+    ensures flash { flash.new ≡ (deed_of (pages_of board) deed loader input.now flash.old).flash }
 {
     match deed {
         Deed::Serve => loader.with_condition(Condition::Serving),
@@ -54,19 +53,13 @@ pub fn apply(board: Board, deed: Deed, loader: Loader, input: &[u8], flash: &mut
             loader.cleared()
         }
         Deed::Store(packet) => {
-            let at = packet.at;
-            let end = at + packet.len;
-            let address = packet.address;
-            image::flash::store(flash, address, &input[at..end]);
+            let end = packet.at + packet.len;
+            image::flash::store(flash, packet.address, &input[packet.at..end]);
             loader
         }
         Deed::Nothing => loader,
         Deed::Open => loader.with_added(Protection::none()),
-        Deed::Add(address) => {
-            let sequence = loader.sequence;
-            let so_far = sequence.added;
-            loader.with_added(added(board, so_far, address))
-        }
+        Deed::Add(address) => loader.with_added(added(board, loader.sequence.added, address)),
         Deed::Close(key) => loader.joined(key),
         Deed::Leave => loader.with_condition(Condition::Left),
     }
@@ -76,9 +69,8 @@ pub fn apply(board: Board, deed: Deed, loader: Loader, input: &[u8], flash: &mut
 fn added(board: Board, protection: Protection, address: Address) -> Protection
     ensures { result ≡ added_of (pages_of board) protection address.0 }
 {
-    let past = board.end();
-    if address.0 < past {
-        protection.with_group(address.group())
+    if address < board.end() {
+        protection.with_group(Group::from(address))
     } else {
         protection.with_read()
     }

@@ -5,21 +5,24 @@ ghost use Rattle.basis.specs.Refusals.{first};
 ghost use Rattle.loader.specs.Commands.{mass_erase, erasing, erase_rows, pages_erased};
 ghost use Rattle.loader.specs.Deeds.{JudgesAny};
 
-use crate::deed::{Deed, Judged};
+use crate::deed::Deed;
 use crate::state::Loader;
 use crate::verdict::Refusal;
 use basis::board::{Board, PAGE};
-use basis::units::{Address, Page};
+use basis::units::{Address, Group, Page};
 
-pub fn erase(board: Board, loader: Loader, address: Address, count: u8) -> Judged
+/// E over so many pages from the address's page on; a count of 0 at address 0 is the mass erase, which no protection
+/// stops. 9 while a protect sequence is open; 7 for no pages, or past the end; 8 where a group is protected.
+#[tactic(auto, unfolding(basis::specs::Refusals::first, crate::specs::Commands::erasing))]
+pub fn erase(board: Board, loader: Loader, address: Address, count: u8) -> Result<Deed, Refusal>
     ensures { JudgesAny (pages_of board) result loader (erasing (pages_of board) loader address.0 count) }
 {
     if loader.sequence.opened {
-        return Judged::Refused(Refusal::Sequence);
+        return Err(Refusal::Sequence);
     }
     // No protection stops it.
     if is_mass(address, count) {
-        return Judged::Accepted(Deed::MassErase);
+        return Ok(Deed::MassErase);
     }
     erase_pages(board, loader, address, count)
 }
@@ -31,27 +34,28 @@ fn is_mass(address: Address, count: u8) -> bool
 }
 
 // 7 and 8 of an erase of pages.
-fn erase_pages(board: Board, loader: Loader, address: Address, count: u8) -> Judged
+#[tactic(auto, unfolding(basis::specs::Refusals::first, crate::specs::Commands::erase_rows))]
+fn erase_pages(board: Board, loader: Loader, address: Address, count: u8) -> Result<Deed, Refusal>
     ensures { let b = pages_of board in let a = address.0 in
         JudgesAny b result loader (λ f. first (erase_rows b loader a count) (pages_erased loader a count f)) }
 {
-    let pages = board.pages();
-    let past = board.end();
-    let page = address.page();
-    let end = page.0 + count as u32;
+    let page = Page::from(address);
+    let end = page.0 + u32::from(count);
     if count == 0 {
-        return Judged::Refused(Refusal::Address);
+        return Err(Refusal::Address);
     }
-    if past <= address.0 {
-        return Judged::Refused(Refusal::Address);
+    if board.end() <= address {
+        return Err(Refusal::Address);
     }
-    if pages < end {
-        return Judged::Refused(Refusal::Address);
+    if board.pages() < end {
+        return Err(Refusal::Address);
     }
-    let protection = loader.protection;
     // The end rounded up to its group.
-    if protection.any(page.group(), Page(end + 3).group()) {
-        return Judged::Refused(Refusal::Protected);
+    if loader
+        .protection
+        .any(Group::from(page), Group::from(Page(end + 3)))
+    {
+        return Err(Refusal::Protected);
     }
-    Judged::Accepted(Deed::Erase(page.start(), count as usize * PAGE as usize))
+    Ok(Deed::Erase(page.start(), usize::from(count) * PAGE as usize))
 }

@@ -4,13 +4,16 @@ ghost use Rattle.basis.specs.Board.{pages_of};
 ghost use Rattle.loader.specs.Commands.{opening, adding, closing, protecting, keeping};
 ghost use Rattle.loader.specs.Deeds.{JudgesAny};
 
-use crate::deed::{Deed, Judged};
+use crate::deed::Deed;
 use crate::state::Loader;
 use crate::verdict::Refusal;
 use basis::board::{Board, GROUP};
 use basis::units::Address;
 
-pub fn protect(board: Board, loader: Loader, address: Address, kind: u8) -> Judged
+/// P by its type, which opens a sequence, adds to it or closes it: 9 where the sequence is not as that asks, 7 for an
+/// address past the last group, which stands for reading.
+// `kind` is a byte, as it stands in the packet: an enum of the three would be read here and nowhere else.
+pub fn protect(board: Board, loader: Loader, address: Address, kind: u8) -> Result<Deed, Refusal>
     ensures { JudgesAny (pages_of board) result loader
         (λ f. keeping f (protecting (pages_of board) loader address.0 kind)) }
 {
@@ -22,33 +25,36 @@ pub fn protect(board: Board, loader: Loader, address: Address, kind: u8) -> Judg
     }
 }
 
-fn open(loader: Loader) -> Judged
+#[tactic(auto, unfolding(basis::specs::Refusals::first, crate::specs::Commands::opening))]
+fn open(loader: Loader) -> Result<Deed, Refusal>
     ensures { (b : ℕ) → JudgesAny b result loader (λ f. keeping f (opening loader)) }
 {
     if loader.sequence.opened {
-        return Judged::Refused(Refusal::Sequence);
+        return Err(Refusal::Sequence);
     }
-    Judged::Accepted(Deed::Open)
+    Ok(Deed::Open)
 }
 
-fn add(board: Board, loader: Loader, address: Address) -> Judged
-    ensures { JudgesAny (pages_of board) result loader (λ f. keeping f (adding (pages_of board) loader address.0)) }
+#[tactic(auto, unfolding(basis::specs::Refusals::first, crate::specs::Commands::adding))]
+fn add(board: Board, loader: Loader, address: Address) -> Result<Deed, Refusal>
+    ensures { JudgesAny (pages_of board) result loader
+        (λ f. keeping f (adding (pages_of board) loader address.0)) }
 {
-    let past = board.end();
     if !loader.sequence.opened {
-        return Judged::Refused(Refusal::Sequence);
+        return Err(Refusal::Sequence);
     }
-    if past + GROUP <= address.0 {
-        return Judged::Refused(Refusal::Address);
+    if board.end().0 + GROUP <= address.0 {
+        return Err(Refusal::Address);
     }
-    Judged::Accepted(Deed::Add(address))
+    Ok(Deed::Add(address))
 }
 
-fn close(loader: Loader, address: Address) -> Judged
+#[tactic(auto, unfolding(basis::specs::Refusals::first, crate::specs::Commands::closing))]
+fn close(loader: Loader, address: Address) -> Result<Deed, Refusal>
     ensures { (b : ℕ) → JudgesAny b result loader (λ f. keeping f (closing loader address.0)) }
 {
     if !loader.sequence.opened {
-        return Judged::Refused(Refusal::Sequence);
+        return Err(Refusal::Sequence);
     }
-    Judged::Accepted(Deed::Close(address.0))
+    Ok(Deed::Close(address.0))
 }

@@ -4,13 +4,16 @@ ghost use Rattle.loader.specs.Protection.{none, with_group, with_read, join_of, 
 
 use basis::units::Group;
 
-#[derive(Clone, Copy)]
+/// Which groups are protected, the lowest by the lowest bit, and whether reading is.
+// The groups are bits and no set: C holds them, and there is no heap.
+#[derive(Clone, Copy, Debug, PartialEq, Eq)]
 pub struct Protection {
     pub groups: u64,
     pub read: bool,
 }
 
 impl Protection {
+    /// Nothing is protected.
     pub fn none() -> Protection
         ensures { result ≡ none }
     {
@@ -20,43 +23,45 @@ impl Protection {
         }
     }
 
-    pub fn with_group(mut self, group: Group) -> Protection
+    /// One group more, of at most 64.
+    pub fn with_group(self, group: Group) -> Protection
         requires { group.0 < 64 }
         ensures { result ≡ with_group self group.0 }
     {
-        self.groups = self.groups | (1 << group.0);
-        self
+        Protection {
+            groups: self.groups | (1 << group.0),
+            ..self
+        }
     }
 
-    pub fn with_read(mut self) -> Protection
+    /// Reading too.
+    pub fn with_read(self) -> Protection
         ensures { result ≡ with_read self }
     {
-        self.read = true;
-        self
+        Protection { read: true, ..self }
     }
 
-    // What either protects.
-    pub fn join(mut self, added: Protection) -> Protection
+    /// What either protects.
+    pub fn join(self, added: Protection) -> Protection
         ensures { result ≡ join_of self added }
     {
-        self.groups = self.groups | added.groups;
-        self.read = self.read | added.read;
-        self
+        Protection {
+            groups: self.groups | added.groups,
+            read: self.read | added.read,
+        }
     }
 
-    // One of the groups from `from` up to, and without, `to` is protected.
+    /// Whether one of the groups from `from` up to, and without, `to` is protected.
+    // A `for` and no library `any`: `any_of` is a recursion over the groups, and each turn keeps what is left of it.
+    #[tactic(auto, using(crate::proofs::Turns::groups))]
     pub fn any(self, from: Group, to: Group) -> bool
         requires { to.0 ≤ 64 }
         ensures { result ≡ any_of self.groups from.0 (to.0 - from.0) }
     {
-        let groups = self.groups;
-        let end = to.0;
-        let mut g = from.0;
-        while g < end {
-            if (groups >> g) % 2 == 1 {
+        for g in from.0..to.0 {
+            if (self.groups >> g) % 2 == 1 {
                 return true;
             }
-            g += 1;
         }
         false
     }

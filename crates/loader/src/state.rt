@@ -4,23 +4,30 @@ ghost use Rattle.loader.specs.State.{closed, factory_of, reset_of, with_conditio
 
 use crate::protection::Protection;
 
+/// The key where none is set: from the factory on, and after a mass erase.
 pub const CLEARED_KEY: u32 = 0xFFFF_FFFF;
 
-#[derive(Clone, Copy)]
+/// What a loader listens for.
+#[derive(Clone, Copy, Debug, PartialEq, Eq)]
 pub enum Condition {
+    /// For the opening byte alone.
     Waiting,
+    /// For packets.
     Serving,
+    /// For nothing: R has left it.
     Left,
 }
 
-// A protect sequence: what has been added to it takes effect only when it closes.
-#[derive(Clone, Copy)]
+/// A protect sequence: what has been added to it takes effect only when it closes.
+// No `Option`: a state that C made up, closed and with something added, comes back as it was.
+#[derive(Clone, Copy, Debug, PartialEq, Eq)]
 pub struct Sequence {
     pub opened: bool,
     pub added: Protection,
 }
 
-#[derive(Clone, Copy)]
+/// A loader's state; its flash is lent to each call.
+#[derive(Clone, Copy, Debug, PartialEq, Eq)]
 pub struct Loader {
     pub condition: Condition,
     pub sequence: Sequence,
@@ -29,6 +36,7 @@ pub struct Loader {
 }
 
 impl Sequence {
+    /// No sequence is open, and nothing is added.
     pub fn closed() -> Sequence
         ensures { result ≡ closed }
     {
@@ -40,6 +48,7 @@ impl Sequence {
 }
 
 impl Loader {
+    /// As it leaves the factory: waiting, with nothing protected and no key.
     pub fn factory() -> Loader
         ensures { result ≡ factory_of }
     {
@@ -51,62 +60,55 @@ impl Loader {
         }
     }
 
-    // Protection and key stay, and so does flash.
+    /// Waits again, with no sequence open. Protection and key stay, and so does flash.
     pub fn reset(self) -> Loader
         ensures { result ≡ reset_of self }
     {
-        let protection = self.protection;
         Loader {
             condition: Condition::Waiting,
             sequence: Sequence::closed(),
-            protection,
-            key: self.key,
+            ..self
         }
     }
 
+    /// The same in another condition.
     pub fn with_condition(self, condition: Condition) -> Loader
         ensures { result ≡ with_condition self condition }
     {
-        let sequence = self.sequence;
-        let protection = self.protection;
-        Loader {
-            condition,
-            sequence,
-            protection,
-            key: self.key,
-        }
+        Loader { condition, ..self }
     }
 
-    // A protect sequence is open, with so much added.
-    pub fn with_added(mut self, added: Protection) -> Loader
+    /// A protect sequence is open, with so much added.
+    pub fn with_added(self, added: Protection) -> Loader
         ensures { result ≡ with_added self added }
     {
         let sequence = Sequence {
             opened: true,
             added,
         };
-        self.sequence = sequence;
-        self
+        Loader { sequence, ..self }
     }
 
-    // The sequence closes: what was added is in force from now on.
-    pub fn joined(mut self, key: u32) -> Loader
+    /// The sequence closes with a key: what was added is in force from now on.
+    pub fn joined(self, key: u32) -> Loader
         ensures { result ≡ joined_of self key }
     {
-        let sequence = self.sequence;
-        let added = sequence.added;
-        let in_force = self.protection;
-        self.protection = in_force.join(added);
-        self.sequence = Sequence::closed();
-        self.key = key;
-        self
+        Loader {
+            sequence: Sequence::closed(),
+            protection: self.protection.join(self.sequence.added),
+            key,
+            ..self
+        }
     }
 
-    pub fn cleared(mut self) -> Loader
+    /// Nothing is protected, and there is no key.
+    pub fn cleared(self) -> Loader
         ensures { result ≡ cleared_of self }
     {
-        self.protection = Protection::none();
-        self.key = CLEARED_KEY;
-        self
+        Loader {
+            protection: Protection::none(),
+            key: CLEARED_KEY,
+            ..self
+        }
     }
 }

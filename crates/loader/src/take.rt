@@ -7,24 +7,30 @@ ghost use Rattle.basis.specs.Units.{start_of};
 ghost use Rattle.loader.specs.Deeds.{Judges};
 ghost use Rattle.loader.specs.Paper.{paper_refusal, paper_verdict};
 ghost use Rattle.loader.specs.Take.{waiting, opens_board, serve_of, hear_of, take_of, quiet, tell_of, Takes};
-ghost use Rattle.packet.specs.Paper.{paper_refusal as paper_unread};
 
-use crate::deed::{Deed, Judged, apply};
+use crate::deed::{Deed, apply};
 use crate::judge::judge;
 use crate::state::{Condition, Loader};
-use crate::verdict::{Refusal, Verdict};
+use crate::verdict::Refusal;
 use basis::board::{ACK, ANSWER, BEL, Board, OPENING};
 use basis::buffers::write;
-use packet::read::{Reading, read};
+use packet::read::read;
+use packet::table;
 
-// The next loader, the verdict, and how many answer bytes were written.
-#[derive(Clone, Copy)]
+/// The next loader, the verdict, and how many answer bytes were written.
+#[derive(Clone, Copy, Debug, PartialEq, Eq)]
 pub struct Taken {
     pub loader: Loader,
-    pub verdict: Verdict,
+    pub verdict: Result<(), Refusal>,
     pub answered: usize,
 }
 
+/// One input, the opening byte or a packet: what the loader does, and its answer at the start of `answer`.
+///
+/// An accepted one is answered with ACK, the opening byte with the greeting, a refused one with BEL; 20, 11, 1 and 2
+/// are not answered. A refusal leaves loader and flash as they were.
+// No struct of board and flash: it would be made for `hear` and taken apart again for `apply`, which writes the flash.
+#[tactic(auto, unfolding(basis::specs::Refusals::first, crate::specs::Take::take_of))]
 pub fn take(
     board: Board,
     loader: Loader,
@@ -37,34 +43,35 @@ pub fn take(
         Takes (pages_of board) x loader f answer.old (paper_verdict result.verdict) result.loader
         result.answered flash.new answer.new }
 {
-    let size = board.size();
-    if flash.len() != size {
+    if flash.len() != board.size() {
         return wrong_sizes(loader);
     }
     if answer.len() < ANSWER {
         return wrong_sizes(loader);
     }
     match hear(board, loader, input, flash) {
-        Judged::Accepted(deed) => Taken {
+        Ok(deed) => Taken {
             loader: apply(board, deed, loader, input, flash),
-            verdict: Verdict::Accepted,
-            answered: tell(board, is_waiting(loader), Verdict::Accepted, answer),
+            verdict: Ok(()),
+            answered: tell(board, is_waiting(loader), Ok(()), answer),
         },
-        Judged::Refused(why) => Taken {
+        Err(why) => Taken {
             loader,
-            verdict: Verdict::Refused(why),
-            answered: tell(board, is_waiting(loader), Verdict::Refused(why), answer),
+            verdict: Err(why),
+            answered: tell(board, is_waiting(loader), Err(why), answer),
         },
     }
 }
 
 // Not answered, since there may be no room.
 fn wrong_sizes(loader: Loader) -> Taken
-    ensures { (result.loader ≡ loader) × (paper_verdict result.verdict ≡ refused 20) × (result.answered ≡ 0) }
+    ensures loader { result.loader ≡ loader }
+    ensures verdict { paper_verdict result.verdict ≡ refused 20 }
+    ensures answered { result.answered ≡ 0 }
 {
     Taken {
         loader,
-        verdict: Verdict::Refused(Refusal::Size),
+        verdict: Err(Refusal::Size),
         answered: 0,
     }
 }
@@ -72,30 +79,25 @@ fn wrong_sizes(loader: Loader) -> Taken
 fn is_waiting(loader: Loader) -> bool
     ensures { result ≡ waiting loader.condition }
 {
-    let condition = loader.condition;
-    match condition {
-        Condition::Waiting => true,
-        Condition::Serving => false,
-        Condition::Left => false,
-    }
+    loader.condition == Condition::Waiting
 }
 
 // What the condition lets in.
-fn hear(board: Board, loader: Loader, input: &[u8], flash: &[u8]) -> Judged
+#[tactic(auto, unfolding(basis::specs::Refusals::first, crate::specs::Take::hear_of))]
+fn hear(board: Board, loader: Loader, input: &[u8], flash: &[u8]) -> Result<Deed, Refusal>
     requires { length flash.now ≡ start_of (pages_of board) }
     ensures { let s = input.now in let f = flash.now in
         Judges (pages_of board) result loader s f (hear_of (pages_of board) loader s f) }
 {
-    let condition = loader.condition;
-    match condition {
+    match loader.condition {
         Condition::Waiting => {
             if !opens_board(input) {
-                return Judged::Refused(Refusal::Unheard);
+                return Err(Refusal::Unheard);
             }
-            Judged::Accepted(Deed::Serve)
+            Ok(Deed::Serve)
         }
         Condition::Serving => serve(board, loader, input, flash),
-        Condition::Left => Judged::Refused(Refusal::Unheard),
+        Condition::Left => Err(Refusal::Unheard),
     }
 }
 
@@ -105,29 +107,25 @@ fn opens_board(input: &[u8]) -> bool
     input.len() == 1 && input[0] == OPENING
 }
 
-fn serve(board: Board, loader: Loader, input: &[u8], flash: &[u8]) -> Judged
+fn serve(board: Board, loader: Loader, input: &[u8], flash: &[u8]) -> Result<Deed, Refusal>
     requires { length flash.now ≡ start_of (pages_of board) }
     ensures { let s = input.now in let f = flash.now in
         Judges (pages_of board) result loader s f (serve_of (pages_of board) loader s f) }
 {
-    match read(input) {
-        Reading::Refused(why) => Judged::Refused(Refusal::Unread(why)),
-        Reading::Packet(packet) => {
-            let at = packet.at;
-            let end = at + packet.len;
-            judge(board, loader, packet, &input[at..end], flash)
-        }
-    }
+    let packet = read(input)?;
+    let end = packet.at + packet.len;
+    judge(board, loader, packet, &input[packet.at..end], flash)
 }
 
 // The answer bytes of a verdict, and how many.
-fn tell(board: Board, waiting: bool, verdict: Verdict, answer: &mut [u8]) -> usize
+fn tell(board: Board, waiting: bool, verdict: Result<(), Refusal>, answer: &mut [u8]) -> usize
     requires { answer_most ≤ length answer.old }
-    ensures { let told = tell_of (pages_of board) waiting (paper_verdict verdict) in
-        (result ≡ length told) × (answer.new ≡ overlay told answer.old) }
+    ensures count { result ≡ length (tell_of (pages_of board) waiting (paper_verdict verdict)) }
+    ensures bytes { let told = tell_of (pages_of board) waiting (paper_verdict verdict) in
+        answer.new ≡ overlay told answer.old }
 {
     match verdict {
-        Verdict::Accepted => {
+        Ok(()) => {
             if waiting {
                 write(answer, &board.greeting());
                 return ANSWER;
@@ -135,7 +133,7 @@ fn tell(board: Board, waiting: bool, verdict: Verdict, answer: &mut [u8]) -> usi
             answer[0] = ACK;
             1
         }
-        Verdict::Refused(why) => {
+        Err(why) => {
             if is_quiet(why) {
                 return 0;
             }
@@ -149,26 +147,10 @@ fn tell(board: Board, waiting: bool, verdict: Verdict, answer: &mut [u8]) -> usi
 fn is_quiet(why: Refusal) -> bool
     ensures { result ≡ quiet (paper_refusal why) }
 {
-    match why {
-        Refusal::Size => true,
-        Refusal::Unheard => true,
-        Refusal::Unread(unread) => is_quiet_unread(unread),
-        Refusal::Sequence => false,
-        Refusal::Address => false,
-        Refusal::Protected => false,
-        Refusal::Differs => false,
-    }
-}
-
-fn is_quiet_unread(unread: packet::table::Refusal) -> bool
-    ensures { result ≡ quiet (paper_unread unread) }
-{
-    match unread {
-        packet::table::Refusal::Start => true,
-        packet::table::Refusal::Length => true,
-        packet::table::Refusal::Count => false,
-        packet::table::Refusal::Checksum => false,
-        packet::table::Refusal::Unlisted => false,
-        packet::table::Refusal::Shape => false,
-    }
+    matches!(
+        why,
+        Refusal::Size
+            | Refusal::Unheard
+            | Refusal::Unread(table::Refusal::Start | table::Refusal::Length)
+    )
 }

@@ -7,7 +7,7 @@ ghost use Rattle.loader.specs.Commands.{verify_rows, keeping};
 ghost use Rattle.loader.specs.Deeds.{Judges};
 ghost use Rattle.loader.specs.Verify.{equals_of};
 
-use crate::deed::{Deed, Judged};
+use crate::deed::Deed;
 use crate::state::Loader;
 use crate::verdict::Refusal;
 use crate::write::past_end;
@@ -15,38 +15,47 @@ use basis::board::Board;
 use basis::units::Address;
 use packet::turn::restored;
 
-pub fn verify(board: Board, loader: Loader, address: Address, turned: &[u8], flash: &[u8]) -> Judged
+/// V over so many bytes from `address` on: 9 while a protect sequence is open, 7 past the end of flash, 8 where
+/// reading is protected, 10 where a byte differs. It does nothing.
+#[tactic(auto, unfolding(basis::specs::Refusals::first, crate::specs::Commands::verify_rows))]
+pub fn verify(
+    board: Board,
+    loader: Loader,
+    address: Address,
+    turned: &[u8],
+    flash: &[u8],
+) -> Result<Deed, Refusal>
     requires { length flash.now ≡ start_of (pages_of board) }
     ensures { let f = flash.now in
         let rows = verify_rows (pages_of board) loader address.0 turned.now f in
         (s : List ℕ) → Judges (pages_of board) result loader s f (keeping f (first rows (given loader))) }
 {
     if loader.sequence.opened {
-        return Judged::Refused(Refusal::Sequence);
+        return Err(Refusal::Sequence);
     }
     if past_end(board, address, turned.len()) {
-        return Judged::Refused(Refusal::Address);
+        return Err(Refusal::Address);
     }
     if loader.protection.read {
-        return Judged::Refused(Refusal::Protected);
+        return Err(Refusal::Protected);
     }
     if !equals(flash, address.0 as usize, turned) {
-        return Judged::Refused(Refusal::Differs);
+        return Err(Refusal::Differs);
     }
-    Judged::Accepted(Deed::Nothing)
+    Ok(Deed::Nothing)
 }
 
 // Every byte, turned back, equals flash from `at` on.
+// A `for` and no library `all`: `equals_of` is a recursion over the bytes, and each turn keeps what is left of it.
+#[tactic(auto, using(crate::proofs::Turns::turns))]
 fn equals(flash: &[u8], at: usize, turned: &[u8]) -> bool
     requires { at + length turned.now ≤ length flash.now }
     ensures { result ≡ equals_of flash.now at turned.now }
 {
-    let mut i = 0;
-    while i < turned.len() {
-        if flash[at + i] != restored(turned[i]) {
+    for (i, t) in turned.iter().enumerate() {
+        if flash[at + i] != restored(*t) {
             return false;
         }
-        i += 1;
     }
     true
 }

@@ -5,35 +5,37 @@ ghost use Rattle.basis.specs.Units.{start_of};
 ghost use Rattle.loader.specs.Commands.{writing};
 ghost use Rattle.loader.specs.Deeds.{data_in, Judges};
 
-use crate::deed::{Deed, Judged};
+use crate::deed::Deed;
 use crate::state::Loader;
 use crate::verdict::Refusal;
 use basis::board::{Board, GROUP};
-use basis::units::Address;
+use basis::units::{Address, Group};
 use packet::read::Packet;
 
-pub fn write(board: Board, loader: Loader, packet: Packet) -> Judged
+/// W: 9 while a protect sequence is open, 7 past the end of flash, 8 where a group of its range is protected.
+#[tactic(auto, using(crate::proofs::Judging::lengths), unfolding(basis::specs::Refusals::first, crate::specs::Commands::writing, crate::specs::Commands::write_rows))]
+pub fn write(board: Board, loader: Loader, packet: Packet) -> Result<Deed, Refusal>
     ensures { (s f : List ℕ) → packet.at + packet.len ≤ length s
         → Judges (pages_of board) result loader s f
         (writing (pages_of board) loader packet.address.0 (data_in s packet) f) }
 {
-    let address = packet.address;
-    let size = packet.len;
     if loader.sequence.opened {
-        return Judged::Refused(Refusal::Sequence);
+        return Err(Refusal::Sequence);
     }
-    if past_end(board, address, size) {
-        return Judged::Refused(Refusal::Address);
+    if past_end(board, packet.address, packet.len) {
+        return Err(Refusal::Address);
     }
-    let protection = loader.protection;
-    let end = address.0 + size as u32;
-    if protection.any(address.group(), Address(end + (GROUP - 1)).group()) {
-        return Judged::Refused(Refusal::Protected);
+    let end = packet.address.0 + packet.len as u32;
+    if loader.protection.any(
+        Group::from(packet.address),
+        Group::from(Address(end + (GROUP - 1))),
+    ) {
+        return Err(Refusal::Protected);
     }
-    Judged::Accepted(Deed::Store(packet))
+    Ok(Deed::Store(packet))
 }
 
-// The range of W and of V.
+/// Whether the range of a W or a V goes past the end of flash.
 pub fn past_end(board: Board, address: Address, size: usize) -> bool
     ensures { result ≡ ltb (start_of (pages_of board)) (address.0 + size) }
 {

@@ -13,8 +13,7 @@ use Rattle.order.specs.Plan.{total}
 use Rattle.receiver.specs.Receiver.{fresh}
 use Rattle.receiver.specs.declared.receiver.Receiver.{Receiver}
 use Rattle.session.specs.Laws.Steps.{Starts}
-use Rattle.session.specs.Session.{Sent, sent_bytes, started}
-use Rattle.session.specs.declared.session.Next.{Next}
+use Rattle.session.specs.Session.{Next, Sent, sent_bytes, started}
 
 -- with the loader reset and a new receiver that is a moment just begun, also by its own kind and loader
 module _ {board : ℕ} {image m : List ℕ} {kind : RunKind} {room : ℕ} {y : Next}

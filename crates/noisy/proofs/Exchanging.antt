@@ -1,6 +1,6 @@
 -- What the board's part and the session's make together is an exchange.
 use Rattle.std.proofs.Common.{ℕ, ◌≤◌, List, [], ◌≡◌, ap, ◌∙◌, arith, length, take, length-append}
-use lib.Seq.{take-append_seam}
+use Rattle.std.proofs.Math.Seq.{take-append_seam}
 use Rattle.basis.specs.Board.{answer_most}
 use Rattle.basis.specs.Lists.{overlay}
 use Rattle.basis.specs.Refusals.{Answer, refused, given}
@@ -12,8 +12,7 @@ use Rattle.noisy.specs.declared.exchange.Link.{Link}
 use Rattle.packet.specs.Packet.{packet_most}
 use Rattle.port.specs.Port.{all_of}
 use Rattle.port.specs.declared.port.Port.{Port}
-use Rattle.session.specs.Session.{Sent, sent_bytes, step_of}
-use Rattle.session.specs.declared.session.Next.{Next}
+use Rattle.session.specs.Session.{Next, Sent, sent_bytes, step_of}
 
 module _ (board : ℕ) (image m : List ℕ) (o : Loss) (z : List ℕ) (link : Link) (before old : List ℕ)
     (fits : link.len ≤ length old) (full : length old ≡ packet_most) (port : Port) (heard : ℕ)

@@ -1,7 +1,7 @@
 -- Answers joined one behind the other, and the bytes that are still to go in.
 use Rattle.std.proofs.lemmas.List.{take-append-le}
-use Rattle.std.proofs.Common.{ℕ, ◌+◌, ◌-◌, ◌≤◌, ◌<◌, List, [], ◌++◌, append_assoc, append-nil, ◌≡◌, refl, sym, ap, ◌∙◌, arith, leb-true, leb-false, leb, length, take, drop, length-append, length-take, length-drop, take-append-drop, drop_of_length-le, length-take-le, take_all, take_at, take-take, drop-drop}
-use lib.Seq.{take-append-add, take-append_seam}
+use Rattle.std.proofs.Common.{ℕ, ◌+◌, ◌-◌, ◌≤◌, ◌<◌, List, [], ◌∷◌, ◌++◌, append_assoc, append-nil, ◌≡◌, refl, sym, ap, ◌∙◌, arith, leb-true, leb-false, leb, length, take, drop, length-append, length-take, length-drop, take-append-drop, length-take-le, take_all, take_at, take-take}
+use Rattle.std.proofs.Math.Seq.{take-append-add, take-append_seam}
 use Rattle.basis.specs.Board.{answer_most}
 use Rattle.basis.specs.Laws.Choice.{decide}
 use Rattle.basis.specs.Laws.Lists.{copy-overlay}
@@ -59,57 +59,60 @@ take-joined n s t =
     let l : n ≤ length (take n s) = omega (arith, length-take-le n s h) in
     take-append-le n (take n s) t l ∙ take-take n n s (omega arith) ∙ sym (take-append-le n s t h))
 
--- ---- the bytes from i on are still to go in: they leave port, flash and answers as all do
+-- ---- the rest of the bytes is still to go in: it leaves port, flash and answers as all do
 
-pub record Remains (board : ℕ) (a : All) (bytes joined₀ : List ℕ) (p : Port) (f : List ℕ) (i : ℕ)
-    (joined : List ℕ) : Type 0 where
-  pub port-is : (all_of board answer_most p f (drop i bytes)).port ≡ a.port
-  pub flash-is : (all_of board answer_most p f (drop i bytes)).flash ≡ a.flash
-  pub joined_is : take heard_most (joined ++ (all_of board answer_most p f (drop i bytes)).answers)
+pub record Remains (board : ℕ) (a : All) (joined₀ : List ℕ) (p : Port) (f rest joined : List ℕ) : Type 0 where
+  pub port-is : (all_of board answer_most p f rest).port ≡ a.port
+  pub flash-is : (all_of board answer_most p f rest).flash ≡ a.flash
+  pub joined_is : take heard_most (joined ++ (all_of board answer_most p f rest).answers)
       ≡ take heard_most (joined₀ ++ a.answers)
 
-module _ {board : ℕ} {a : All} {bytes joined₀ : List ℕ} {p : Port} {f : List ℕ} {i : ℕ} {joined : List ℕ}
-    (r : Remains board a bytes joined₀ p f i joined) where
+module _ {board : ℕ} {a : All} {joined₀ : List ℕ} {p : Port} {f rest joined : List ℕ}
+    (r : Remains board a joined₀ p f rest joined) where
   abbrev turn : Turn
-  turn = turn_of board answer_most p f (drop i bytes)
+  turn = turn_of board answer_most p f rest
 
-  abbrev rest : List ℕ
-  rest = drop (i + turn.taken) bytes
+  abbrev left : List ℕ
+  left = drop turn.taken rest
 
-  cut : all_of board answer_most p f (drop i bytes) ≡ and_then board answer_most (of_turn turn) rest
+  cut : all_of board answer_most p f rest ≡ and_then board answer_most (of_turn turn) left
   cut =
       let k = turn.taken in
-      ap (all_of board answer_most p f) (sym (take-append-drop k (drop i bytes)))
-      ∙ all_append board answer_most p f (take k (drop i bytes)) (drop k (drop i bytes))
-      ∙ ap (λ (x : All). and_then board answer_most x (drop k (drop i bytes)))
-      (turn-all board answer_most p f (drop i bytes))
-      ∙ ap (and_then board answer_most (of_turn turn)) (drop-drop k i bytes)
+      ap (all_of board answer_most p f) (sym (take-append-drop k rest))
+      ∙ all_append board answer_most p f (take k rest) (drop k rest)
+      ∙ ap (λ (x : All). and_then board answer_most x (drop k rest)) (turn-all board answer_most p f rest)
 
-  pub remains-less : (next : Port) (flash new : List ℕ) (k : ℕ) → next ≡ turn.port → flash ≡ turn.flash
+  pub remains-less : (next : Port) (flash new less : List ℕ) (k : ℕ) → next ≡ turn.port → flash ≡ turn.flash
       → new ≡ take heard_most (joined ++ turn.answer) → k ≡ turn.taken
-      → Remains board a bytes joined₀ next flash (i + k) new
-  remains-less next flash new k ep ef ej ek =
-      rw (ep, ef, ej, ek)
+      → less ≡ take (length rest - k) (drop k rest)
+      → Remains board a joined₀ next flash less new
+  remains-less next flash new less k ep ef ej ek el =
+      let e : less ≡ left
+      = el ∙ take_all (length rest - k) (drop k rest) (omega (arith, length-drop k rest))
+      ∙ ap (λ (n : ℕ). drop n rest) ek in
+      rw (ep, ef, ej, e)
       (record {
         port-is = sym (ap (λ (x : All). x.port) cut) ∙ r.port-is;
         flash-is = sym (ap (λ (x : All). x.flash) cut) ∙ r.flash-is;
         joined_is = take-joined heard_most (joined ++ turn.answer)
-            (all_of board answer_most turn.port turn.flash rest).answers
+            (all_of board answer_most turn.port turn.flash left).answers
             ∙ ap (take heard_most) (append_assoc joined turn.answer
-            (all_of board answer_most turn.port turn.flash rest).answers)
+            (all_of board answer_most turn.port turn.flash left).answers)
             ∙ sym (ap (λ (x : All). take heard_most (joined ++ x.answers)) cut) ∙ r.joined_is;
       })
 
-  pub remains-none : length bytes ≤ i → length joined ≤ heard_most
-      → (p ≡ a.port) × (f ≡ a.flash) × (joined ≡ take heard_most (joined₀ ++ a.answers))
-  remains-none b l =
-      let e : all_of board answer_most p f (drop i bytes) ≡ record { port = p; flash = f; answers = [] }
-      = ap (all_of board answer_most p f) (drop_of_length-le bytes b) ∙ all_none board answer_most p f in (
-        sym (ap (λ (x : All). x.port) e) ∙ r.port-is,
-        sym (ap (λ (x : All). x.flash) e) ∙ r.flash-is,
-        sym (ap (λ (x : All). take heard_most (joined ++ x.answers)) e
-            ∙ ap (take heard_most) (append-nil joined) ∙ take_all heard_most joined l) ∙ r.joined_is,
-      )
+-- nothing is left
+pub remains-none : {board : ℕ} {a : All} {joined₀ : List ℕ} {p : Port} {f joined : List ℕ} (rest : List ℕ)
+    → Remains board a joined₀ p f rest joined → length rest ≡ 0 → length joined ≤ heard_most
+    → (p ≡ a.port) × (f ≡ a.flash) × (joined ≡ take heard_most (joined₀ ++ a.answers))
+remains-none {board} {a} {joined₀} {p} {f} {joined} [] r n l =
+    let e = all_none board answer_most p f in (
+      sym (ap (λ (x : All). x.port) e) ∙ r.port-is,
+      sym (ap (λ (x : All). x.flash) e) ∙ r.flash-is,
+      sym (ap (λ (x : All). take heard_most (joined ++ x.answers)) e
+          ∙ ap (take heard_most) (append-nil joined) ∙ take_all heard_most joined l) ∙ r.joined_is,
+    )
+remains-none (b ∷ s) r n l = absurd (omega arith)
 
 -- by the answer that came, and the buffer's size
 pub room-full : (h : List ℕ) {b t w : List ℕ} (n : ℕ) → b ≡ t → n ≡ heard_most → w ≡ take n (h ++ b)
@@ -119,27 +122,22 @@ room-full h {b} n e f q =
 
 -- ---- one call of the port, which has its sizes
 
-pub serves-rest : (board : ℕ) (p : Port) (bytes : List ℕ) (i : ℕ) (f old : List ℕ) {r : Served}
-    {flash answer : List ℕ} → length f ≡ start_of board → length old ≡ answer_most
-    → Serves (turn_after p f (port_of board p (take (length bytes - i) (drop i bytes)) f (length old))) old r
-    flash answer
-    → Serves (turn_of board answer_most p f (drop i bytes)) old r flash answer
-serves-rest board p bytes i f old size room h =
-    let e : take (length bytes - i) (drop i bytes) ≡ drop i bytes
-    = take_all (length bytes - i) (drop i bytes) (omega (arith, length-drop i bytes)) in
+pub serves-rest : (board : ℕ) (p : Port) (rest f old : List ℕ) {r : Served} {flash answer : List ℕ}
+    → length f ≡ start_of board → length old ≡ answer_most
+    → Serves (turn_after p f (port_of board p rest f (length old))) old r flash answer
+    → Serves (turn_of board answer_most p f rest) old r flash answer
+serves-rest board p rest f old size room h =
     serves-as
-    (sym (ap (λ (s : List ℕ). turn_after p f (port_of board p s f (length old))) e
-    ∙ ap (λ (n : ℕ). turn_after p f (port_of board p (drop i bytes) f n)) room
-    ∙ ap (turn_after p f) (port-turn board p (drop i bytes) f answer_most size (omega arith))))
+    (sym (ap (λ (n : ℕ). turn_after p f (port_of board p rest f n)) room
+    ∙ ap (turn_after p f) (port-turn board p rest f answer_most size (omega arith))))
     h
 
 -- while bytes are left at least one is taken, and no more than there are
-pub rest-taken : (board : ℕ) (p : Port) (bytes : List ℕ) (i : ℕ) (f : List ℕ) (k : ℕ)
-    → k ≡ (turn_of board answer_most p f (drop i bytes)).taken → i < length bytes
-    → (0 < k) × (i + k ≤ length bytes)
-rest-taken board p bytes i f k e h =
-    let t = turn-takes board answer_most p f (drop i bytes) (omega (arith, length-drop i bytes)) in
-    (omega (arith, t.0), omega (arith, t.1, length-drop i bytes))
+pub rest-taken : (board : ℕ) (p : Port) (rest f : List ℕ) (k : ℕ)
+    → k ≡ (turn_of board answer_most p f rest).taken → 0 < length rest → (0 < k) × (k ≤ length rest)
+rest-taken board p rest f k e h =
+    let t = turn-takes board answer_most p f rest h in
+    (omega (arith, t.0), omega (arith, t.1))
 
 module _ {t : Turn} {old : List ℕ} {r : Served} {flash answer : List ℕ}
     (h : Serves t old r flash answer) where
@@ -177,9 +175,6 @@ module _ (board : ℕ) (p : Port) (f z w : List ℕ) where
     pub whole : o ≡ Loss.Whole → Joins (all (z ++ w)) [] q h g j
         → Joins (hearing o (all (reaching o z w))) [] q h g j
     whole e a = rw e a
-
-    pub lost : o ≡ Loss.Lost → Joins (all z) [] q h g j → Joins (hearing o (all (reaching o z w))) [] q h g j
-    lost e a = rw e a
 
     pub unanswered : o ≡ Loss.Unanswered → Joins (all (z ++ w)) [] q h g j
         → Joins (hearing o (all (reaching o z w))) [] q 0 g j

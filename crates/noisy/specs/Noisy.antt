@@ -1,5 +1,5 @@
 -- A load with rubbish between the packets: the loader stands behind a receiver that hunts for packets.
-use Rattle.std.specs.Prelude.{ℕ, zero, suc, ◌+◌, ◌-◌, ◌*◌, ◌≤◌, List, [], ◌∷◌, ◌++◌, ◌≡◌, ltb, length, get_or, take, drop}
+use Rattle.std.specs.Prelude.{ℕ, zero, suc, ◌+◌, ◌*◌, ◌≤◌, List, [], ◌∷◌, ◌++◌, ◌≡◌, length, get_or, take, drop}
 use Rattle.basis.specs.Board.{answer_most, opening_byte}
 use Rattle.basis.specs.Choice.{pick}
 use Rattle.basis.specs.Refusals.{Answer, refused, given}
@@ -15,9 +15,7 @@ use Rattle.port.specs.Port.{All, all_of}
 use Rattle.port.specs.declared.port.Port.{Port}
 use Rattle.receiver.specs.Receiver.{fresh}
 use Rattle.session.specs.Phases.{ended}
-use Rattle.session.specs.Session.{Sent, at_greeting, step_of}
-use Rattle.session.specs.declared.session.Next.{Next}
-use Rattle.session.specs.declared.session.Session.{Session}
+use Rattle.session.specs.Session.{Next, Session, Sent, at_greeting, step_of}
 
 -- what stands at a moment: loader and receiver, the flash, the session, and what it has sent last
 pub record NoisyMoment : Type 0 where
@@ -115,10 +113,6 @@ NoOpening s = (k : ℕ) → get_or s k 0 ≡ opening_byte → ⊥
 -- so many bytes tell every event: one more than the longest answer has
 abbrev pub heard_most : ℕ
 heard_most = answer_most + 1
-
--- where the rubbish before an exchange ends that starts at a place: `each` bytes on, or at the list's end
-abbrev pub end_of : ℕ → ℕ → ℕ → ℕ
-end_of len at each = pick (ltb each (len - at)) (at + each) len
 
 -- port, session and packet buffer as a moment
 abbrev pub noisy_on : Link → List ℕ → List ℕ → NoisyMoment

@@ -3,6 +3,7 @@ pub mod Kinds
 pub mod Starts
 pub mod Steps
 pub mod Plan
+pub mod Walk
 pub mod Out
 pub mod Totals
 pub mod Surveys

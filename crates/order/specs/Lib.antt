@@ -2,5 +2,6 @@
 pub mod Sizes
 pub mod Plan
 pub mod Steps
+pub mod Walk
 pub mod Marks
 pub mod Laws

@@ -1,10 +1,9 @@
 -- The packets of a file one by one: the k-th, what follows it, and where each stands.
-use Rattle.std.specs.Prelude.{ℕ, ◌+◌, ◌-◌, ◌*◌, Bool, true, List, eqb, leb, ltb}
+use Rattle.std.specs.Prelude.{ℕ, ◌+◌, ◌-◌, ◌*◌, Bool, true, List, eqb, leb, ltb, Option, Some, None}
 use Rattle.basis.specs.Choice.{pick, both}
 use Rattle.basis.specs.Units.{start_of}
 use Rattle.basis.specs.declared.kind.RunKind.{RunKind}
 use Rattle.order.specs.Plan.{sends_r, erase_packet, write_packet, verify_packet, run_packet, before_verify, before_r, total}
-use Rattle.order.specs.declared.cursor.Following.{Following}
 use Rattle.order.specs.declared.step.Step.{Step}
 use Rattle.runs.specs.Map.{named}
 use Rattle.runs.specs.Pages.{touched}
@@ -45,9 +44,9 @@ abbrev pub packet_at : ℕ → List ℕ → List ℕ → RunKind → ℕ → Lis
 packet_at board image m kind k = packet_of board image m kind (step_at board m k)
 
 -- what is left after k acknowledgements: the step then, and once all packets are acknowledged nothing
-abbrev pub following_at : ℕ → List ℕ → RunKind → ℕ → Following
+abbrev pub following_at : ℕ → List ℕ → RunKind → ℕ → Option Step
 following_at board m kind k =
-    pick (ltb k (total board m kind)) (Following.Step (step_at board m k)) Following.End
+    pick (ltb k (total board m kind)) (Some (step_at board m k)) None
 
 -- ---- from step to step, by the map alone
 
@@ -71,36 +70,36 @@ abbrev pub first_of : ℕ → List ℕ → Step
 first_of board m = erase_at (lowest_run board m)
 
 -- after E of the run at q: the next run, or the first piece to write
-abbrev pub after_erase : ℕ → List ℕ → ℕ → Following
+abbrev pub after_erase : ℕ → List ℕ → ℕ → Option Step
 after_erase board m q =
     pick (ltb (next_run board m q) board)
-    (Following.Step (erase_at (next_run board m q)))
-    (Following.Step (write_at (lowest_piece board m)))
+    (Some (erase_at (next_run board m q)))
+    (Some (write_at (lowest_piece board m)))
 
 -- after W of the piece at a: the next piece, or the first to verify
-abbrev pub after_write : ℕ → List ℕ → ℕ → Following
+abbrev pub after_write : ℕ → List ℕ → ℕ → Option Step
 after_write board m a =
     pick (ltb (next_piece board m a) (start_of board))
-    (Following.Step (write_at (next_piece board m a)))
-    (Following.Step (verify_at (lowest_piece board m)))
+    (Some (write_at (next_piece board m a)))
+    (Some (verify_at (lowest_piece board m)))
 
 -- behind the last V: R, or to hold nothing
-abbrev pub behind_last : RunKind → Following
-behind_last kind = pick (sends_r kind) (Following.Step Step.Run) Following.End
+abbrev pub behind_last : RunKind → Option Step
+behind_last kind = pick (sends_r kind) (Some Step.Run) None
 
 -- after V of the piece at a: the next piece, or what comes behind the last
-abbrev pub after_verify : ℕ → List ℕ → RunKind → ℕ → Following
+abbrev pub after_verify : ℕ → List ℕ → RunKind → ℕ → Option Step
 after_verify board m kind a =
     pick (ltb (next_piece board m a) (start_of board))
-    (Following.Step (verify_at (next_piece board m a)))
+    (Some (verify_at (next_piece board m a)))
     (behind_last kind)
 
 -- what follows a step
-unfoldable pub follow_of : ℕ → List ℕ → RunKind → Step → Following
+unfoldable pub follow_of : ℕ → List ℕ → RunKind → Step → Option Step
 follow_of board m kind (Step.Erase p) = after_erase board m p.0
 follow_of board m kind (Step.Write a) = after_write board m a.0
 follow_of board m kind (Step.Verify a) = after_verify board m kind a.0
-follow_of board m kind Step.Run = Following.End
+follow_of board m kind Step.Run = None
 
 -- ---- where a step stands
 

@@ -6,3 +6,4 @@ pub mod cursor;
 pub mod sending;
 pub mod sizes;
 pub mod step;
+pub mod steps;

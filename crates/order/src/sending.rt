@@ -1,8 +1,8 @@
 // The packet of a step, built into the caller's buffer.
-ghost use Rattle.std.specs.Prelude.{◌≡◌, true, ◌+◌, ◌*◌, ◌%◌, ◌<◌, ◌≤◌, ◌∷◌, [], length, get_or, take, drop};
+ghost use Rattle.std.specs.Prelude.{◌≡◌, true, ◌+◌, ◌<◌, ◌≤◌, ◌∷◌, [], length, get_or, take, drop};
 ghost use Rattle.basis.specs.Board.{pages_of, pages_most};
 ghost use Rattle.basis.specs.Lists.{overlay};
-ghost use Rattle.basis.specs.Units.{start_of, map_bytes};
+ghost use Rattle.basis.specs.Units.{start_of};
 ghost use Rattle.packet.specs.Packet.{packet, packet_most};
 ghost use Rattle.packet.specs.Table.{erase_byte, listed, in_shape};
 ghost use Rattle.runs.specs.Pieces.{piece_most, piece_starts, run_starts};
@@ -10,75 +10,72 @@ ghost use Rattle.order.specs.Steps.{at_start, packet_of};
 ghost use Rattle.order.specs.Plan.{carries_piece, piece_bytes, erase_packet, run_packet};
 
 use crate::step::Step;
-use basis::board::Board;
 use basis::kind::RunKind;
 use basis::units::{Address, Page};
-use packet::build::{Built, build};
+use packet::build::build;
 use packet::table::{ERASE, RUN, VERIFY, WRITE};
-use runs::pages::page_row_len;
-use runs::places::{PIECE, row_len};
+use runs::file::File;
+use runs::map::Map;
+use runs::places::PIECE;
 
-// Gives the packet's length.
-pub fn send(
-    board: Board,
-    image: &[u8],
-    map: &[u8],
-    kind: RunKind,
-    step: Step,
-    buffer: &mut [u8],
-) -> usize
-    requires { (length image.now ≡ start_of (pages_of board)) × (length map.now ≡ map_bytes (pages_of board))
-        × (packet_most ≤ length buffer.old) × (at_start (pages_of board) map.now step ≡ true) }
-    ensures { let p = packet_of (pages_of board) image.now map.now kind step in
-        (result ≡ length p) × (buffer.new ≡ overlay p buffer.old) }
+/// Builds the packet of a step at the buffer's start, and gives its length; to hold there is no R, so nothing is built.
+// The room stands in each contract below: the buffer is lent by C, with 259 bytes or more, so it is no array.
+pub fn send(file: File<'_>, kind: RunKind, step: Step, buffer: &mut [u8]) -> usize
+    requires room { packet_most ≤ length buffer.old }
+    requires start { at_start (pages_of file.map.board) file.map.bits.now step ≡ true }
+    ensures length { let b = pages_of file.entry.map.board in
+        result ≡ length (packet_of b file.entry.image.now file.entry.map.bits.now kind step) }
+    ensures bytes { let b = pages_of file.entry.map.board in
+        let p = packet_of b file.entry.image.now file.entry.map.bits.now kind step in
+        buffer.new ≡ overlay p buffer.old }
 {
     match step {
-        Step::Erase(page) => send_erase(board, map, page, buffer),
-        Step::Write(address) => send_piece(image, map, WRITE, address, buffer),
-        Step::Verify(address) => send_piece(image, map, VERIFY, address, buffer),
+        Step::Erase(page) => send_erase(file.map, page, buffer),
+        Step::Write(address) => send_piece(file, WRITE, address, buffer),
+        Step::Verify(address) => send_piece(file, VERIFY, address, buffer),
         Step::Run => put_run(kind, buffer),
     }
 }
 
-fn send_erase(board: Board, map: &[u8], page: Page, buffer: &mut [u8]) -> usize
-    requires { (length map.now ≡ map_bytes (pages_of board)) × (packet_most ≤ length buffer.old)
-        × (run_starts (pages_of board) map.now page.0 ≡ true) }
-    ensures { let p = erase_packet (pages_of board) map.now page.0 in
-        (result ≡ length p) × (buffer.new ≡ overlay p buffer.old) }
+#[tactic(auto, using(crate::proofs::Starts::below))]
+fn send_erase(map: Map<'_>, page: Page, buffer: &mut [u8]) -> usize
+    requires room { packet_most ≤ length buffer.old }
+    requires start { run_starts (pages_of map.board) map.bits.now page.0 ≡ true }
+    ensures length { result ≡ length (erase_packet (pages_of map.entry.board) map.entry.bits.now page.0) }
+    ensures bytes { let p = erase_packet (pages_of map.entry.board) map.entry.bits.now page.0 in
+        buffer.new ≡ overlay p buffer.old }
 {
-    let pages = board.pages();
-    put_erase(page, page_row_len(map, page, pages), buffer)
+    put_erase(page, map.run_len(page), buffer)
 }
 
 // W or V.
-fn send_piece(image: &[u8], map: &[u8], command: u8, address: Address, buffer: &mut [u8]) -> usize
-    requires { (length image.now ≡ 8 * length map.now) × (length map.now % 64 ≡ 0)
-        × (length image.now ≤ start_of pages_most) × (packet_most ≤ length buffer.old)
-        × (carries_piece command ≡ true) × (piece_starts map.now address.0 ≡ true) }
-    ensures { let d = piece_bytes image.now map.now address.0 in
-        let p = packet command address.0 d in
-        (result ≡ length p) × (buffer.new ≡ overlay p buffer.old) }
+#[tactic(auto, using(crate::proofs::Starts::pieces))]
+fn send_piece(file: File<'_>, command: u8, address: Address, buffer: &mut [u8]) -> usize
+    requires room { packet_most ≤ length buffer.old }
+    requires command { carries_piece command ≡ true }
+    requires start { piece_starts file.map.bits.now address.0 ≡ true }
+    ensures length { let d = piece_bytes file.entry.image.now file.entry.map.bits.now address.0 in
+        result ≡ length (packet command address.0 d) }
+    ensures bytes { let d = piece_bytes file.entry.image.now file.entry.map.bits.now address.0 in
+        buffer.new ≡ overlay (packet command address.0 d) buffer.old }
 {
-    put_piece(
-        image,
-        command,
-        address,
-        row_len(map, address, PIECE),
-        buffer,
-    )
+    let count = file.map.row_len(address, PIECE);
+    put_piece(file.image, command, address, count, buffer)
 }
 
-// E for `count` pages from `page` on.
+/// E for `count` pages from `page` on; gives its length.
 pub fn put_erase(page: Page, count: u32, buffer: &mut [u8]) -> usize
-    requires { (page.0 < pages_most) × (count ≤ pages_most) × (packet_most ≤ length buffer.old) }
-    ensures { let p = packet erase_byte (start_of page.0) (count ∷ []) in
-        (result ≡ length p) × (buffer.new ≡ overlay p buffer.old) }
+    requires page { page.0 < pages_most }
+    requires count { count ≤ pages_most }
+    requires room { packet_most ≤ length buffer.old }
+    ensures length { result ≡ length (packet erase_byte (start_of page.0) (count ∷ [])) }
+    ensures bytes { buffer.new ≡ overlay (packet erase_byte (start_of page.0) (count ∷ [])) buffer.old }
 {
     let pages = [count as u8];
     put(buffer, ERASE, page.start(), &pages)
 }
 
-// W or V of `count` bytes of the image from `address` on.
+/// W or V of `count` bytes of the image from `address` on; gives its length.
 pub fn put_piece(
     image: &[u8],
     command: u8,
@@ -86,21 +83,27 @@ pub fn put_piece(
     count: u32,
     buffer: &mut [u8],
 ) -> usize
-    requires { (carries_piece command ≡ true) × (0 < count) × (count ≤ piece_most)
-        × (address.0 + count ≤ length image.now) × (length image.now ≤ start_of pages_most)
-        × (packet_most ≤ length buffer.old) }
-    ensures { let p = packet command address.0 (take count (drop address.0 image.now)) in
-        (result ≡ length p) × (buffer.new ≡ overlay p buffer.old) }
+    requires command { carries_piece command ≡ true }
+    requires some { 0 < count }
+    requires most { count ≤ piece_most }
+    requires inside { address.0 + count ≤ length image.now }
+    requires small { length image.now ≤ start_of pages_most }
+    requires room { packet_most ≤ length buffer.old }
+    ensures length { let d = take count (drop address.0 image.now) in
+        result ≡ length (packet command address.0 d) }
+    ensures bytes { let d = take count (drop address.0 image.now) in
+        buffer.new ≡ overlay (packet command address.0 d) buffer.old }
 {
     let from = address.0 as usize;
     let end = from + (count as usize);
     put(buffer, command, address, &image[from..end])
 }
 
-// R, or to hold nothing.
+/// R, or to hold nothing; gives its length.
 pub fn put_run(kind: RunKind, buffer: &mut [u8]) -> usize
     requires { packet_most ≤ length buffer.old }
-    ensures { (result ≡ length (run_packet kind)) × (buffer.new ≡ overlay (run_packet kind) buffer.old) }
+    ensures length { result ≡ length (run_packet kind) }
+    ensures bytes { buffer.new ≡ overlay (run_packet kind) buffer.old }
 {
     match kind {
         RunKind::Reset => put(buffer, RUN, Address(1), b""),
@@ -110,16 +113,14 @@ pub fn put_run(kind: RunKind, buffer: &mut [u8]) -> usize
     }
 }
 
-// A packet that stands in the table, into a buffer that has room for any.
+// A packet that stands in the table, into a buffer that has room for any; so it is never refused.
+#[tactic(auto, using(crate::proofs::Starts::puts))]
 fn put(buffer: &mut [u8], command: u8, address: Address, plain: &[u8]) -> usize
-    requires { (packet_most ≤ length buffer.old) × (listed command ≡ true)
-        × (in_shape command (length plain.now + 5) (get_or plain.now 0 0) ≡ true) }
-    ensures { let p = packet command address.0 plain.now in
-        (result ≡ length p) × (buffer.new ≡ overlay p buffer.old) }
+    requires room { packet_most ≤ length buffer.old }
+    requires listed { listed command ≡ true }
+    requires shape { in_shape command (length plain.now + 5) (get_or plain.now 0 0) ≡ true }
+    ensures length { result ≡ length (packet command address.0 plain.now) }
+    ensures bytes { buffer.new ≡ overlay (packet command address.0 plain.now) buffer.old }
 {
-    match build(buffer, command, address, plain) {
-        Built::Packet(len) => len,
-        Built::NoRoom => 0,
-        Built::Refused(_) => 0,
-    }
+    build(buffer, command, address, plain).unwrap_or(0)
 }

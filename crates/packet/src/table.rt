@@ -4,105 +4,98 @@ ghost use Rattle.basis.specs.Refusals.{given, first};
 ghost use Rattle.packet.specs.Paper.{paper_command, paper_refusal, paper_row, shaped_of};
 ghost use Rattle.packet.specs.Table.{table, data_count, protect_type};
 
-// The two bytes that a packet starts with.
+use basis::numbered::Numbered;
+
+/// The first byte of a packet.
 pub const START: u8 = 0x07;
 
+/// Its second byte.
 pub const NEXT_START: u8 = 0x0E;
 
-// The commands.
-pub const ERASE: u8 = 0x45;
+/// E: erase pages, or all.
+pub const ERASE: u8 = Command::Erase as u8;
 
-pub const WRITE: u8 = 0x57;
+/// W: write bytes.
+pub const WRITE: u8 = Command::Write as u8;
 
-pub const VERIFY: u8 = 0x56;
+/// V: verify bytes.
+pub const VERIFY: u8 = Command::Verify as u8;
 
-pub const PROTECT: u8 = 0x50;
+/// P: protect groups.
+pub const PROTECT: u8 = Command::Protect as u8;
 
-pub const RUN: u8 = 0x52;
+/// R: run.
+pub const RUN: u8 = Command::Run as u8;
 
-#[derive(Clone, Copy)]
+/// The commands by their bytes.
+#[derive(Clone, Copy, Debug, PartialEq, Eq)]
 pub enum Command {
-    Erase,
-    Write,
-    Verify,
-    Protect,
-    Run,
+    Erase = 0x45,
+    Write = 0x57,
+    Verify = 0x56,
+    Protect = 0x50,
+    Run = 0x52,
 }
 
-// Why an input is no packet, or a packet is not built.
-#[derive(Clone, Copy)]
+/// Why an input is no packet, or data none for a packet: the numbers of the loader's table.
+#[derive(Clone, Copy, Debug, PartialEq, Eq)]
 pub enum Refusal {
-    Start,
-    Length,
-    Count,
-    Checksum,
-    Unlisted,
-    Shape,
+    /// It does not start with 07 0E.
+    Start = 1,
+    /// It is shorter or longer than its count N says.
+    Length = 2,
+    /// N is below 5.
+    Count = 3,
+    /// From N on its bytes do not sum to zero.
+    Checksum = 4,
+    /// The table has no such command.
+    Unlisted = 5,
+    /// The table has another N for the command, or P is of no type that it has.
+    Shape = 6,
 }
 
-impl Command {
-    pub fn byte(self) -> u8
-        ensures { result ≡ paper_command self }
-    {
-        match self {
-            Command::Erase => ERASE,
-            Command::Write => WRITE,
-            Command::Verify => VERIFY,
-            Command::Protect => PROTECT,
-            Command::Run => RUN,
-        }
+impl From<Command> for u8 {
+    ghost from_gives = { λ c b. b ≡ paper_command c };
+
+    /// The command's byte.
+    fn from(command: Command) -> u8 {
+        command as u8
     }
 }
 
-impl Refusal {
-    // The number in the loader's table.
-    pub fn number(self) -> u32
-        ensures { result ≡ paper_refusal self }
-    {
-        match self {
-            Refusal::Start => 1,
-            Refusal::Length => 2,
-            Refusal::Count => 3,
-            Refusal::Checksum => 4,
-            Refusal::Unlisted => 5,
-            Refusal::Shape => 6,
-        }
+impl Numbered for Refusal {
+    ghost number_of = { paper_refusal };
+
+    /// 1 to 6.
+    fn number(self) -> u32 {
+        self as u32
     }
 }
 
-// What the table says of a packet.
-#[derive(Clone, Copy)]
-pub enum Row {
-    Listed(Command),
-    Refused(Refusal),
-}
-
-// `kind` is the byte after the address, which counts for P alone.
-pub fn look_up(command: u8, n: usize, kind: u8) -> Row
+/// What the table says of a packet with this command and count N: the command, or refused by 5 (it is not
+/// in the table) or 6 (its N is not, or P's type). `kind` is P's type, as its byte: it stands after the address and
+/// counts for P alone.
+#[tactic(auto, unfolding(basis::specs::Refusals::first))]
+pub fn look_up(command: u8, n: usize, kind: u8) -> Result<Command, Refusal>
     ensures { paper_row result ≡ first (table command n kind) (given command) }
 {
     match command {
         ERASE => shaped(Command::Erase, n == 6),
         WRITE => shaped(Command::Write, data_count(n)),
         VERIFY => shaped(Command::Verify, data_count(n)),
-        PROTECT => {
-            if n != 6 {
-                return Row::Refused(Refusal::Shape);
-            }
-            shaped(Command::Protect, protect_type(kind))
-        }
+        PROTECT => shaped(Command::Protect, n == 6 && protect_type(kind)),
         RUN => shaped(Command::Run, n == 5),
-        _ => Row::Refused(Refusal::Unlisted),
+        _ => Err(Refusal::Unlisted),
     }
 }
 
-fn shaped(command: Command, fits: bool) -> Row
+fn shaped(command: Command, fits: bool) -> Result<Command, Refusal>
     ensures { paper_row result ≡ shaped_of command fits }
 {
     if fits {
-        Row::Listed(command)
+        Ok(command)
     } else {
-        Row::Refused(Refusal::Shape)
+        Err(Refusal::Shape)
     }
 }
 
@@ -110,17 +103,11 @@ fn shaped(command: Command, fits: bool) -> Row
 fn data_count(n: usize) -> bool
     ensures { result ≡ data_count n }
 {
-    6 <= n && n <= 255
+    (6..=255).contains(&n)
 }
 
 fn protect_type(kind: u8) -> bool
     ensures { result ≡ protect_type kind }
 {
-    if kind == 0x00 {
-        return true;
-    }
-    if kind == 0x0F {
-        return true;
-    }
-    kind == 0x01
+    matches!(kind, 0x00 | 0x0F | 0x01)
 }

@@ -1,3 +1,3 @@
 -- Lemmas that serve the proofs of this crate's functions.
 pub mod Lists
-pub mod Handing
+pub mod Sends

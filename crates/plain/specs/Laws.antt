@@ -1,4 +1,2 @@
 pub mod List
-pub mod Steps
 pub mod Fits
-pub mod Determined

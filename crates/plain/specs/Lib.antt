@@ -1,6 +1,5 @@
 -- The plain session. Definitions stand here, what is proved of them under Laws.
 pub mod Stages
 pub mod Plain
-pub mod Paper
 pub mod List
 pub mod Laws

@@ -1,11 +1,7 @@
 -- How the code walks: what it has come to place by place, and what the walks over pages and bytes tell of the
 -- list. Only contracts inside the crate speak of these; Laws/List says what they come to.
-use Rattle.std.specs.Prelude.{ℕ, zero, suc, ◌+◌, ◌-◌, Bool, List, eqb}
+use Rattle.std.specs.Prelude.{ℕ, zero, suc, ◌+◌, ◌-◌, Bool, eqb}
 use Rattle.basis.specs.Choice.{pick}
-use Rattle.basis.specs.declared.kind.RunKind.{RunKind}
-use Rattle.order.specs.Plan.{total}
-use Rattle.order.specs.Steps.{step_at}
-use Rattle.plain.specs.declared.list.Listed.{Listed}
 use Rattle.plain.specs.declared.list.Walk.{Walk}
 
 -- one place more: one that does not pass closes what is open; one that passes goes into it, or starts a
@@ -26,7 +22,3 @@ met_of most due at w passes =
 unfoldable pub walk_at : (ℕ → Bool) → ℕ → ℕ → ℕ → ℕ → Walk
 walk_at p most b due zero = record { number = b; left = 0; place = 0 }
 walk_at p most b due (suc n) = met_of most due n (walk_at p most b due n) (p n)
-
--- the packet with a number, and how many there are
-abbrev pub listed_of : ℕ → List ℕ → RunKind → ℕ → Listed
-listed_of board m kind due = record { step = step_at board m due; total = total board m kind }

@@ -2,82 +2,89 @@
 ghost use Rattle.std.specs.Prelude.{◌≡◌, true, ◌<◌, ◌≤◌, length};
 ghost use Rattle.basis.specs.Board.{pages_of};
 ghost use Rattle.basis.specs.Lists.{overlay};
-ghost use Rattle.basis.specs.Units.{start_of, map_bytes};
-ghost use Rattle.order.specs.Plan.{total};
+ghost use Rattle.basis.specs.Units.{start_of};
+ghost use Rattle.order.specs.Plan.{carries_piece, piece_bytes, total};
 ghost use Rattle.order.specs.Steps.{at_start, packet_of};
-ghost use Rattle.packet.specs.Packet.{packet_most};
+ghost use Rattle.packet.specs.Packet.{packet, packet_most};
 ghost use Rattle.plain.specs.Plain.{picked};
-ghost use Rattle.runs.specs.Pieces.{piece_len};
+ghost use Rattle.runs.specs.Pieces.{piece_len, piece_most, piece_starts};
 
 use crate::list::list;
-use basis::board::Board;
 use basis::kind::RunKind;
 use basis::units::Address;
 use order::sending::{put_erase, put_piece, put_run};
 use order::step::Step;
 use packet::table::{VERIFY, WRITE};
-use runs::map::named;
-use runs::pages::page_row_len;
+use runs::file::File;
+use runs::map::Map;
 use runs::places::PIECE;
 
-// Picks the packet with number `due` from the list, and gives its length.
-pub fn send_due(
-    board: Board,
-    image: &[u8],
-    map: &[u8],
-    kind: RunKind,
-    due: u32,
-    buffer: &mut [u8],
-) -> usize
-    requires { (length image.now ≡ start_of (pages_of board)) × (length map.now ≡ map_bytes (pages_of board))
-        × (packet_most ≤ length buffer.old) × (due < total (pages_of board) map.now kind) }
-    ensures { let p = picked (pages_of board) image.now map.now kind due in
-        (result ≡ length p) × (buffer.new ≡ overlay p buffer.old) }
+/// Picks the packet with number `due` from the list, writes it, and gives its length in bytes.
+#[tactic(auto, using(crate::proofs::Sends::dues))]
+pub fn send_due(file: File<'_>, kind: RunKind, due: u32, buffer: &mut [u8]) -> usize
+    requires room { packet_most ≤ length buffer.old }
+    requires due { due < total (pages_of file.map.board) file.map.bits.now kind }
+    ensures len { let m = file.entry.map in
+        let p = picked (pages_of m.board) file.entry.image.now m.bits.now kind due in
+        result ≡ length p }
+    ensures bytes { let m = file.entry.map in
+        let p = picked (pages_of m.board) file.entry.image.now m.bits.now kind due in
+        buffer.new ≡ overlay p buffer.old }
 {
-    let listed = list(board, map, kind, due);
-    let step = listed.step;
-    send(board, image, map, kind, step, buffer)
+    let listed = list(file.map, kind, due);
+    send(file, kind, listed.step, buffer)
 }
 
-fn send(
-    board: Board,
-    image: &[u8],
-    map: &[u8],
-    kind: RunKind,
-    step: Step,
-    buffer: &mut [u8],
-) -> usize
-    requires { (length image.now ≡ start_of (pages_of board)) × (length map.now ≡ map_bytes (pages_of board))
-        × (packet_most ≤ length buffer.old) × (at_start (pages_of board) map.now step ≡ true) }
-    ensures { let p = packet_of (pages_of board) image.now map.now kind step in
-        (result ≡ length p) × (buffer.new ≡ overlay p buffer.old) }
+// Beside `order::sending::send`: here the piece's bytes are counted one by one, so that `alike` compares two ways.
+#[tactic(auto, using(order::proofs::Starts::below))]
+fn send(file: File<'_>, kind: RunKind, step: Step, buffer: &mut [u8]) -> usize
+    requires room { packet_most ≤ length buffer.old }
+    requires start { at_start (pages_of file.map.board) file.map.bits.now step ≡ true }
+    ensures len { let m = file.entry.map in
+        let p = packet_of (pages_of m.board) file.entry.image.now m.bits.now kind step in
+        result ≡ length p }
+    ensures bytes { let m = file.entry.map in
+        let p = packet_of (pages_of m.board) file.entry.image.now m.bits.now kind step in
+        buffer.new ≡ overlay p buffer.old }
 {
-    let pages = board.pages();
     match step {
-        Step::Erase(page) => put_erase(page, page_row_len(map, page, pages), buffer),
-        Step::Write(at) => put_piece(image, WRITE, at, piece_len(board, map, at), buffer),
-        Step::Verify(at) => put_piece(image, VERIFY, at, piece_len(board, map, at), buffer),
+        Step::Erase(page) => put_erase(page, file.map.run_len(page), buffer),
+        Step::Write(at) => send_piece(file, WRITE, at, buffer),
+        Step::Verify(at) => send_piece(file, VERIFY, at, buffer),
         Step::Run => put_run(kind, buffer),
     }
 }
 
-// How many bytes the piece at `from` has: as many as are named in a row, and no more than a packet carries.
-fn piece_len(board: Board, map: &[u8], from: Address) -> u32
-    requires { (length map.now ≡ map_bytes (pages_of board)) × (from.0 < start_of (pages_of board)) }
-    ensures { result ≡ piece_len map.now from.0 }
+// W or V. The command stays a byte: `put_piece` takes it so, and `packet` is told of bytes.
+#[tactic(auto, using(order::proofs::Starts::pieces))]
+fn send_piece(file: File<'_>, command: u8, at: Address, buffer: &mut [u8]) -> usize
+    requires room { packet_most ≤ length buffer.old }
+    requires command { carries_piece command ≡ true }
+    requires start { piece_starts file.map.bits.now at.0 ≡ true }
+    ensures len { let d = piece_bytes file.entry.image.now file.entry.map.bits.now at.0 in
+        result ≡ length (packet command at.0 d) }
+    ensures bytes { let d = piece_bytes file.entry.image.now file.entry.map.bits.now at.0 in
+        buffer.new ≡ overlay (packet command at.0 d) buffer.old }
 {
-    let end = board.end();
-    let start = from.0;
-    let mut n = 0;
-    while n < PIECE {
-        let at = start + n;
-        if end <= at {
+    put_piece(file.image, command, at, piece_len(file.map, at), buffer)
+}
+
+// How many bytes the piece at `from` has: as many as are named in a row, and no more than a packet carries.
+#[tactic(auto, using(crate::proofs::Sends::rows))]
+fn piece_len(map: Map<'_>, from: Address) -> u32
+    requires { from.0 < start_of (pages_of map.board) }
+    ensures piece { result ≡ piece_len map.entry.bits.now from.0 }
+    ensures most { result ≤ piece_most }
+{
+    let end = map.board.end();
+    for n in 0..PIECE {
+        let at = from.0 + n;
+        if end.0 <= at {
             return n;
         }
-        if !named(map, Address(at)) {
+        if !map.names(Address(at)) {
             return n;
         }
-        n += 1;
     }
-    n
+    PIECE
 }

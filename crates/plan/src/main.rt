@@ -3,15 +3,13 @@
 #![tactic(auto)]
 
 ghost use Rattle.std.specs.Prelude.{◌≤◌, length};
-ghost use Rattle.listing.specs.Plan.{longest_line};
 
 use basis::board::{Board, PAGE, SHORT_PAGES};
-use basis::buffers::first;
-use listing::plan::{Begun, Listing, head_line, total_line};
-use listing::refusals::refusal_at;
-use listing::text::{LINE, Reading};
+use listing::plan::Listing;
+use listing::refusals;
+use listing::text::{self, Blame, LINE, Text};
 use std::io;
-use std::io::Read;
+use std::io::{Read, Write};
 
 // The program is for the short board.
 const SIZE: usize = (SHORT_PAGES * PAGE) as usize;
@@ -22,62 +20,74 @@ const MAP: usize = SIZE / 8;
 const ROOM: usize = 65536;
 
 fn main(rt: HostRuntime) -> io::Result<()> {
-    let mut line = [0u8; LINE];
     let mut image = [0u8; SIZE];
     let mut map = [0u8; MAP];
+    let reading = read_all(&rt, &mut image, &mut map)?;
     let mut buffer = [0u8; ROOM];
-    let started = Reading::start(Board::Short, &mut image, &mut map);
-    let reading = read_all(&rt, started, &mut buffer, &mut line, &mut image, &mut map)?;
-    let closed = reading.close(Board::Short, &line, &mut image, &mut map);
-    match closed {
-        Reading::Open(_) => print(&rt, &image, &map, &mut buffer),
-        Reading::Refused(blame) => {
-            let n = refusal_at(&mut buffer, blame);
-            rt.write_all(first(&buffer, n))
-        }
+    let mut out = Gathered {
+        out: io::writer(&rt),
+        buffer: &mut buffer,
+        len: 0,
+    };
+    match reading {
+        Ok(_) => print(&mut out, &image, &map)?,
+        Err(blame) => refusals::print(&mut out, blame)?,
     }
+    out.flush()
 }
 
 // To the input's end, or to the first refusal: what comes after that counts for nothing.
-fn read_all(
-    rt: &impl Input,
-    start: Reading,
-    buffer: &mut [u8],
-    line: &mut [u8; LINE],
-    image: &mut [u8],
-    map: &mut [u8],
-) -> io::Result<Reading> {
+fn read_all(rt: &impl Input, image: &mut [u8], map: &mut [u8]) -> io::Result<Result<Text, Blame>> {
     let mut reader = rt.reader();
-    let mut reading = start;
+    let mut buffer = [0u8; ROOM];
+    let mut line = [0u8; LINE];
+    let mut reading = text::start(Board::Short, image, map);
     // every loop ends; no input has so many reads
     for _ in 0..u64::MAX {
-        let n = reader.read(buffer)?;
+        let n = reader.read(&mut buffer)?;
         if n == 0 {
-            return Ok(reading);
+            return Ok(text::close(reading, Board::Short, &line, image, map));
         }
-        reading = reading.feed(Board::Short, first(buffer, n), line, image, map);
-        if let Reading::Refused(_) = reading {
+        reading = text::feed(reading, Board::Short, &buffer[..n], &mut line, image, map);
+        if reading.is_err() {
             return Ok(reading);
         }
     }
     Err(io::Error::other("standard input has no end"))
 }
 
-fn print(rt: &impl Print, image: &[u8], map: &[u8], buffer: &mut [u8]) -> io::Result<()>
-    requires { longest_line ≤ length buffer.old }
-{
+fn print(out: &mut impl Write, image: &[u8], map: &[u8]) -> io::Result<()> {
     // a file that closed names a byte, so its listing is never refused
-    let Begun::Listing(begun) = Listing::start(Board::Short, image, map) else {
+    let Ok(listing) = Listing::start(Board::Short, image, map) else {
         return Err(io::Error::other("the file has no packets"));
     };
-    let head = head_line(buffer);
-    rt.write_all(first(buffer, head))?;
-    let mut listing = begun;
-    while listing.listed < listing.total {
-        let sheet = listing.sheet(Board::Short, image, map, buffer);
-        listing = sheet.listing;
-        rt.write_all(first(buffer, sheet.end))?;
+    listing.print(out)
+}
+
+// What is written is gathered and goes out together. Not std's `BufWriter`: that takes memory, and the programs
+// trust no C function for it.
+#[derive(Drop)]
+struct Gathered<'a, W: Write + Drop> {
+    out: W,
+    buffer: &'a mut [u8],
+    len: usize,
+    ghost within: { len ≤ length buffer.now },
+}
+
+impl<W: Write + Drop> Write for Gathered<'_, W> {
+    fn write(&mut self, bytes: &[u8]) -> io::Result<usize> {
+        if self.len == self.buffer.len() {
+            self.flush()?;
+        }
+        let n = bytes.len().min(self.buffer.len() - self.len);
+        self.buffer[self.len..self.len + n].copy_from_slice(&bytes[..n]);
+        self.len += n;
+        Ok(n)
     }
-    let end = total_line(buffer, listing.total);
-    rt.write_all(first(buffer, end))
+
+    fn flush(&mut self) -> io::Result<()> {
+        self.out.write_all(&self.buffer[..self.len])?;
+        self.len = 0;
+        self.out.flush()
+    }
 }

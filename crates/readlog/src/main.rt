@@ -2,10 +2,8 @@
 #![tactic(auto)]
 
 ghost use Rattle.std.specs.Prelude.{◌≤◌, length, IfOk};
-ghost use Rattle.listing.specs.Lines.{log_room};
 
-use basis::buffers::first;
-use listing::log::{ROOM, log_line};
+use listing::log::log_line;
 use service_log::read::MOST;
 use std::io;
 use std::io::Read;
@@ -13,24 +11,18 @@ use std::io::Read;
 fn main(rt: HostRuntime) -> io::Result<()> {
     // one byte more than the longest record has, to tell a longer input
     let mut input = [0u8; MOST + 1];
-    let mut line = [0u8; ROOM];
     let n = fill(&rt, &mut input)?;
-    rt.write_all(answer(first(&input, n), &mut line))
+    rt.println(log_line(&input[..n]))
 }
 
-fn answer<'a>(record: &[u8], line: &'a mut [u8]) -> &'a [u8]
-    requires { log_room ≤ length line.old }
-{
-    let len = log_line(record, line);
-    first(line, len)
-}
-
-// Reads until the buffer is full or the input ends.
+// Reads until the buffer is full or the input ends. Not std's `read_to_end`: that takes memory, and the programs
+// trust no C function for it.
 fn fill(rt: &impl Input, input: &mut [u8]) -> io::Result<usize>
     ensures { IfOk result (λ n. n ≤ length input.new) }
 {
     let mut reader = rt.reader();
     let mut at = 0;
+    // No `for`: a read tells how many bytes came.
     while at < input.len() {
         let n = reader.read(&mut input[at..])?;
         if n == 0 {

@@ -7,23 +7,27 @@ ghost use Rattle.receiver.specs.Receiver.{fresh, emptied, gathered, stored, keep
 use packet::build::PACKET;
 use packet::table::{NEXT_START, START};
 
-// The first `len` bytes are gathered; a packet that was just handed on stands at the start, with a `len` of 0.
+/// A receiver, whatever stands in it.
+///
+/// The first `len` bytes are gathered; a packet that was just handed on stands at the start, with a `len` of 0.
+// A length beside its bytes: C holds the struct, and there is no heap.
 #[repr(C)]
-#[derive(Clone, Copy)]
+#[derive(Clone, Copy, Debug, PartialEq, Eq)]
 pub struct Receiver {
     pub bytes: [u8; PACKET],
     pub len: usize,
 }
 
-// The receiver after a byte, and the length of the packet that stands in it, 0 where none is handed on.
-#[derive(Clone, Copy)]
+/// The receiver after a byte, and how many bytes the packet has that stands in it, 0 where none is handed on.
+// No `Option`: C gets this number, and the laws of `byte_of` speak of it; no packet has 0 bytes.
+#[derive(Clone, Copy, Debug, PartialEq, Eq)]
 pub struct Received {
     pub receiver: Receiver,
     pub packet: usize,
 }
 
-// The same after so many bytes.
-#[derive(Clone, Copy)]
+/// The same after so many bytes.
+#[derive(Clone, Copy, Debug, PartialEq, Eq)]
 pub struct Stretch {
     pub receiver: Receiver,
     pub packet: usize,
@@ -31,6 +35,7 @@ pub struct Stretch {
 }
 
 impl Receiver {
+    /// Nothing is gathered, and all bytes are 0.
     pub fn new() -> Receiver
         ensures { result ≡ fresh }
     {
@@ -40,94 +45,82 @@ impl Receiver {
         }
     }
 
+    /// One byte more. A packet is handed on with the last of its N + 4 bytes, or with an N below 5.
+    #[tactic(auto, unfolding(crate::specs::Hearing::hear))]
     pub fn byte(self, b: u8) -> Received
-        ensures { (result ≡ byte_of self b) × (result.packet ≤ packet_most) }
+        ensures state { result ≡ byte_of self b }
+        ensures fits { result.packet ≤ packet_most }
     {
-        let len = self.len;
-        if len == 0 {
-            return self.hunt(b).quiet();
+        // The last byte of a packet comes behind so many.
+        let last = usize::from(self.bytes[2]) + 3;
+        match self.len {
+            0 => self.hunt(b).quiet(),
+            1 if b != NEXT_START => self.hunt(b).quiet(),
+            2 if b < 5 => self.gather(b).hand(),
+            1 | 2 => self.gather(b).quiet(),
+            len if len < last => self.gather(b).quiet(),
+            len if len == last => self.gather(b).hand(),
+            _ => self.hunt(b).quiet(),
         }
-        if len == 1 {
-            if b != NEXT_START {
-                return self.hunt(b).quiet();
-            }
-            return self.gather(b).quiet();
-        }
-        if len == 2 {
-            if b < 5 {
-                return self.gather(b).hand();
-            }
-            return self.gather(b).quiet();
-        }
-        let last = self.bytes[2] as usize + 3;
-        if len < last {
-            return self.gather(b).quiet();
-        }
-        if len == last {
-            return self.gather(b).hand();
-        }
-        self.hunt(b).quiet()
     }
 
-    // Bytes as they came, up to and with the one that completes a packet.
+    /// Bytes as they came, up to and with the one that completes a packet.
     pub fn bytes(self, bytes: &[u8]) -> Stretch
-        ensures { (result ≡ bytes_of self bytes.now) × (result.packet ≤ packet_most) }
+        ensures state { result ≡ bytes_of self bytes.now }
+        ensures fits { result.packet ≤ packet_most }
     {
         let mut receiver = self;
-        let mut i = 0;
-        while i < bytes.len() {
-            let next = receiver.byte(bytes[i]);
-            let packet = next.packet;
+        for (i, b) in bytes.iter().enumerate() {
+            let next = receiver.byte(*b);
             receiver = next.receiver;
-            i += 1;
-            if packet != 0 {
+            if next.packet != 0 {
                 return Stretch {
                     receiver,
-                    packet,
-                    taken: i,
+                    packet: next.packet,
+                    taken: i + 1,
                 };
             }
         }
         Stretch {
             receiver,
             packet: 0,
-            taken: i,
+            taken: bytes.len(),
         }
     }
 
-    pub fn emptied(mut self) -> Receiver
+    /// What was gathered is dropped; every byte stays.
+    pub fn emptied(self) -> Receiver
         ensures { result ≡ emptied self }
     {
-        self.len = 0;
-        self
+        Receiver { len: 0, ..self }
     }
 
     // What was gathered is dropped; the byte may itself begin a start.
     fn hunt(mut self, b: u8) -> Receiver
         ensures { result ≡ stored self (gathering (hunted b)) }
     {
-        if b == START {
-            self.bytes[0] = b;
-            self.len = 1;
-            return self;
+        if b != START {
+            return self.emptied();
         }
-        self.len = 0;
+        self.bytes[0] = b;
+        self.len = 1;
         self
     }
 
     fn gather(mut self, b: u8) -> Receiver
         requires { self.len < packet_most }
-        ensures { (result ≡ stored self (gathering (gathered self ++ (b ∷ [])))) × (result.len ≤ packet_most) }
+        ensures state { result ≡ stored self (gathering (gathered self ++ (b ∷ []))) }
+        ensures fits { result.len ≤ packet_most }
     {
-        let len = self.len;
-        self.bytes[len] = b;
-        self.len = len + 1;
+        self.bytes[self.len] = b;
+        self.len += 1;
         self
     }
 
     // Nothing is handed on.
     fn quiet(self) -> Received
-        ensures { (result ≡ keeping self) × (result.packet ≤ packet_most) }
+        ensures state { result ≡ keeping self }
+        ensures fits { result.packet ≤ packet_most }
     {
         Received {
             receiver: self,
@@ -138,12 +131,12 @@ impl Receiver {
     // All that is gathered is handed on.
     fn hand(self) -> Received
         requires { self.len ≤ packet_most }
-        ensures { (result ≡ giving self) × (result.packet ≤ packet_most) }
+        ensures state { result ≡ giving self }
+        ensures fits { result.packet ≤ packet_most }
     {
-        let len = self.len;
         Received {
+            packet: self.len,
             receiver: self.emptied(),
-            packet: len,
         }
     }
 }

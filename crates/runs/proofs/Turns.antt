@@ -1,5 +1,9 @@
 -- One turn of a search and of a walk along a row, and their ends.
-use Rattle.std.proofs.Common.{ℕ, zero, suc, ◌+◌, ◌-◌, ◌≤◌, ◌<◌, add-one, add-zero, arith, ◌≡◌, refl, ap, ap₂, subst, Bool, true, false}
+use Rattle.std.proofs.Common.{ℕ, zero, suc, ◌+◌, ◌-◌, ◌≤◌, ◌<◌, add-one, add-zero, arith, ◌≡◌, refl, ap, ap₂, subst, Bool, true, false, List, ◌/◌, ◌%◌, ◌^◌, eq-eqb, get_or}
+use Rattle.basis.specs.Bits.{bit}
+use Rattle.basis.specs.Laws.Computed.{agree}
+use Rattle.runs.specs.Laws.Map.{named_past}
+use Rattle.runs.specs.Map.{named, name_of, name_all_of}
 use Rattle.runs.specs.Runs.{next, len}
 
 -- one less to go
@@ -19,6 +23,20 @@ module _ (p : ℕ → Bool) (n a : ℕ) where
   pub next-go : a < n → p a ≡ false → next p a (n - a) ≡ next p (a + 1) (n - (a + 1))
   unfolding next
   next-go h t = rw (add-one, sub-step n a h, t)
+
+pub ruleset searches = (next-end, next-stop, next-go)
+
+-- a loop that names what stands from a on and below e
+module _ (map : List ℕ) (a e : ℕ) where
+  pub name-go : a < e → name_all_of (name_of map a) (a + 1) (e - (a + 1)) ≡ name_all_of map a (e - a)
+  unfolding name_all_of
+  name-go h = let s : e - a ≡ suc (e - (a + 1)) = omega arith in rw s
+
+  pub name-end : e ≤ a → name_all_of map a (e - a) ≡ map
+  unfolding name_all_of
+  name-end h = let z : e - a ≡ 0 = omega arith in rw z
+
+pub ruleset names = (name-go, name-end)
 
 module _ (p : ℕ → Bool) where
   len-none : (b f : ℕ) → p b ≡ false → len p b f ≡ 0
@@ -57,3 +75,20 @@ len-step p a cap n (suc k) inv l h =
     subst (λ (j : ℕ). len p a cap ≡ j + len p (a + j) (cap - j)) e
     (len-go p a cap (n + k) (len-step p a cap n k inv (omega arith) (λ i m. h i (omega arith))) (omega arith)
     (subst (λ (j : ℕ). p j ≡ true) q (h k (omega arith))))
+
+pub ruleset rows = (len-stop, len-step, len-end)
+
+-- all eight bits of 0xFF
+full : (k : ℕ) → k < 8 → bit 0xFF k ≡ true
+full k h = eq-eqb (0xFF / 2 ^ k % 2) 1 (agree (λ (j : ℕ). 0xFF / 2 ^ j % 2) (λ (j : ℕ). 1) 8 tt k h)
+
+-- a byte that names eight
+pub eight-named : (m : List ℕ) (a i : ℕ) → a % 8 ≡ 0 → get_or m (a / 8) 0 ≡ 0xFF → i < 8
+    → named m (a + i) ≡ true
+unfolding named
+eight-named m a i z e h =
+    let q : (a + i) / 8 ≡ a / 8 = omega arith in
+    let r : (a + i) % 8 ≡ i = omega arith in
+    rw (q, r, e) (full i h)
+
+pub ruleset strides = (named_past, eight-named)

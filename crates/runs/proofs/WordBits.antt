@@ -4,7 +4,8 @@ use native.Mathlib.Nat.{pow-succ', div-div-eq-div-mul}
 use Rattle.basis.specs.Lists.{Bytes}
 use Rattle.runs.specs.declared.tally.Tally.{Tally}
 use Rattle.runs.specs.Tally.{tally_at, took_of, took_bits}
-use Rattle.runs.proofs.Tallies.{tally-next}
+use Rattle.basis.specs.Laws.Boards.{pages-few}
+use Rattle.runs.proofs.Tallies.{tally-next, passed-few, pieces-few, off-less}
 use Rattle.basis.specs.Bits.{bit}
 use Rattle.runs.specs.Map.{named, word_of}
 
@@ -93,3 +94,5 @@ word-again m cap i h e f g =
     let b : 8 * (8 * i + 8) ≡ 64 * (i + 1) = omega arith in
     g ∙ ap₂ (λ (t : Tally) (w : ℕ). took_bits cap t w 64) (e ∙ ap (tally_at (named m) cap) a) f
     ∙ word-tally m cap 8 (8 * i) h ∙ ap (tally_at (named m) cap) b
+
+pub ruleset words = (passed-few, pieces-few, off-less, word-again, pages-few)

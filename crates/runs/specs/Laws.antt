@@ -3,3 +3,4 @@ pub mod Runs
 pub mod Pieces
 pub mod Pages
 pub mod Files
+pub mod Found

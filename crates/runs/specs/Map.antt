@@ -1,5 +1,5 @@
 -- The map of named addresses: one bit an address, lowest bit first.
-use Rattle.std.specs.Prelude.{ℕ, zero, suc, ◌+◌, ◌*◌, ◌/◌, ◌%◌, ◌^◌, ◌≤◌, ◌<◌, List, Bool, true, false, ◌≡◌, get_or, set}
+use Rattle.std.specs.Prelude.{ℕ, zero, suc, ◌+◌, ◌*◌, ◌/◌, ◌%◌, ◌^◌, ◌≤◌, ◌<◌, List, Bool, true, false, ◌≡◌, get_or, set, Option, Some, None}
 use Rattle.std.specs.Int.Bits.{bit_or}
 use Rattle.basis.specs.Bits.{bit}
 use Rattle.basis.specs.Choice.{any}
@@ -16,9 +16,10 @@ name_of m a = set m (a / 8) (bit_or (get_or m (a / 8) 0) (2 ^ (a % 8)))
 abbrev pub any_named : List ℕ → ℕ → ℕ → Bool
 any_named m a n = any (named m) a n
 
--- a step of r in a row that has room for so many more: each of its places is named, and 0 is the row's end
-abbrev pub Stride : List ℕ → ℕ → ℕ → ℕ → Type 0
-Stride m a most r = (r ≤ most) × ((i : ℕ) → i < r → named m (a + i) ≡ true) × (r ≡ 0 → named m a ≡ false)
+-- a step of r in a row that has room for so many more: each of its places is named; none is the row's end
+abbrev pub Stride : List ℕ → ℕ → ℕ → Option ℕ → Type 0
+Stride m a most None = named m a ≡ false
+Stride m a most (Some r) = (0 < r) × (r ≤ most) × ((i : ℕ) → i < r → named m (a + i) ≡ true)
 
 -- the map with the n places from a on named
 unfoldable pub name_all_of : List ℕ → ℕ → ℕ → List ℕ

@@ -1,6 +1,7 @@
-// The map of named addresses, and the runs and pieces that it has.
+// The map of named addresses, the file that has one, and the runs and pieces that it has.
 #![tactic(auto)]
 
+pub mod file;
 pub mod map;
 pub mod pages;
 pub mod places;

@@ -3,8 +3,9 @@ ghost use Rattle.std.specs.Prelude.{◌≡◌, ◌+◌, ◌-◌, ◌^◌, ◌<�
 ghost use Rattle.runs.specs.Runs.{wrapped_of};
 ghost use Rattle.runs.specs.Tally.{took_of, took_bits, joins_of, cut_of};
 
-// How many places passed, how many pieces started, and how much of a piece is open.
-#[derive(Clone, Copy)]
+/// How many places passed, how many pieces started, and how much of a piece is open.
+// No ghost field keeps its bounds: `tally_at` and `took_of` are told of any.
+#[derive(Clone, Copy, Debug, Default, PartialEq, Eq)]
 pub struct Tally {
     pub passed: u32,
     pub pieces: u32,
@@ -12,46 +13,36 @@ pub struct Tally {
 }
 
 impl Tally {
-    // One place more, which passes or not.
+    /// One place more, which passes or not.
+    #[tactic(auto, unfolding(crate::specs::Tally::took_of))]
     pub fn took(self, passes: bool, cap: u32) -> Tally
-        requires { (self.passed < 2 ^ 31) × (self.pieces < 2 ^ 31) × (self.off < cap) }
+        requires passed { self.passed < 2 ^ 31 }
+        requires pieces { self.pieces < 2 ^ 31 }
+        requires off { self.off < cap }
         ensures { result ≡ took_of cap self passes }
     {
         if !passes {
-            return Tally {
-                passed: self.passed,
-                pieces: self.pieces,
-                off: 0,
-            };
-        }
-        let off = wrapped(self.off + 1, cap);
-        if self.off == 0 {
-            return Tally {
-                passed: self.passed + 1,
-                pieces: self.pieces + 1,
-                off,
-            };
+            return Tally { off: 0, ..self };
         }
         Tally {
             passed: self.passed + 1,
-            pieces: self.pieces,
-            off,
+            pieces: self.pieces + u32::from(self.off == 0),
+            off: wrapped(self.off + 1, cap),
         }
     }
 
-    // 64 places more: the bits of a word, the lowest first.
+    /// 64 places more: the bits of a word, the lowest first.
     // Each of its runs starts a piece, but for one that goes on from before.
     pub fn took_word(self, word: u64, cap: u32) -> Tally
-        requires { (self.passed < 2 ^ 31) × (self.pieces < 2 ^ 31) × (self.off < cap)
-            × (64 ≤ cap) × (cap < 2 ^ 31) }
+        requires passed { self.passed < 2 ^ 31 }
+        requires pieces { self.pieces < 2 ^ 31 }
+        requires off { self.off < cap }
+        requires least { 64 ≤ cap }
+        requires most { cap < 2 ^ 31 }
         ensures { result ≡ took_bits cap self word 64 }
     {
         if word == 0 {
-            return Tally {
-                passed: self.passed,
-                pieces: self.pieces,
-                off: 0,
-            };
+            return Tally { off: 0, ..self };
         }
         let gaps = !word;
         if gaps == 0 {
@@ -70,8 +61,11 @@ impl Tally {
 
     // 64 places more that all pass.
     fn took_whole(self, cap: u32) -> Tally
-        requires { (self.passed < 2 ^ 31) × (self.pieces < 2 ^ 31) × (self.off < cap)
-            × (64 ≤ cap) × (cap < 2 ^ 31) }
+        requires passed { self.passed < 2 ^ 31 }
+        requires pieces { self.pieces < 2 ^ 31 }
+        requires off { self.off < cap }
+        requires least { 64 ≤ cap }
+        requires most { cap < 2 ^ 31 }
         ensures { result ≡ took_bits cap self (2 ^ 64 - 1) 64 }
     {
         let joined = joins(self.off, 64, cap);
@@ -87,35 +81,22 @@ impl Tally {
 fn wrapped(x: u32, cap: u32) -> u32
     ensures { result ≡ wrapped_of x cap }
 {
-    if x == cap {
-        return 0;
-    }
-    x
+    if x == cap { 0 } else { x }
 }
 
 // 1 where an open piece takes in the whole of a row, else 0.
+#[tactic(auto, unfolding(crate::specs::Tally::joins_of))]
 fn joins(off: u32, row: u32, cap: u32) -> u32
     requires { off + row < 2 ^ 32 }
     ensures { result ≡ joins_of off row cap }
 {
-    if off == 0 {
-        return 0;
-    }
-    if row == 0 {
-        return 0;
-    }
-    if cap < off + row {
-        return 0;
-    }
-    1
+    u32::from(off != 0 && row != 0 && off + row <= cap)
 }
 
 // What is open of x that pass in a row, of which cap at most makes a whole piece.
+#[tactic(auto, unfolding(crate::specs::Tally::cut_of))]
 fn cut(x: u32, cap: u32) -> u32
     ensures { result ≡ cut_of x cap }
 {
-    if x < cap {
-        return x;
-    }
-    x - cap
+    if x < cap { x } else { x - cap }
 }

@@ -1,4 +1,5 @@
-// Walks over the map: word by word, place by place, and page by page. The bounds keep the counts in 32 bits.
+// Walks over a map of any length: word by word, place by place, and page by page.
+// The bounds keep the counts in 32 bits.
 ghost use Rattle.std.specs.Prelude.{◌≡◌, ◌+◌, ◌*◌, ◌^◌, ◌<◌, ◌≤◌, length};
 ghost use Rattle.basis.specs.Units.{start_of};
 ghost use Rattle.runs.specs.Map.{named};
@@ -12,61 +13,62 @@ use crate::tally::Tally;
 use crate::words::word;
 use basis::units::{Address, Page};
 
-// What a walk has met of the named bytes and of the touched pages.
-#[derive(Clone, Copy)]
+/// What a walk has met of the named bytes and of the touched pages.
+#[derive(Clone, Copy, Debug, Default, PartialEq, Eq)]
 pub struct Tallies {
     pub bytes: Tally,
     pub pages: Tally,
 }
 
-// From the tally of the words below `from` to that of the words below `to`.
+/// From the tally of the words below `from` to that of the words below `to`.
+#[tactic(auto, using(crate::proofs::WordBits::words))]
 pub fn over_words(map: &[u8], tally: Tally, from: usize, to: usize) -> Tally
-    requires { (from ≤ to) × (8 * to ≤ length map.now) × (to < 2 ^ 24)
-        × (tally ≡ tally_at (named map.now) piece_most (64 * from)) }
+    requires order { from ≤ to }
+    requires end { 8 * to ≤ length map.now }
+    requires small { to < 2 ^ 24 }
+    requires met { tally ≡ tally_at (named map.now) piece_most (64 * from) }
     ensures { result ≡ tally_at (named map.now) piece_most (64 * to) }
 {
     let mut t = tally;
-    let mut i = from;
-    while i < to {
+    for i in from..to {
         t = t.took_word(word(map, 8 * i), PIECE);
-        i += 1;
     }
     t
 }
 
-// From the tally of the addresses below `from` to that of the addresses below `to`.
+/// From the tally of the addresses below `from` to that of the addresses below `to`.
+#[tactic(auto, using(crate::proofs::Tallies::places))]
 pub fn over_places(map: &[u8], tally: Tally, from: Address, to: Address) -> Tally
-    requires { (from.0 ≤ to.0) × (to.0 ≤ 8 * length map.now) × (to.0 < 2 ^ 30)
-        × (tally ≡ tally_at (named map.now) piece_most from.0) }
+    requires order { from.0 ≤ to.0 }
+    requires end { to.0 ≤ 8 * length map.now }
+    requires small { to.0 < 2 ^ 30 }
+    requires met { tally ≡ tally_at (named map.now) piece_most from.0 }
     ensures { result ≡ tally_at (named map.now) piece_most to.0 }
 {
-    let end = to.0;
     let mut t = tally;
-    let mut at = from.0;
-    while at < end {
+    for at in from.0..to.0 {
         t = t.took(named(map, Address(at)), PIECE);
-        at += 1;
     }
     t
 }
 
-// From what a walk has met below the page `from` to what it has met below the page `to`, on a board of so many pages.
+/// From what a walk has met below the page `from` to what it has met below the page `to`, on a board of so many pages.
+#[tactic(auto, using(crate::proofs::Surveys::pages))]
 pub fn over_pages(board: u32, map: &[u8], met: Tallies, from: Page, to: Page) -> Tallies
-    requires { (from.0 ≤ to.0) × (start_of to.0 ≤ 8 * length map.now) × (to.0 < 2 ^ 16) × (0 < board)
-        × (met ≡ tallies_at board map.now from.0) }
+    requires order { from.0 ≤ to.0 }
+    requires end { start_of to.0 ≤ 8 * length map.now }
+    requires small { to.0 < 2 ^ 16 }
+    requires some { 0 < board }
+    requires met { met ≡ tallies_at board map.now from.0 }
     ensures { result ≡ tallies_at board map.now to.0 }
 {
-    let mut bytes = met.bytes;
-    let mut pages = met.pages;
-    let end = to.0;
-    let mut page = from.0;
-    while page < end {
+    let mut t = met;
+    for page in from.0..to.0 {
         // Eight words to a page.
         let first = 8 * (page as usize);
-        let next = over_words(map, bytes, first, first + 8);
-        pages = pages.took(bytes.passed < next.passed, board);
-        bytes = next;
-        page += 1;
+        let bytes = over_words(map, t.bytes, first, first + 8);
+        let pages = t.pages.took(t.bytes.passed < bytes.passed, board);
+        t = Tallies { bytes, pages };
     }
-    Tallies { bytes, pages }
+    t
 }

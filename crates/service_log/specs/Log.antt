@@ -1,18 +1,17 @@
 -- The log record, big-endian: length 0x0008, version 01, outcome, packets acknowledged, packet total, named
 -- bytes (two bytes each); for the long board length 0x000E, version 02 and four bytes each.
-use Rattle.std.specs.Prelude.{ℕ, ◌+◌, ◌*◌, Bool, not, List, [], ◌∷◌, ◌++◌, eqb, leb, ltb, length, get_or}
+use Rattle.std.specs.Prelude.{ℕ, ◌+◌, ◌*◌, Bool, not, List, [], ◌∷◌, ◌++◌, eqb, leb, ltb, length, get_or, Option, Some, None}
 use Rattle.basis.specs.Board.{pages_of, board_of, version_of, count_bytes, log_length, board_logged}
 use Rattle.basis.specs.Choice.{pick, both, either}
 use Rattle.basis.specs.Lists.{pair_at}
 use Rattle.basis.specs.Refusals.{Answer, refused, given, ◌when◌, first, on_board}
 use Rattle.basis.specs.Units.{start_of}
 use Rattle.basis.specs.declared.board.Board.{Board}
-use Rattle.basis.specs.declared.board.Known.{Known}
 use Rattle.basis.specs.declared.kind.RunKind.{RunKind}
 use Rattle.events.specs.Endings.{own_number}
 use Rattle.session.specs.Phases.{ended}
 use Rattle.session.specs.declared.phase.Phase.{Phase}
-use Rattle.session.specs.declared.session.Session.{Session}
+use Rattle.session.specs.Session.{Session}
 use Rattle.service_log.specs.Big.{big_of, big_at, fits_in}
 use Rattle.service_log.specs.declared.read.Record.{Record}
 
@@ -61,9 +60,9 @@ outcome_of kind (Phase.Out s) = 45
 outcome_of kind (Phase.Ended o) = own_number kind o
 
 -- and 45 where there is no such board
-abbrev pub outcome_on : Known → RunKind → Phase → ℕ
-outcome_on Known.Unknown kind phase = 45
-outcome_on (Known.Board b) kind phase = outcome_of kind phase
+abbrev pub outcome_on : Option Board → RunKind → Phase → ℕ
+outcome_on None kind phase = 45
+outcome_on (Some b) kind phase = outcome_of kind phase
 
 abbrev pub logged_outcome_of : Session → ℕ
 logged_outcome_of s = outcome_on (board_of s.board) s.kind s.phase
@@ -126,9 +125,9 @@ read_on b s =
     (given r)
 
 -- 51 where the length field is neither 8 nor 0x000E
-abbrev pub read_by : Known → List ℕ → Answer Record
-read_by Known.Unknown s = refused 51
-read_by (Known.Board b) s = read_on b s
+abbrev pub read_by : Option Board → List ℕ → Answer Record
+read_by None s = refused 51
+read_by (Some b) s = read_on b s
 
 -- reading: 50 under 10 bytes, then by the length field
 unfoldable pub read_of : List ℕ → Answer Record

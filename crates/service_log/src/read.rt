@@ -4,24 +4,29 @@ ghost use Rattle.service_log.specs.Log.{record_size, record_least, record_most, 
 ghost use Rattle.service_log.specs.Paper.{paper_unread, paper_reading};
 
 use crate::big::big_at;
-use crate::truth::is_false;
-use basis::board::{Board, Known};
+use crate::truth::Counts;
+use basis::board::Board;
 use basis::buffers::pair_at;
+use basis::numbered::Numbered;
 
-// No record has fewer bytes, and none more.
+/// No record has fewer bytes.
 pub const LEAST: usize = 10;
 
+/// None has more.
 pub const MOST: usize = 16;
 
-// How many bytes a board's record has: two more than its length field says.
+/// How many bytes a board's record has: two more than its length field says.
 pub fn record_size(board: Board) -> usize
-    ensures { (result ≡ record_size board) × (record_least ≤ result) × (result ≤ record_most) }
+    ensures size { result ≡ record_size board }
+    ensures least { record_least ≤ result }
+    ensures most { result ≤ record_most }
 {
     2 + board.log_length()
 }
 
-// What a session came to: `acknowledged` of `total` packets, over a file of so many bytes.
-#[derive(Clone, Copy)]
+/// What a session came to: `acknowledged` of `total` packets, over a file of so many bytes.
+// The fields stand by themselves, with no `Counts` in it: `read_on` names them.
+#[derive(Clone, Copy, Debug, PartialEq, Eq)]
 pub struct Record {
     pub version: u8,
     pub outcome: u8,
@@ -30,73 +35,68 @@ pub struct Record {
     pub bytes: u32,
 }
 
-#[derive(Clone, Copy)]
-pub enum Reading {
-    Record(Record),
-    Refused(Unread),
-}
-
-// Why an input is no record.
-#[derive(Clone, Copy)]
+/// Why an input is no record.
+#[derive(Clone, Copy, Debug, PartialEq, Eq)]
 pub enum Unread {
-    Short,
-    Length,
-    Version,
-    False,
+    /// It has under 10 bytes.
+    Short = 50,
+    /// Its length field is no board's, or it has not two bytes more than that says.
+    Length = 51,
+    /// Its version is not the length's.
+    Version = 52,
+    /// It is false.
+    False = 53,
 }
 
-impl Unread {
-    // The number in the paper's list.
-    pub fn number(self) -> u32
-        ensures { result ≡ paper_unread self }
-    {
-        match self {
-            Unread::Short => 50,
-            Unread::Length => 51,
-            Unread::Version => 52,
-            Unread::False => 53,
-        }
+impl Numbered for Unread {
+    ghost number_of = { paper_unread };
+
+    /// The number in the paper's list.
+    fn number(self) -> u32 {
+        self as u32
     }
 }
 
-// The length field tells the board.
-pub fn read(input: &[u8]) -> Reading
+/// Reads a record, by the board that its length field tells: 50, 51, 52 or 53 where it is none, in this order.
+#[tactic(auto, unfolding(basis::specs::Refusals::first, crate::specs::Log::read_of))]
+pub fn read(input: &[u8]) -> Result<Record, Unread>
     ensures { paper_reading result ≡ read_of input.now }
 {
     if input.len() < LEAST {
-        return Reading::Refused(Unread::Short);
+        return Err(Unread::Short);
     }
-    match Board::logged(pair_at(input, 0)) {
-        Known::Board(board) => read_on(board, input),
-        Known::Unknown => Reading::Refused(Unread::Length),
-    }
+    let Some(board) = Board::logged(pair_at(input, 0)) else {
+        return Err(Unread::Length);
+    };
+    read_on(board, input)
 }
 
-fn read_on(board: Board, input: &[u8]) -> Reading
+#[tactic(auto, unfolding(basis::specs::Refusals::first, crate::specs::Log::read_on))]
+fn read_on(board: Board, input: &[u8]) -> Result<Record, Unread>
     ensures { paper_reading result ≡ read_on board input.now }
 {
-    let size = record_size(board);
-    let right = board.log_version();
-    let width = board.count_bytes();
-    if input.len() != size {
-        return Reading::Refused(Unread::Length);
+    if input.len() != record_size(board) {
+        return Err(Unread::Length);
     }
     let version = input[2];
-    if version != right {
-        return Reading::Refused(Unread::Version);
+    if version != board.log_version() {
+        return Err(Unread::Version);
     }
-    let outcome = input[3];
-    let acknowledged = big_at(input, 4, width);
-    let total = big_at(input, 4 + width, width);
-    let bytes = big_at(input, 4 + 2 * width, width);
-    if is_false(board, outcome, acknowledged, total, bytes) {
-        return Reading::Refused(Unread::False);
+    let width = board.count_bytes();
+    let counts = Counts {
+        outcome: input[3],
+        acknowledged: big_at(input, 4, width),
+        total: big_at(input, 4 + width, width),
+        bytes: big_at(input, 4 + 2 * width, width),
+    };
+    if counts.is_false(board) {
+        return Err(Unread::False);
     }
-    Reading::Record(Record {
+    Ok(Record {
         version,
-        outcome,
-        acknowledged,
-        total,
-        bytes,
+        outcome: counts.outcome,
+        acknowledged: counts.acknowledged,
+        total: counts.total,
+        bytes: counts.bytes,
     })
 }

@@ -2,19 +2,22 @@
 use Rattle.std.proofs.Common.{ℕ, ◌+◌, ◌*◌, ◌≤◌, ◌<◌, Bool, true, false, List, ◌≡◌, refl, sym, ap, ◌∙◌, arith, eq-eqb, ne_eqb, lt-ltb, le-ltb, eqb, ltb, length}
 use Rattle.basis.specs.Board.{pages_most}
 use Rattle.basis.specs.Choice.{both}
+use Rattle.basis.specs.Laws.Boards.{pages-few, pages-some}
 use Rattle.basis.specs.Units.{start_of, map_bytes}
 use Rattle.basis.specs.declared.kind.RunKind.{RunKind}
 use Rattle.events.specs.Endings.{ends_at, asked}
 use Rattle.order.specs.Laws.Surveys.{Told, told, told-stands, past-stands}
 use Rattle.order.specs.Plan.{r_count, total}
 use Rattle.order.specs.Steps.{stands_by}
+use Rattle.order.specs.declared.step.Step.{Step}
+use Rattle.events.specs.declared.ending.Outcome.{Outcome}
 use Rattle.runs.specs.Pieces.{named_count}
 use Rattle.runs.specs.Survey.{survey_of}
 use Rattle.runs.specs.declared.survey.Surveyed.{Surveyed}
+use Rattle.session.specs.Course as course
 use Rattle.session.specs.Phases.{cursor_of}
-use Rattle.session.specs.Session.{came_at, came_of}
+use Rattle.session.specs.Session.{Session, came_at, came_of}
 use Rattle.session.specs.declared.phase.Phase.{Phase}
-use Rattle.session.specs.declared.session.Session.{Session}
 
 -- a cursor past the board stands nowhere
 module _ (board : ℕ) (some : 0 < board) (m : List ℕ) (long : length m ≡ map_bytes board) where
@@ -25,7 +28,7 @@ module _ (board : ℕ) (some : 0 < board) (m : List ℕ) (long : length m ≡ ma
   past-came kind (Phase.Ended o) k l = absurd (omega arith)
 
   pub fits-past : (s : Session) → start_of board ≤ cursor_of board s.phase → false ≡ came_of board m s
-  unfolding came_of
+  unfolding course.came_of
   fits-past s l =
       sym (last (ltb 0 (named_count board m)) (eqb s.named (named_count board m))
       (eqb s.total (total board m s.kind)) (past-came s.kind s.phase s.acknowledged l))
@@ -58,7 +61,7 @@ module _ (board : ℕ) (few : board ≤ pages_most) (m : List ℕ) (s : Session)
   t = told board few m (cursor_of board s.phase) e
 
   pub fits-empty : f.all.named ≡ 0 → false ≡ came_of board m s
-  unfolding came_of
+  unfolding course.came_of
   fits-empty h = let l : named_count board m ≤ 0 = omega (arith, t.bytes) in rw (le-ltb _ _ l)
 
   module _ (some : f.all.named ≡ 0 → ⊥) where
@@ -66,13 +69,13 @@ module _ (board : ℕ) (few : board ≤ pages_most) (m : List ℕ) (s : Session)
     l = omega (arith, t.bytes)
 
     pub fits-named : (s.named ≡ f.all.named → ⊥) → false ≡ came_of board m s
-    unfolding came_of
+    unfolding course.came_of
     fits-named h = rw (lt-ltb _ _ l, ne_eqb s.named (named_count board m) (λ q. h (q ∙ sym t.bytes)))
 
     module _ (same : s.named ≡ f.all.named) where
       pub fits-total : (n : ℕ) → n ≡ f.all.runs + 2 * f.all.pieces + r_count s.kind → (s.total ≡ n → ⊥)
           → false ≡ came_of board m s
-      unfolding came_of
+      unfolding course.came_of
       fits-total n g h =
           rw (
             lt-ltb _ _ l,
@@ -85,7 +88,7 @@ module _ (board : ℕ) (few : board ≤ pages_most) (m : List ℕ) (s : Session)
           → cursor_of board s.phase < start_of board
           → (ph : Phase) → s.phase ≡ ph
           → came_by f s.kind s.total ph s.acknowledged ≡ came_of board m s
-      unfolding came_of
+      unfolding course.came_of
       fits-place n g h b ph q =
           let all : s.total ≡ total board m s.kind = omega (arith, t.runs, t.pieces) in
           rw (
@@ -95,3 +98,28 @@ module _ (board : ℕ) (few : board ≤ pages_most) (m : List ℕ) (s : Session)
           )
           (ap (λ (x : Phase). came_by f s.kind s.total x s.acknowledged) (sym q)
           ∙ told-came board few m s.kind all s.acknowledged s.phase e b)
+
+      module _ (n : ℕ) (g : n ≡ f.all.runs + 2 * f.all.pieces + r_count s.kind) (h : s.total ≡ n)
+          (b : cursor_of board s.phase < start_of board) where
+        pub fits-greeting : s.phase ≡ Phase.Greeting → eqb s.acknowledged 0 ≡ came_of board m s
+        fits-greeting q = fits-place n g h b Phase.Greeting q
+
+        pub fits-out : (x : Step) → s.phase ≡ Phase.Out x
+            → stands_by f s.kind x s.acknowledged ≡ came_of board m s
+        fits-out x q = fits-place n g h b (Phase.Out x) q
+
+        pub fits-ended : (o : Outcome) → s.phase ≡ Phase.Ended o
+            → ends_at (asked s.kind) s.total o s.acknowledged ≡ came_of board m s
+        fits-ended o q = fits-place n g h b (Phase.Ended o) q
+
+pub ruleset comes = (
+  fits-past,
+  fits-empty,
+  fits-named,
+  fits-total,
+  fits-greeting,
+  fits-out,
+  fits-ended,
+  pages-few,
+  pages-some,
+)

@@ -1,9 +1,10 @@
--- What `marked` decides is what its definition decides.
-use Rattle.std.proofs.Common.{ℕ, ◌+◌, ◌≤◌, ◌<◌, Bool, true, List, ◌≡◌, ap, ◌∙◌, add-one, arith, leb}
+-- What `proved_on` and `marked` decide is what their definitions decide.
+use Rattle.std.specs.Prelude.{leb}
+use Rattle.std.proofs.Common.{ℕ, ◌+◌, ◌≤◌, Bool, true, List, ◌≡◌, ap, ◌∙◌, add-one, arith}
 use Rattle.basis.specs.Board.{pages_most}
 use Rattle.basis.specs.Choice.{pick}
+use Rattle.basis.specs.Laws.Boards.{pages-few}
 use Rattle.basis.specs.Laws.Choice.{decide}
-use Rattle.basis.specs.Units.{start_of}
 use Rattle.order.specs.Marks.{marked}
 use Rattle.runs.specs.Laws.Runs.{count_yes, count_no}
 use Rattle.runs.specs.Map.{named}
@@ -11,7 +12,7 @@ use Rattle.runs.specs.Pieces.{piece_starts}
 use Rattle.runs.specs.Runs.{count}
 use Rattle.runs.specs.Survey.{survey_of}
 use Rattle.runs.specs.declared.survey.Surveyed.{Surveyed}
-use Rattle.order.specs.Laws.Marks.{mark-by}
+use Rattle.order.specs.Laws.Marks.{mark-by, mark-past, mark-unnamed}
 use Rattle.order.specs.Laws.Surveys.{told}
 
 -- `marked`: the survey decides what the definition decides
@@ -42,11 +43,4 @@ module _ (board : ℕ) (m : List ℕ) (k a : ℕ) where
         let t = told board few m a e in
         mark-by board m k a h (omega (arith, t.runs, t.pieces, rank))
 
--- the counts fit
-pub rank-few : (board : ℕ) → board ≤ pages_most → (m : List ℕ) (a : ℕ) {f : Surveyed} {n : ℕ}
-    → f ≡ survey_of board m a → n ≡ pick f.piece 1 0 → a < start_of board
-    → f.below.pieces + n ≤ start_of board
-rank-few board few m a {f} {n} e g l =
-    let k = (told board few m a e).below-few in
-    decide f.piece (λ d. omega (arith, g ∙ ap (λ (b : Bool). pick b 1 0) d))
-    (λ d. omega (arith, g ∙ ap (λ (b : Bool). pick b 1 0) d))
+pub ruleset marks = (mark-past, mark-unnamed, mark-ranked, pages-few)

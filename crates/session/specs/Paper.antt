@@ -1,10 +1,10 @@
 -- The paper's numbers and values for each case of the code's answers.
-use Rattle.basis.specs.Refusals.{Answer, refused, given}
+use Rattle.std.specs.Prelude.{Result}
+use Rattle.basis.specs.Refusals.{Answer, answer_of}
 use Rattle.events.specs.Paper.{paper_refusal}
-use Rattle.session.specs.declared.session.Next.{Next}
-use Rattle.session.specs.declared.session.Stepped.{Stepped}
+use Rattle.events.specs.declared.refusal.Refusal.{Refusal}
+use Rattle.session.specs.declared.state.Next.{Next}
 
 -- the next session with the packet's length, or the refusal
-abbrev pub paper_stepped : Stepped → Answer Next
-paper_stepped (Stepped.Next x) = given x
-paper_stepped (Stepped.Refused x) = refused (paper_refusal x)
+abbrev pub paper_stepped : {P : Type 0} → Result (Next P) Refusal → Answer (Next P)
+paper_stepped = answer_of paper_refusal (λ x. x)

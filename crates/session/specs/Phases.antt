@@ -1,10 +1,10 @@
 -- Where a session stands in the file, and what it does next.
-use Rattle.std.specs.Prelude.{ℕ, Bool, true, false, List, []}
+use Rattle.std.specs.Prelude.{ℕ, Bool, true, false, List, [], Option, Some, None}
 use Rattle.basis.specs.declared.kind.RunKind.{RunKind}
 use Rattle.events.specs.Endings.{asked}
 use Rattle.events.specs.declared.ending.Awaited.{Awaited}
 use Rattle.order.specs.Steps.{packet_of, following_at, first_of, follow_of, at_start, place_of}
-use Rattle.order.specs.declared.cursor.Following.{Following}
+use Rattle.order.specs.declared.step.Step.{Step}
 use Rattle.session.specs.declared.phase.Phase.{Phase}
 
 abbrev pub ended : Phase → Bool
@@ -26,9 +26,9 @@ packet_out board image m kind (Phase.Out s) = packet_of board image m kind s
 packet_out board image m kind (Phase.Ended o) = []
 
 -- what follows is sent; behind the last packet the session ends as was asked
-abbrev pub reached_of : RunKind → Following → Phase
-reached_of kind (Following.Step s) = Phase.Out s
-reached_of kind Following.End = Phase.Ended (asked kind)
+abbrev pub reached_of : RunKind → Option Step → Phase
+reached_of kind (Some s) = Phase.Out s
+reached_of kind None = Phase.Ended (asked kind)
 
 -- the phase after k acknowledgements: the k-th packet of the plan is out, counted from 0, or the session has
 -- ended as was asked

@@ -1,37 +1,58 @@
 -- The session: its start, its steps, and what they have proved.
-use Rattle.std.specs.Prelude.{ℕ, ◌+◌, ◌≤◌, ◌<◌, Bool, not, true, List, [], ◌∷◌, ◌++◌, ◌≡◌, eqb, ltb, length}
-use Rattle.basis.specs.Board.{opening_byte, pages_of, board_of}
-use Rattle.basis.specs.Choice.{pick, both}
-use Rattle.basis.specs.Refusals.{Answer, refused, given, ◌when◌, first, on_board}
+use Rattle.std.specs.Prelude.{ℕ, ◌+◌, ◌≤◌, ◌<◌, Bool, true, List, [], ◌∷◌, ◌++◌, ◌≡◌, eqb, length}
+use Rattle.basis.specs.Choice.{pick}
+use Rattle.basis.specs.Refusals.{Answer}
 use Rattle.basis.specs.Units.{start_of, map_bytes}
-use Rattle.basis.specs.declared.board.Board.{Board}
 use Rattle.basis.specs.declared.kind.RunKind.{RunKind}
-use Rattle.events.specs.Endings.{goes_on, acknowledges, ending_of, failing, ends_at, asked}
-use Rattle.events.specs.Events.{classify_of}
+use Rattle.events.specs.Endings.{failing, ends_at, asked}
 use Rattle.events.specs.declared.ending.Awaited.{Awaited}
 use Rattle.events.specs.declared.ending.Outcome.{Outcome}
 use Rattle.events.specs.declared.event.Event.{Event}
-use Rattle.order.specs.Marks.{marked}
 use Rattle.order.specs.Plan.{before_r, total}
-use Rattle.order.specs.Sizes.{right_sizes}
 use Rattle.order.specs.Steps.{step_at, stands_at, verify_at}
 use Rattle.runs.specs.Pieces.{named_count, piece_len}
+use Rattle.session.specs.Course as course
+use Rattle.session.specs.Course.{Keeping}
 use Rattle.session.specs.Phases.{ended, packet_out, after_of, awaits_of}
 use Rattle.session.specs.declared.phase.Phase.{Phase}
-use Rattle.session.specs.declared.session.Next.{Next}
-use Rattle.session.specs.declared.session.Session.{Session}
+use Rattle.session.specs.declared.state.Next as state
+use Rattle.session.specs.declared.state.State.{State}
+
+-- the session whose place in the file is a cursor
+abbrev pub Session : Type 0
+Session = State Phase
+
+abbrev pub Sent : Type 0
+Sent = course.Sent Phase
+
+-- its next state, with the length of the packet
+abbrev pub Next : Type 0
+Next = state.Next Phase
+
+-- a start and events over the file lead to such a phase, with k packets acknowledged:
+-- none where the greeting is awaited; the packet that is out is the k-th of the file;
+-- one that has ended is an ending that k acknowledgements allow
+abbrev pub came_at : ℕ → List ℕ → RunKind → Phase → ℕ → Bool
+came_at board m kind Phase.Greeting k = eqb k 0
+came_at board m kind (Phase.Out s) k = stands_at board m kind s k
+came_at board m kind (Phase.Ended o) k = ends_at (asked kind) (total board m kind) o k
+
+-- how it keeps its place: the right answer brings the cursor to the next step
+abbrev pub quick : Keeping Phase
+quick =
+    record {
+      waiting = Phase.Greeting;
+      over = Phase.Ended;
+      ended = ended;
+      awaits = awaits_of;
+      stands = λ board m s. came_at board m s.kind s.phase s.acknowledged;
+      after = λ board m s n. after_of board m s.kind s.phase;
+      out = λ board image m kind phase k. packet_out board image m kind phase;
+    }
 
 -- a session over a file, in a phase and with so many packets acknowledged
 abbrev pub session_with : ℕ → List ℕ → RunKind → Phase → ℕ → Session
-session_with board m kind phase k =
-    record {
-      board = board;
-      kind = kind;
-      phase = phase;
-      acknowledged = k;
-      total = total board m kind;
-      named = named_count board m;
-    }
+session_with = course.state_with
 
 -- it waits for the greeting; or k packets are acknowledged and the next is out; or it has ended as was asked
 abbrev pub at_greeting : ℕ → List ℕ → RunKind → Session
@@ -43,112 +64,62 @@ state_at board m kind k = session_with board m kind (Phase.Out (step_at board m 
 abbrev pub as_asked : ℕ → List ℕ → RunKind → Session
 as_asked board m kind = session_with board m kind (Phase.Ended (asked kind)) (total board m kind)
 
--- a session, and the packet that it sends
-pub record Sent : Type 0 where
-  pub session : Session
-  pub packet : List ℕ
-
 -- how long the packet is, and which bytes are written
 abbrev pub measured : Answer Sent → Answer Next
-measured (refused n) = refused n
-measured (given x) = given (record { session = x.session; len = length x.packet })
+measured = course.measured
 
 abbrev pub sent_bytes : Answer Sent → List ℕ
-sent_bytes (refused n) = []
-sent_bytes (given x) = x.packet
+sent_bytes = course.sent_bytes
 
 -- start: 20, 32 for an empty map, else the single byte 08 and the session that waits for the greeting
-unfoldable pub started : ℕ → List ℕ → List ℕ → ℕ → RunKind → Answer Sent
-started board image m room kind =
-    first
-    (20 when not (right_sizes board (length image) (length m) room)
-    ∷ 32 when eqb (named_count board m) 0 ∷ [])
-    (given (record { session = at_greeting board m kind; packet = opening_byte ∷ [] }))
+abbrev pub started : ℕ → List ℕ → List ℕ → ℕ → RunKind → Answer Sent
+started = course.started quick
 
--- the session in another phase, with so many more acknowledged
+-- the session in another phase, with so many more acknowledged; ended by an event that was not awaited; and
+-- where the event awaited goes on along the file, and all else ends it
 abbrev pub moved_of : Session → Phase → ℕ → Session
-moved_of s phase n =
-    record {
-      board = s.board;
-      kind = s.kind;
-      phase = phase;
-      acknowledged = s.acknowledged + n;
-      total = s.total;
-      named = s.named;
-    }
+moved_of = course.moved_of
 
--- the session ends by an event that was not awaited
 abbrev pub over_of : Session → Awaited → Event → Session
-over_of s w e = moved_of s (Phase.Ended (ending_of w e)) 0
+over_of = course.over_of quick
 
--- the event awaited goes on along the file, and all else ends the session
 abbrev pub heard_by : ℕ → List ℕ → Session → Awaited → Event → Session
-heard_by board m s w e =
-    pick (goes_on w e) (moved_of s (after_of board m s.kind s.phase) (acknowledges w)) (over_of s w e)
+heard_by = course.heard_by quick
 
 -- the session after an event, and with the packet that it sends
-unfoldable pub took_of : ℕ → List ℕ → Session → Event → Session
-took_of board m s e = heard_by board m s (awaits_of s.phase) e
+abbrev pub took_of : ℕ → List ℕ → Session → Event → Session
+took_of = course.took_of quick
 
 abbrev pub sent_of : ℕ → List ℕ → List ℕ → Session → Event → Sent
-sent_of board image m s e =
-    record {
-      session = took_of board m s e;
-      packet = packet_out board image m s.kind (took_of board m s e).phase;
-    }
+sent_of = course.sent_of quick
 
--- a start and events over the file lead to such a phase, with k packets acknowledged:
--- none where the greeting is awaited; the packet that is out is the k-th of the file;
--- one that has ended is an ending that k acknowledgements allow
-abbrev pub came_at : ℕ → List ℕ → RunKind → Phase → ℕ → Bool
-came_at board m kind Phase.Greeting k = eqb k 0
-came_at board m kind (Phase.Out s) k = stands_at board m kind s k
-came_at board m kind (Phase.Ended o) k = ends_at (asked kind) (total board m kind) o k
+-- a start and events over the file lead to such a session; and it is on its own board
+abbrev pub came_of : ℕ → List ℕ → Session → Bool
+came_of = course.came_of quick
 
--- a start and events over the file lead to such a session:
--- the file names a byte, the counts are the file's, and the phase is one to which they lead
-unfoldable pub came_of : ℕ → List ℕ → Session → Bool
-came_of board m s =
-    both (ltb 0 (named_count board m))
-    (both (eqb s.named (named_count board m))
-    (both (eqb s.total (total board m s.kind))
-    (came_at board m s.kind s.phase s.acknowledged)))
+abbrev pub fits_of : ℕ → List ℕ → Session → Bool
+fits_of = course.fits_of quick
 
--- such a session, and on its own board
-unfoldable pub fits_of : ℕ → List ℕ → Session → Bool
-fits_of board m s = both (eqb s.board board) (came_of board m s)
+-- a step: 20, 44 after the end, 46 for a file that is not the session's, else the event is taken;
+-- and by the board that the session carries: 65 first
+abbrev pub step_of : ℕ → List ℕ → List ℕ → ℕ → Session → Event → Answer Sent
+step_of = course.step_of quick
 
--- a step: 20, 44 after the end, 46 for a file that is not the session's, else the event is taken
-unfoldable pub step_of : ℕ → List ℕ → List ℕ → ℕ → Session → Event → Answer Sent
-step_of board image m room s e =
-    first
-    (20 when not (right_sizes board (length image) (length m) room)
-    ∷ 44 when ended s.phase
-    ∷ 46 when not (fits_of board m s) ∷ [])
-    (given (sent_of board image m s e))
-
--- a session carries its board: 65 where there is no such board, else a step on it, by its greeting
 abbrev pub step_by : List ℕ → List ℕ → ℕ → Session → Bool → List ℕ → Answer Sent
-step_by image m room s silent answer =
-    on_board (board_of s.board)
-    (λ (b : Board). step_of (pages_of b) image m room s (classify_of (pages_of b) silent answer))
+step_by = course.step_by quick
 
 -- a series of events over one file; one after the end changes nothing
 unfoldable pub series : ℕ → List ℕ → Session → List Event → Session
 series board m s [] = s
 series board m s (e ∷ es) = series board m (pick (ended s.phase) s (took_of board m s e)) es
 
--- asking for a mark: 20 for a map of another size, 46 for a file that is not the session's
-unfoldable pub proved_of : ℕ → List ℕ → Session → ℕ → Answer Bool
-proved_of board m s a =
-    first
-    (20 when not (eqb (length m) (map_bytes board))
-    ∷ 46 when not (fits_of board m s) ∷ [])
-    (given (marked board m s.acknowledged a))
-
+-- asking for a mark: 20 for a map of another size, 46 for a file that is not the session's;
 -- and by the board that the session carries: 65 first
+abbrev pub proved_of : ℕ → List ℕ → Session → ℕ → Answer Bool
+proved_of = course.proved_of quick
+
 abbrev pub proved_by : List ℕ → Session → ℕ → Answer Bool
-proved_by m s a = on_board (board_of s.board) (λ (b : Board). proved_of (pages_of b) m s a)
+proved_by = course.proved_by quick
 
 -- ---- what the laws speak by
 

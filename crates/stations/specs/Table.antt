@@ -1,5 +1,5 @@
 -- The table: 64 places of 16 bytes. A place has a record at its start and 0 behind it; a free one is all 0.
-use Rattle.std.specs.Prelude.{ℕ, zero, suc, ◌+◌, ◌*◌, Bool, true, false, not, List, [], ◌∷◌, ◌++◌, eqb, leb, ltb, length, take, drop, replicate}
+use Rattle.std.specs.Prelude.{◌≡◌, ℕ, zero, suc, ◌+◌, ◌*◌, ◌≤◌, ◌<◌, Option, Some, None, Bool, true, false, not, List, [], ◌∷◌, ◌++◌, eqb, leb, ltb, length, take, drop, replicate}
 use Rattle.basis.specs.Choice.{pick, both}
 use Rattle.basis.specs.Lists.{pair_at, copy_of}
 use Rattle.basis.specs.Refusals.{Answer, refused, given, ◌when◌, first}
@@ -71,6 +71,11 @@ suits_at t w i = suits w (standing_at t i)
 -- the lowest such place, or 64 where there is none
 abbrev pub lowest_of : List ℕ → Sought → ℕ
 lowest_of t w = next (suits_at t w) 0 places
+
+-- what a search for a place gives: place i, or none where i is 64
+abbrev pub IsPlace : ℕ → Option ℕ → Type 0
+IsPlace i None = places ≤ i
+IsPlace i (Some j) = (j ≡ i) × (j < places)
 
 -- looking at a place: 60 for a table of another size, and for a place past 63
 unfoldable pub look_of : List ℕ → ℕ → Answer Standing

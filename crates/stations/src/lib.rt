@@ -1,4 +1,4 @@
-// Station settings: a station, its record in two versions, and a table of 64 places.
+//! Station settings: a station, its record in two versions, and a table of 64 places.
 #![tactic(auto)]
 
 pub mod record;

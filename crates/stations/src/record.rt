@@ -1,60 +1,50 @@
 // A station's record: read, and written in the version that it needs.
-ghost use Rattle.std.specs.Prelude.{◌≡◌, ◌≤◌, ◌<◌, length, get_or};
+ghost use Rattle.std.specs.Prelude.{◌≡◌, ◌≤◌, ◌<◌, length, get_or, IfOk};
 ghost use Rattle.basis.specs.Lists.{overlay};
 ghost use Rattle.basis.specs.Refusals.{counted, written};
-ghost use Rattle.stations.specs.Paper.{paper_reading, paper_written};
-ghost use Rattle.stations.specs.Station.{follows_of, fields_of, last_of, read_of, written_version, bytes_of, write_of};
+ghost use Rattle.stations.specs.Paper.{paper_answer};
+ghost use Rattle.stations.specs.Station.{follows_of, fields_of, last_of, read_of, written_version, write_of};
 
 use crate::station::{LAST_PAGE, Refusal, Station, is_version};
 use basis::buffers::{pair_at, write as put};
 use basis::units::Page;
 
-#[derive(Clone, Copy)]
-pub enum Reading {
-    Station(Station),
-    Refused(Refusal),
-}
-
-#[derive(Clone, Copy)]
-pub enum Written {
-    // The record's length.
-    Record(usize),
-    Refused(Refusal),
-}
-
-// The length of what follows the length field.
-fn follows(version: u32) -> usize
-    ensures { (result ≡ follows_of version) × (6 ≤ result) × (result ≤ 7) }
+// How many bytes follow the length field.
+fn follows(version: u32) -> u16
+    ensures length { result ≡ follows_of version }
+    ensures least { 6 ≤ result }
+    ensures most { result ≤ 7 }
 {
-    if version == 1 {
-        return 6;
-    }
-    7
+    if version == 1 { 6 } else { 7 }
 }
 
-pub fn read(input: &[u8]) -> Reading
-    ensures { paper_reading result ≡ read_of input.now }
+/// The station that a record tells. 63 for what is no record, or has a field out of range; 62 for another version.
+#[tactic(auto, unfolding(basis::specs::Refusals::first, crate::specs::Station::read_of))]
+pub fn read(input: &[u8]) -> Result<Station, Refusal>
+    ensures answer { paper_answer result ≡ read_of input.now }
+    ensures most { IfOk result (λ s. length input.now ≤ 9) }
 {
     if input.len() < 3 {
-        return Reading::Refused(Refusal::Unfit);
+        return Err(Refusal::Unfit);
     }
     let station = fields(input);
     if !is_version(station.version) {
-        return Reading::Refused(Refusal::Version);
+        return Err(Refusal::Version);
     }
-    let length = pair_at(input, 0) as usize;
+    let length = pair_at(input, 0);
     if length != follows(station.version) {
-        return Reading::Refused(Refusal::Unfit);
+        return Err(Refusal::Unfit);
     }
-    if input.len() != 2 + length {
-        return Reading::Refused(Refusal::Unfit);
+    if input.len() != 2 + usize::from(length) {
+        return Err(Refusal::Unfit);
     }
     if station.out_of_range() {
-        return Reading::Refused(Refusal::Unfit);
+        return Err(Refusal::Unfit);
     }
-    Reading::Station(station)
+    Ok(station)
 }
 
+// Each field where it stands, 0 where the input ends before it.
 fn fields(input: &[u8]) -> Station
     ensures { result ≡ fields_of input.now }
 {
@@ -80,66 +70,55 @@ fn last_of(input: &[u8]) -> u32
 
 // The byte at a place, or 0 where there is none.
 fn byte_at(bytes: &[u8], at: usize) -> u32
-    ensures { (result ≡ get_or bytes.now at 0) × (result < 256) }
+    ensures byte { result ≡ get_or bytes.now at 0 }
+    ensures most { result < 256 }
 {
-    if bytes.len() <= at {
-        return 0;
-    }
-    bytes[at] as u32
+    u32::from(bytes.get(at).copied().unwrap_or(0))
 }
 
-pub fn write(station: Station, buffer: &mut [u8]) -> Written
-    ensures { let b = write_of (length buffer.old) station in
-        (paper_written result ≡ counted b) × (buffer.new ≡ overlay (written b) buffer.old) }
+/// Writes the station's record at the buffer's start, and gives its length, 8 bytes or 9. 20 for a buffer too short
+/// for that, 62 for an unknown version, 63 for a field out of range: then the buffer stays as it was.
+#[tactic(auto, unfolding(basis::specs::Refusals::first, crate::specs::Station::write_of), using(crate::proofs::Fields::records))]
+pub fn write(station: Station, buffer: &mut [u8]) -> Result<usize, Refusal>
+    ensures answer { paper_answer result ≡ counted (write_of (length buffer.old) station) }
+    ensures bytes { buffer.new ≡ overlay (written (write_of (length buffer.old) station)) buffer.old }
 {
-    let size = 2 + follows(written_version(station));
+    let version = written_version(station);
+    let right = follows(version);
+    let size = 2 + usize::from(right);
     if buffer.len() < size {
-        return Written::Refused(Refusal::Size);
+        return Err(Refusal::Size);
     }
     if !is_version(station.version) {
-        return Written::Refused(Refusal::Version);
+        return Err(Refusal::Version);
     }
     if station.out_of_range() {
-        return Written::Refused(Refusal::Unfit);
+        return Err(Refusal::Unfit);
     }
-    let bytes = bytes_of(station);
+    let [high, low] = (station.number as u16).to_be_bytes();
+    // All that a record can have; one of version 1 has no last page.
+    let bytes = [
+        0,
+        right as u8,
+        version as u8,
+        high,
+        low,
+        station.run as u8,
+        station.rules as u8,
+        station.first.0 as u8,
+        station.last.0 as u8,
+    ];
     put(buffer, &bytes[..size]);
-    Written::Record(size)
+    Ok(size)
 }
 
 // A station of version 1 stays one while its last page is the one that such a record reads as.
 fn written_version(station: Station) -> u32
-    ensures { (result ≡ written_version station) × (result ≤ 2) }
+    ensures version { result ≡ written_version station }
+    ensures most { result ≤ 2 }
 {
-    let last = station.last;
-    if station.version != 1 {
-        return 2;
+    if station.version == 1 && station.last.0 == LAST_PAGE {
+        return 1;
     }
-    if last.0 != LAST_PAGE {
-        return 2;
-    }
-    1
-}
-
-// All that a record can have; one of version 1 has no last page.
-fn bytes_of(station: Station) -> [u8; 9]
-    requires { (station.number < 65536) × (station.run < 256) × (station.rules < 256)
-        × (station.first.0 < 256) × (station.last.0 < 256) }
-    ensures { result ≡ bytes_of station }
-{
-    let version = written_version(station);
-    let right = follows(version);
-    let first = station.first;
-    let last = station.last;
-    [
-        0,
-        right as u8,
-        version as u8,
-        (station.number / 256) as u8,
-        (station.number % 256) as u8,
-        station.run as u8,
-        station.rules as u8,
-        first.0 as u8,
-        last.0 as u8,
-    ]
+    2
 }

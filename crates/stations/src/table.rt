@@ -1,12 +1,10 @@
 // The table: 64 places in lent bytes, each with a record at its start and 0 behind it, or free, or damaged.
-ghost use Rattle.std.specs.Prelude.{◌≡◌, ◌<◌, length, drop};
-ghost use Rattle.basis.specs.Refusals.{given, bare};
-ghost use Rattle.stations.specs.Paper.{paper_reading, paper_looked, paper_stored, paper_done};
-ghost use Rattle.stations.specs.Station.{read_of};
-ghost use Rattle.stations.specs.Table.{places, place_size, table_size, blank, standing_of, standing_at, suits, suits_at, lowest_of, look_of, station_in, list_of, find_of, freed_at, place_for, store_of, after_store, freed_if, freed_from, delete_of, free_of, empty_of, table_after};
-ghost use Rattle.stations.specs.declared.table.Sought.{Sought};
+ghost use Rattle.std.specs.Prelude.{◌≡◌, ◌<◌, length};
+ghost use Rattle.basis.specs.Refusals.{bare};
+ghost use Rattle.stations.specs.Paper.{paper_answer};
+ghost use Rattle.stations.specs.Table.{places, place_size, blank, standing_of, standing_at, suits, lowest_of, IsPlace, look_of, list_of, find_of, freed_at, place_for, store_of, after_store, freed_from, delete_of, free_of, empty_of, table_after};
 
-use crate::record::{Reading, read};
+use crate::record::read;
 use crate::station::{Refusal, Station};
 use basis::buffers::{copy, fill, first, pair_at};
 
@@ -16,277 +14,215 @@ const PLACE: usize = 16;
 
 const TABLE: usize = 1024;
 
-// What is at a place.
-#[derive(Clone, Copy)]
+/// What is at a place.
+#[derive(Clone, Copy, Debug, PartialEq, Eq)]
 pub enum Standing {
+    /// Every byte is 0.
     Free,
+    /// A record, and 0 behind it.
     Station(Station),
+    /// Anything else, as a record of a later version.
     Damaged,
 }
 
-// What a place is sought for.
-#[derive(Clone, Copy)]
+// What a place is sought for. No `Option`: `None` would not say that a free place is sought, and the laws of storing
+// and of deleting name both cases.
+#[derive(Clone, Copy, Debug, PartialEq, Eq)]
 enum Sought {
     Free,
     Number(u32),
 }
 
-#[derive(Clone, Copy)]
-pub enum Looked {
-    Place(Standing),
-    Refused(Refusal),
-}
-
-#[derive(Clone, Copy)]
-pub enum Stored {
-    // Where the record is.
-    Place(u32),
-    Refused(Refusal),
-}
-
-#[derive(Clone, Copy)]
-pub enum Done {
-    Done,
-    Refused(Refusal),
-}
-
-pub fn empty(table: &mut [u8]) -> Done
-    ensures { let a = empty_of table.old in
-        (paper_done result ≡ bare a) × (table.new ≡ table_after table.old a) }
+/// Makes all 64 places free. 20 for bytes that are not 1,024: they stay as they were.
+#[tactic(auto, using(crate::proofs::Turns::empties))]
+pub fn empty(table: &mut [u8]) -> Result<(), Refusal>
+    ensures answer { paper_answer result ≡ bare (empty_of table.old) }
+    ensures table { table.new ≡ table_after table.old (empty_of table.old) }
 {
-    if table.len() != TABLE {
-        return Done::Refused(Refusal::Size);
-    }
+    let Some(table) = table.as_mut_array::<TABLE>() else {
+        return Err(Refusal::Size);
+    };
     fill(table, 0, TABLE, 0);
-    Done::Done
+    Ok(())
 }
 
-pub fn look(table: &[u8], place: u32) -> Looked
-    ensures { paper_looked result ≡ look_of table.now place }
+/// What is at a place, 0 to 63. 60 for a place past the last, and for a table of another size.
+#[tactic(auto, unfolding(basis::specs::Refusals::first, crate::specs::Table::look_of))]
+pub fn look(table: &[u8], place: u32) -> Result<Standing, Refusal>
+    ensures { paper_answer result ≡ look_of table.now place }
 {
-    if table.len() != TABLE {
-        return Looked::Refused(Refusal::Unknown);
-    }
+    let table = table.as_array().ok_or(Refusal::Unknown)?;
     if PLACES <= place {
-        return Looked::Refused(Refusal::Unknown);
+        return Err(Refusal::Unknown);
     }
-    Looked::Place(standing_at(table, place))
+    Ok(standing_at(table, place))
 }
 
-// The station at a place.
-pub fn list(table: &[u8], place: u32) -> Reading
-    ensures { paper_reading result ≡ list_of table.now place }
+/// The station at a place. 60 where none is, and as for `look`.
+pub fn list(table: &[u8], place: u32) -> Result<Station, Refusal>
+    ensures { paper_answer result ≡ list_of table.now place }
 {
-    match look(table, place) {
-        Looked::Place(standing) => station_in(standing),
-        Looked::Refused(why) => Reading::Refused(why),
-    }
+    let Standing::Station(station) = look(table, place)? else {
+        return Err(Refusal::Unknown);
+    };
+    Ok(station)
 }
 
-// The station that holds a number.
-pub fn find(table: &[u8], number: u32) -> Reading
-    ensures { paper_reading result ≡ find_of table.now number }
+/// The station that holds a number: that of the lowest place with the number. 60 where no place has it, and for a
+/// table of another size.
+#[tactic(auto, unfolding(basis::specs::Refusals::first, crate::specs::Table::find_of, crate::specs::Table::look_of))]
+pub fn find(table: &[u8], number: u32) -> Result<Station, Refusal>
+    ensures { paper_answer result ≡ find_of table.now number }
 {
-    if table.len() != TABLE {
-        return Reading::Refused(Refusal::Unknown);
-    }
-    list(table, lowest(table, Sought::Number(number)))
+    let table = table.as_array().ok_or(Refusal::Unknown)?;
+    let place = lowest(table, Sought::Number(number)).ok_or(Refusal::Unknown)?;
+    list(table, place)
 }
 
-// The record replaces that of its number, or goes to the lowest free place.
-pub fn store(table: &mut [u8], input: &[u8]) -> Stored
-    ensures { let a = store_of table.old input.now in
-        (paper_stored result ≡ a)
-        × (table.new ≡ after_store table.old input.now a) }
+/// Stores a record as it came, and gives its place: it replaces that of its number, or goes to the lowest free place.
+/// 20 for a table of another size, 62 and 63 as for `read`, 61 where no place is free: the table stays as it was.
+#[tactic(auto, using(crate::proofs::Turns::stores))]
+pub fn store(table: &mut [u8], input: &[u8]) -> Result<u32, Refusal>
+    ensures answer { paper_answer result ≡ store_of table.old input.now }
+    ensures table { table.new ≡ after_store table.old input.now (store_of table.old input.now) }
 {
-    if table.len() != TABLE {
-        return Stored::Refused(Refusal::Size);
-    }
-    match read(input) {
-        Reading::Station(station) => store_read(table, station, input),
-        Reading::Refused(why) => Stored::Refused(why),
-    }
+    let Some(table) = table.as_mut_array() else {
+        return Err(Refusal::Size);
+    };
+    let station = read(input)?;
+    let Some(place) = place_for(table, station.number) else {
+        return Err(Refusal::Full);
+    };
+    clear(table, place);
+    copy(table, PLACE * place as usize, input);
+    Ok(place)
 }
 
-// Frees every place that has the number.
-pub fn delete(table: &mut [u8], number: u32) -> Done
-    ensures { let a = delete_of table.old number in
-        (paper_done result ≡ bare a) × (table.new ≡ table_after table.old a) }
+/// Frees every place that has the number. 60 where none has it, and for a table of another size: the table stays as
+/// it was.
+#[tactic(auto, using(crate::proofs::Turns::deletes))]
+pub fn delete(table: &mut [u8], number: u32) -> Result<(), Refusal>
+    ensures answer { paper_answer result ≡ bare (delete_of table.old number) }
+    ensures table { table.new ≡ table_after table.old (delete_of table.old number) }
 {
-    if table.len() != TABLE {
-        return Done::Refused(Refusal::Unknown);
-    }
-    if PLACES <= lowest(table, Sought::Number(number)) {
-        return Done::Refused(Refusal::Unknown);
-    }
+    let Some(table) = table.as_mut_array() else {
+        return Err(Refusal::Unknown);
+    };
+    let Some(_) = lowest(table, Sought::Number(number)) else {
+        return Err(Refusal::Unknown);
+    };
     free_each(table, number);
-    Done::Done
+    Ok(())
 }
 
-// Frees a place that has a station, or is damaged.
-pub fn free(table: &mut [u8], place: u32) -> Done
-    ensures { let a = free_of table.old place in
-        (paper_done result ≡ bare a) × (table.new ≡ table_after table.old a) }
+/// Frees a place that has a station, or is damaged. 60 for one that is free, and as for `look`: the table stays as it
+/// was.
+#[tactic(auto, using(crate::proofs::Turns::clears))]
+pub fn free(table: &mut [u8], place: u32) -> Result<(), Refusal>
+    ensures answer { paper_answer result ≡ bare (free_of table.old place) }
+    ensures table { table.new ≡ table_after table.old (free_of table.old place) }
 {
-    if table.len() != TABLE {
-        return Done::Refused(Refusal::Unknown);
-    }
+    let Some(table) = table.as_mut_array() else {
+        return Err(Refusal::Unknown);
+    };
     if PLACES <= place {
-        return Done::Refused(Refusal::Unknown);
+        return Err(Refusal::Unknown);
     }
-    if suits_at(table, place, Sought::Free) {
-        return Done::Refused(Refusal::Unknown);
+    if standing_at(table, place).suits(Sought::Free) {
+        return Err(Refusal::Unknown);
     }
     clear(table, place);
-    Done::Done
+    Ok(())
 }
 
-fn station_in(standing: Standing) -> Reading
-    ensures { paper_reading result ≡ station_in (given standing) }
-{
-    match standing {
-        Standing::Free => Reading::Refused(Refusal::Unknown),
-        Standing::Station(station) => Reading::Station(station),
-        Standing::Damaged => Reading::Refused(Refusal::Unknown),
+impl Standing {
+    fn suits(self, sought: Sought) -> bool
+        ensures { result ≡ suits sought self }
+    {
+        match sought {
+            Sought::Free => self == Standing::Free,
+            Sought::Number(number) => matches!(self, Standing::Station(s) if s.number == number),
+        }
     }
 }
 
-fn standing_at(table: &[u8], place: u32) -> Standing
-    requires { (length table.now ≡ table_size) × (place < places) }
+fn standing_at(table: &[u8; TABLE], place: u32) -> Standing
+    requires { place < places }
     ensures { result ≡ standing_at table.now place }
 {
     let at = PLACE * place as usize;
-    standing_by(&table[at..at + PLACE])
+    standing_of(&table[at..at + PLACE])
 }
 
 // A record is as long as its length field says.
-fn standing_by(place: &[u8]) -> Standing
+#[tactic(auto, unfolding(crate::specs::Table::standing_of))]
+fn standing_of(place: &[u8]) -> Standing
     requires { length place.now ≡ place_size }
     ensures { result ≡ standing_of place.now }
 {
-    if is_blank(place, 0) {
+    if is_blank(place) {
         return Standing::Free;
     }
-    let len = 2 + pair_at(place, 0) as usize;
-    if !is_blank(place, len) {
+    let len = 2 + usize::from(pair_at(place, 0));
+    if !is_blank(place.get(len..).unwrap_or(&[])) {
         return Standing::Damaged;
     }
     match read(first(place, len)) {
-        Reading::Station(station) => Standing::Station(station),
-        Reading::Refused(_) => Standing::Damaged,
+        Ok(station) => Standing::Station(station),
+        Err(_) => Standing::Damaged,
     }
 }
 
-// Whether all bytes from a place on are 0.
-fn is_blank(bytes: &[u8], from: usize) -> bool
-    ensures { result ≡ blank (drop from bytes.now) }
+// Whether every byte is 0.
+#[tactic(auto, using(crate::proofs::Turns::blanks))]
+fn is_blank(bytes: &[u8]) -> bool
+    ensures { result ≡ blank bytes.now }
 {
-    let mut i = from;
-    while i < bytes.len() {
-        if bytes[i] != 0 {
+    // A `for`: `blank` is a recursion, which `all` leaves open.
+    for b in bytes {
+        if *b != 0 {
             return false;
         }
-        i += 1;
     }
     true
 }
 
-// The lowest place that suits, or 64.
-fn lowest(table: &[u8], sought: Sought) -> u32
-    requires { length table.now ≡ table_size }
-    ensures { result ≡ lowest_of table.now sought }
+// The lowest place that suits.
+#[tactic(auto, using(runs::proofs::Turns::searches))]
+fn lowest(table: &[u8; TABLE], sought: Sought) -> Option<u32>
+    ensures { IsPlace (lowest_of table.now sought) result }
 {
-    let mut place: u32 = 0;
-    while place < PLACES {
-        if suits_at(table, place, sought) {
-            return place;
+    for place in 0..PLACES {
+        if standing_at(table, place).suits(sought) {
+            return Some(place);
         }
-        place += 1;
     }
-    place
-}
-
-fn suits_at(table: &[u8], place: u32, sought: Sought) -> bool
-    requires { (length table.now ≡ table_size) × (place < places) }
-    ensures { result ≡ suits_at table.now sought place }
-{
-    let standing = standing_at(table, place);
-    match sought {
-        Sought::Free => is_free(standing),
-        Sought::Number(number) => has(standing, number),
-    }
-}
-
-fn is_free(standing: Standing) -> bool
-    ensures { result ≡ suits Sought.Free standing }
-{
-    match standing {
-        Standing::Free => true,
-        Standing::Station(_) => false,
-        Standing::Damaged => false,
-    }
-}
-
-fn has(standing: Standing, number: u32) -> bool
-    ensures { result ≡ suits (Sought.Number number) standing }
-{
-    match standing {
-        Standing::Free => false,
-        Standing::Station(station) => station.number == number,
-        Standing::Damaged => false,
-    }
-}
-
-// What was read is stored as it came.
-fn store_read(table: &mut [u8], station: Station, input: &[u8]) -> Stored
-    requires { (length table.old ≡ table_size) × (read_of input.now ≡ given station) }
-    ensures { let a = store_of table.old input.now in
-        (paper_stored result ≡ a)
-        × (table.new ≡ after_store table.old input.now a) }
-{
-    let place = place_for(table, station.number);
-    if PLACES <= place {
-        return Stored::Refused(Refusal::Full);
-    }
-    clear(table, place);
-    copy(table, PLACE * place as usize, input);
-    Stored::Place(place)
+    None
 }
 
 // A number that is held keeps its place.
-fn place_for(table: &[u8], number: u32) -> u32
-    requires { length table.now ≡ table_size }
-    ensures { result ≡ place_for table.now number }
+fn place_for(table: &[u8; TABLE], number: u32) -> Option<u32>
+    ensures { IsPlace (place_for table.now number) result }
 {
-    let held = lowest(table, Sought::Number(number));
-    if held < PLACES {
-        return held;
+    if let Some(held) = lowest(table, Sought::Number(number)) {
+        return Some(held);
     }
     lowest(table, Sought::Free)
 }
 
-fn free_each(table: &mut [u8], number: u32)
-    requires { length table.old ≡ table_size }
+#[tactic(auto, using(crate::proofs::Turns::frees))]
+fn free_each(table: &mut [u8; TABLE], number: u32)
     ensures { table.new ≡ freed_from table.old number 0 places }
 {
-    let mut place: u32 = 0;
-    while place < PLACES {
-        free_if(table, place, number);
-        place += 1;
+    for place in 0..PLACES {
+        if standing_at(table, place).suits(Sought::Number(number)) {
+            clear(table, place);
+        }
     }
 }
 
-fn free_if(table: &mut [u8], place: u32, number: u32)
-    requires { (length table.old ≡ table_size) × (place < places) }
-    ensures { table.new ≡ freed_if table.old number place }
-{
-    if suits_at(table, place, Sought::Number(number)) {
-        clear(table, place);
-    }
-}
-
-fn clear(table: &mut [u8], place: u32)
-    requires { (length table.old ≡ table_size) × (place < places) }
+fn clear(table: &mut [u8; TABLE], place: u32)
+    requires { place < places }
     ensures { table.new ≡ freed_at table.old place }
 {
     fill(table, PLACE * place as usize, PLACE, 0);

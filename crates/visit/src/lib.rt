@@ -1,4 +1,4 @@
-// What is done for a station: its file opened under its rule set, its session started within its bounds.
+//! What is done for a station: its file opened under its rule set, its session started within its bounds.
 #![tactic(auto)]
 
 pub mod open;

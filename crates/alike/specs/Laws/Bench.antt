@@ -49,13 +49,13 @@ exchange-same board image m o x =
 turn-same : (board : ℕ) (image m : List ℕ) (o : Loss) (x : Moment)
     → pick (phases.ended (quick_moment m x).session.phase) (quick_moment m x)
     (line.exchange_of board image m o (quick_moment m x))
-    ≡ quick_moment m (pick (ended x.plain.stage) x (exchange_of board image m o x))
+    ≡ quick_moment m (pick (ended x.plain.phase) x (exchange_of board image m o x))
 turn-same board image m o x =
-    let over = ended_same x.plain.board m x.plain.stage x.plain.acknowledged in
+    let over = ended_same x.plain.board m x.plain.phase x.plain.acknowledged in
     let y = exchange_of board image m o x in
     let z = line.exchange_of board image m o (quick_moment m x) in
     ap (λ (b : Bool). pick b (quick_moment m x) z) over
-    ∙ decide (ended x.plain.stage)
+    ∙ decide (ended x.plain.phase)
     (λ t. rw t)
     (λ t. rw t (exchange-same board image m o x))
 
@@ -89,7 +89,7 @@ safe-of board image m before kind x q =
     all : demand.AllProved board m (quick_of m x.plain) → AllProved board m x.plain
     all h a t = sym (same-mark board m x.plain a) ∙ h a t
 
-    phase : {o : Outcome} → x.plain.stage ≡ Stage.Ended o
+    phase : {o : Outcome} → x.plain.phase ≡ Stage.Ended o
         → (quick_of m x.plain).phase ≡ Phase.Ended o
     phase v = ap (λ (s : Stage). phase_of x.plain.board m s x.plain.acknowledged) v
 
@@ -112,19 +112,19 @@ module _ (board : ℕ) (few : board ≤ 255) (image m before : List ℕ) (file :
 
   -- so its phase is the stage's
   ended-load : (n : ℕ) → phases.ended (line.load_at board image m kind l losses before n).session.phase
-      ≡ ended (load_at board image m kind l losses before n).plain.stage
+      ≡ ended (load_at board image m kind l losses before n).plain.phase
   ended-load n =
       let p = (load_at board image m kind l losses before n).plain in
       ap (λ (y : line.Moment). phases.ended y.session.phase) (load_same n)
-      ∙ ended_same p.board m p.stage p.acknowledged
+      ∙ ended_same p.board m p.phase p.acknowledged
 
   stage-load : (n : ℕ) (o : Outcome)
       → (line.load_at board image m kind l losses before n).session.phase ≡ Phase.Ended o
-      → (load_at board image m kind l losses before n).plain.stage ≡ Stage.Ended o
+      → (load_at board image m kind l losses before n).plain.phase ≡ Stage.Ended o
   unfolding stage_of
   stage-load n o e =
       let p = (load_at board image m kind l losses before n).plain in
-      sym (stage-back p.board m p.stage p.acknowledged)
+      sym (stage-back p.board m p.phase p.acknowledged)
       ∙ ap stage_of (sym (ap (λ (y : line.Moment). y.session.phase) (load_same n)) ∙ e)
 
   -- 1. every moment is safe
@@ -134,7 +134,7 @@ module _ (board : ℕ) (few : board ≤ 255) (image m before : List ℕ) (file :
       (subst (demand.Safe board image m before kind) (load_same n)
       (laws.safe board few image m before file bytes kind l size losses n))
 
-  pub bench-safe-amid : (n : ℕ) → ended (load_at board image m kind l losses before n).plain.stage ≡ false
+  pub bench-safe-amid : (n : ℕ) → ended (load_at board image m kind l losses before n).plain.phase ≡ false
       → Safe board image m before kind
       (between board (losses n) (load_at board image m kind l losses before n))
   bench-safe-amid n h =
@@ -157,19 +157,19 @@ module _ (board : ℕ) (few : board ≤ 255) (image m before : List ℕ) (file :
       )
 
   -- 3. if any exchange of the load brings no answer it ends with 40, and never valid nor held
-  module _ (i : ℕ) (goes-on : ended (load_at board image m kind l losses before i).plain.stage ≡ false)
+  module _ (i : ℕ) (goes-on : ended (load_at board image m kind l losses before i).plain.phase ≡ false)
       (no_answer : reply board (losses i) (load_at board image m kind l losses before i) ≡ []) where
     unanswered : line.reply board (losses i) (line.load_at board image m kind l losses before i) ≡ []
     unanswered = ap (line.reply board (losses i)) (load_same i) ∙ no_answer
 
     pub bench-silent : (n : ℕ) → i < n
-        → (load_at board image m kind l losses before n).plain.stage ≡ Stage.Ended Outcome.Silence
+        → (load_at board image m kind l losses before n).plain.phase ≡ Stage.Ended Outcome.Silence
     bench-silent n b =
         stage-load n Outcome.Silence
         (laws.silent board few image m before file bytes kind l size losses i (ended-load i ∙ goes-on)
         unanswered n b)
 
-    good : (n : ℕ) {o : Outcome} → (load_at board image m kind l losses before n).plain.stage ≡ Stage.Ended o
+    good : (n : ℕ) {o : Outcome} → (load_at board image m kind l losses before n).plain.phase ≡ Stage.Ended o
         → (line.load_at board image m kind l losses before n).session.phase ≡ Phase.Ended o
     good n v =
         let p = (load_at board image m kind l losses before n).plain in
@@ -187,7 +187,7 @@ module _ (board : ℕ) (few : board ≤ 255) (image m before : List ℕ) (file :
         unanswered n (good n v)
 
   -- a load ends by itself, after at most the total and one exchange more
-  pub bench-finite : ended (load_at board image m kind l losses before (total board m kind + 1)).plain.stage
+  pub bench-finite : ended (load_at board image m kind l losses before (total board m kind + 1)).plain.phase
       ≡ true
   bench-finite =
       sym (ended-load (total board m kind + 1))

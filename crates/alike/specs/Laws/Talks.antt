@@ -9,21 +9,21 @@ use Rattle.alike.specs.Laws.Steps.{same_start, same-stepped, same_outcome, same_
 use Rattle.basis.specs.Refusals.{Answer, refused, given}
 use Rattle.basis.specs.declared.kind.RunKind.{RunKind}
 use Rattle.plain.specs.Plain as plain
-use Rattle.plain.specs.declared.plain.Plain.{Plain}
+use Rattle.plain.specs.Plain.{Plain}
 use Rattle.session.specs.Session as quick
-use Rattle.session.specs.declared.session.Session.{Session}
+use Rattle.session.specs.Session.{Session}
 
 -- what is shown of a step, and where both then stand
 shows_same : (m : List ℕ) (log_room : ℕ) (a : Answer plain.Sent)
     → quick_shows log_room (as_quick m a) ≡ plain_shows log_room a
 shows_same m log_room (refused n) = refl
 shows_same m log_room (given x) =
-    let o = same_outcome m x.plain in
-    let l = same_log m log_room x.plain in
+    let o = same_outcome m x.session in
+    let l = same_log m log_room x.session in
     λ i. given (record {
       packet = x.packet;
       outcome = o i;
-      acknowledged = x.plain.acknowledged;
+      acknowledged = x.session.acknowledged;
       log = l i;
     })
 
@@ -51,7 +51,7 @@ module _ (image m : List ℕ) (room log_room : ℕ) where
   after_same : (hs : List Heard) (a : Answer plain.Sent)
       → quick_after image m room log_room (as_quick m a) hs ≡ plain_after image m room log_room a hs
   after_same hs (refused n) = refl
-  after_same hs (given x) = same-talk hs x.plain
+  after_same hs (given x) = same-talk hs x.session
 
   pub same-session : (board : ℕ) (kind : RunKind) (hs : List Heard)
       → quick_all image m room log_room board kind hs ≡ plain_all image m room log_room board kind hs

@@ -1,25 +1,24 @@
 -- Laws of the boards: what holds of both, so that nobody else need tell them apart.
-use Rattle.std.specs.Prelude.{◌≡◌, ℕ, ◌+◌, ◌*◌, ◌%◌, ◌^◌, ◌<◌, ◌≤◌, Bool, true, false, ◌==◌, slice_index, refl}
+use Rattle.std.specs.Prelude.{◌≡◌, ℕ, ◌+◌, ◌*◌, ◌%◌, ◌^◌, ◌<◌, ◌≤◌, Bool, true, false, ◌==◌, slice_index, refl, Option, Some, None}
 use Rattle.std.proofs.Common.{sym, ap, ◌∙◌, arith, eqb-true}
 use Rattle.basis.specs.Board.{pages_of, pages_most, board_by, board_of, greeting_of, count_bytes, log_length, board_logged}
 use Rattle.basis.specs.Laws.Choice.{decide, true-false}
 use Rattle.basis.specs.Laws.Units.{sizes-right}
 use Rattle.basis.specs.Units.{page_group_of, start_of, map_bytes, right_sizes_in}
 use Rattle.basis.specs.declared.board.Board.{Board}
-use Rattle.basis.specs.declared.board.Known.{Known}
 
 -- ---- the board that a number names
 
-board_in : Known → Board
-board_in Known.Unknown = Board.Short
-board_in (Known.Board b) = b
+board_in : Option Board → Board
+board_in None = Board.Short
+board_in (Some b) = b
 
-is_known : Known → Bool
-is_known Known.Unknown = false
-is_known (Known.Board b) = true
+is_known : Option Board → Bool
+is_known None = false
+is_known (Some b) = true
 
 -- it has that number
-pub board-by : (f : Board → ℕ) (n : ℕ) (b : Board) → board_by f n ≡ Known.Board b → f b ≡ n
+pub board-by : (f : Board → ℕ) (n : ℕ) (b : Board) → board_by f n ≡ Some b → f b ≡ n
 unfolding board_in is_known
 board-by f n b e =
     decide (n == f Board.Short)
@@ -29,7 +28,7 @@ board-by f n b e =
     (λ u. absurd (true-false (sym (ap is_known (rw (t, u) at e))))))
 
 -- and its own number names a board
-pub board-back : (b : Board) → board_of (pages_of b) ≡ Known.Board b
+pub board-back : (b : Board) → board_of (pages_of b) ≡ Some b
 board-back Board.Short = refl
 board-back Board.Long = refl
 
@@ -68,7 +67,7 @@ greetings-differ Board.Long Board.Short e = absurd (omega (arith, e))
 greetings-differ Board.Long Board.Long e = refl
 
 -- a log's length tells its board
-pub logged-back : (b : Board) → board_logged (log_length b) ≡ Known.Board b
+pub logged-back : (b : Board) → board_logged (log_length b) ≡ Some b
 logged-back Board.Short = refl
 logged-back Board.Long = refl
 

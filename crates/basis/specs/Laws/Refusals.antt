@@ -1,10 +1,10 @@
 -- Laws of tables of refusals.
-use Rattle.std.specs.Prelude.{◌≡◌, ℕ, Bool, true, false, List, [], ◌∷◌, length, ◌≢◌}
+use Rattle.std.specs.Prelude.{◌≡◌, ℕ, Bool, true, false, List, [], ◌∷◌, length, ◌≢◌, Result, Ok, Err}
 use Rattle.std.proofs.Math.Path.{refl}
 use Rattle.std.proofs.Common.{sym, ap, subst, ◌∙◌, arith}
 use Rattle.basis.specs.Choice.{pick}
 use Rattle.basis.specs.Lists.{overlay}
-use Rattle.basis.specs.Refusals.{Answer, refused, given, Rule, ◌when◌, first, and_then, counted, written}
+use Rattle.basis.specs.Refusals.{Answer, refused, given, Rule, ◌when◌, first, and_then, counted, written, answer_of}
 
 -- what is refused is not given
 pub apart : {A : Type 0} {n : ℕ} {x : A} → refused n ≢ given x
@@ -16,6 +16,18 @@ given-one e = cc
 
 pub refused-one : {A : Type 0} {m n : ℕ} → ◌≡◌ {A = Answer A} (refused m) (refused n) → m ≡ n
 refused-one e = cc
+
+-- answers are told apart where the numbers tell the errors apart, and what is shown the values
+pub answer-one : {A B E : Type 0} (number : E → ℕ) (shown : A → B)
+    → ((x y : E) → number x ≡ number y → x ≡ y)
+    → ((x y : A) → shown x ≡ shown y → x ≡ y)
+    → (r s : Result A E)
+    → answer_of number shown r ≡ answer_of number shown s
+    → r ≡ s
+answer-one number shown f g (Ok x) (Ok y) e = ap Ok (g x y (given-one e))
+answer-one number shown f g (Ok x) (Err y) e = absurd (apart (sym e))
+answer-one number shown f g (Err x) (Ok y) e = absurd (apart e)
+answer-one number shown f g (Err x) (Err y) e = ap Err (f x y (refused-one e))
 
 module _ {A : Type 0} where
   -- a row whose test fails is passed over

@@ -1,11 +1,11 @@
 -- Two outcomes that a contract permits are equal: the paper's numbers and values tell all cases apart.
-use Rattle.std.specs.Prelude.{ℕ, Bool, ◌≡◌, refl, eqb}
-use Rattle.std.proofs.Common.{ap, sym}
+use Rattle.std.specs.Prelude.{ℕ, Bool, ◌≡◌, refl, eqb, Result}
+use Rattle.std.proofs.Common.{sym}
 use Rattle.basis.specs.Choice.{pick}
 use Rattle.basis.specs.Laws.Choice.{true-false}
-use Rattle.basis.specs.Laws.Refusals.{apart, given-one, refused-one, back_one, determined}
+use Rattle.basis.specs.Laws.Refusals.{answer-one, back_one, determined}
 use Rattle.basis.specs.Refusals.{Answer}
-use Rattle.events.specs.Paper.{paper_refusal, paper_mark}
+use Rattle.events.specs.Paper.{paper_refusal, is_proved, paper_mark}
 use Rattle.events.specs.declared.refusal.Mark.{Mark}
 use Rattle.events.specs.declared.refusal.Refusal.{Refusal}
 
@@ -30,16 +30,12 @@ pub refusal-one : (x y : Refusal) → paper_refusal x ≡ paper_refusal y → x 
 refusal-one = back_one paper_refusal refusal_by refusal-back
 
 -- asking for a mark
-mark-one : (r s : Mark) → paper_mark r ≡ paper_mark s → r ≡ s
+mark-one : (x y : Mark) → is_proved x ≡ is_proved y → x ≡ y
 mark-one Mark.Proved Mark.Proved e = refl
-mark-one Mark.Proved Mark.Unproved e = absurd (true-false (given-one e))
-mark-one Mark.Proved (Mark.Refused y) e = absurd (apart (sym e))
-mark-one Mark.Unproved Mark.Proved e = absurd (true-false (sym (given-one e)))
+mark-one Mark.Proved Mark.Unproved e = absurd (true-false e)
+mark-one Mark.Unproved Mark.Proved e = absurd (true-false (sym e))
 mark-one Mark.Unproved Mark.Unproved e = refl
-mark-one Mark.Unproved (Mark.Refused y) e = absurd (apart (sym e))
-mark-one (Mark.Refused x) Mark.Proved e = absurd (apart e)
-mark-one (Mark.Refused x) Mark.Unproved e = absurd (apart e)
-mark-one (Mark.Refused x) (Mark.Refused y) e = ap Mark.Refused (refusal-one x y (refused-one e))
 
-pub proved-determined : {a : Answer Bool} (r s : Mark) → paper_mark r ≡ a → paper_mark s ≡ a → r ≡ s
-proved-determined = determined paper_mark mark-one
+pub proved-determined : {a : Answer Bool} (r s : Result Mark Refusal) → paper_mark r ≡ a → paper_mark s ≡ a
+    → r ≡ s
+proved-determined = determined paper_mark (answer-one paper_refusal is_proved refusal-one mark-one)

@@ -1,12 +1,13 @@
 -- Laws of events: what the answers of a board are.
-use Rattle.std.specs.Prelude.{ℕ, Bool, true, false, List, [], ◌∷◌, ◌≡◌, eqb, length, get_or, take, drop}
+use Rattle.std.specs.Prelude.{ℕ, Bool, true, false, List, [], ◌∷◌, ◌≡◌, eqb, length, get_or, take, drop, not}
 use Rattle.std.proofs.Math.Path.{refl}
 use Rattle.std.proofs.Common.{sym, ap, eq-eqb, eqb-true}
 use Rattle.basis.specs.Board.{pages_of, greeting_of, answer_most, ack_byte, bel_byte}
 use Rattle.basis.specs.Laws.Boards.{greetings-differ}
 use Rattle.basis.specs.Laws.Choice.{decide, both_true, true-false}
 use Rattle.basis.specs.declared.board.Board.{Board}
-use Rattle.events.specs.Events.{same_of, greets_of, classify_of, is_greeting, is_ack}
+use Rattle.events.specs.Events.{same_of, greets_of, classify_of, silent_in, bytes_in, is_greeting, is_ack}
+use Rattle.std.specs.Bool.{then_some}
 use Rattle.events.specs.declared.event.Event.{Event}
 
 same_self : (s : List ℕ) → same_of s s ≡ true
@@ -86,3 +87,11 @@ greeting-or Event.Ack f g = g refl
 greeting-or Event.Bel f g = g refl
 greeting-or Event.Other f g = g refl
 greeting-or Event.Silence f g = g refl
+
+-- an answer that is told in two parts is heard as that answer
+pub told-apart : (board : ℕ) (t : Bool) (b : List ℕ)
+    → classify_of board (silent_in (then_some (not t) b)) (bytes_in (then_some (not t) b))
+    ≡ classify_of board t b
+unfolding classify_of
+told-apart board true b = refl
+told-apart board false b = refl

@@ -11,11 +11,10 @@ use Rattle.loader.specs.declared.state.Condition.TheVariants.{Waiting, Serving, 
 use Rattle.loader.specs.declared.state.Loader.{Loader}
 use Rattle.order.specs.declared.step.Step.{Step}
 use Rattle.plain.specs.Laws.Fits.{unreached}
-use Rattle.plain.specs.Plain.{fits_of}
-use Rattle.plain.specs.declared.plain.Plain.{Plain}
+use Rattle.plain.specs.Plain.{Plain, fits_of}
 use Rattle.plain.specs.declared.stage.Stage.{Stage}
 use Rattle.session.specs.declared.phase.Phase.{Phase}
-use Rattle.session.specs.declared.session.Session.{Session}
+use Rattle.session.specs.Session.{Session}
 use Rattle.stations.specs.declared.station.Station.{Station}
 use Rattle.gremolunde.specs.declared.states.PlainState.{PlainState}
 use Rattle.gremolunde.specs.States.{is_set, flag_of, condition_meant, condition_shown, loader_meant, loader_shown, hex_meant, hex_shown, outcome_meant, phase_meant, phase_shown, page_shown, address_shown, outcome_shown, session_meant, session_shown, stage_meant, stage_shown, ending_shown, listed, plain_at, plain_meant, plain_shown, station_meant, station_shown}
@@ -92,11 +91,11 @@ listed-shown s = rw (stage-back s, itself (stage_shown s), itself (ending_shown 
 
 pub plain_back : (p : Plain) → plain_meant (plain_shown p) ≡ p
 plain_back p =
-    rw (listed-shown p.stage)
+    rw (listed-shown p.phase)
     (λ i. record {
       board = p.board;
       kind = kind-back p.kind i;
-      stage = stage-back p.stage i;
+      phase = stage-back p.phase i;
       acknowledged = p.acknowledged;
       total = p.total;
       named = p.named;

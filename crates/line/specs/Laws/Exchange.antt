@@ -26,9 +26,8 @@ use Rattle.session.specs.Laws.Series.{not-ack, not-greeting}
 use Rattle.session.specs.Laws.States.{greeting-state, ack-next, ack-last, step-state, waiting-fits}
 use Rattle.session.specs.Laws.Steps.{step-taken}
 use Rattle.session.specs.Phases.{packet_out}
-use Rattle.session.specs.Session.{session_with, at_greeting, state_at, took_of, Loadable}
+use Rattle.session.specs.Session.{Session, session_with, at_greeting, state_at, took_of, Loadable}
 use Rattle.session.specs.declared.phase.Phase.{Phase}
-use Rattle.session.specs.declared.session.Session.{Session}
 use Rattle.packet.specs.Packet.{packet_most}
 
 -- ---- what the session hears

@@ -48,9 +48,8 @@ use Rattle.session.specs.Laws.Marks.{proved-is, all-marked}
 use Rattle.session.specs.Laws.Series.{silence-ends, is_good, fails-good}
 use Rattle.session.specs.Laws.States.{waiting-fits, state-fits}
 use Rattle.session.specs.Phases.{ended}
-use Rattle.session.specs.Session.{at_greeting, state_at, fits_of, took_of, Loadable}
+use Rattle.session.specs.Session.{Session, at_greeting, state_at, fits_of, took_of, Loadable}
 use Rattle.session.specs.declared.phase.Phase.{Phase}
-use Rattle.session.specs.declared.session.Session.{Session}
 
 -- ---- the moments of any start
 

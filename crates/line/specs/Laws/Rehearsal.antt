@@ -23,9 +23,8 @@ use Rattle.packet.specs.Packet.{packet_most}
 use Rattle.runs.specs.Map.{named}
 use Rattle.runs.specs.Pieces.{named_count}
 use Rattle.session.specs.Phases.{ended}
-use Rattle.session.specs.Session.{Loadable}
+use Rattle.session.specs.Session.{Session, Loadable}
 use Rattle.session.specs.declared.phase.Phase.{Phase}
-use Rattle.session.specs.declared.session.Session.{Session}
 
 module _ (board : ℕ) (few : board ≤ 255) (image m : List ℕ) (kind : RunKind) (l : Loader) (losses : ℕ → Loss)
     (before : List ℕ) where

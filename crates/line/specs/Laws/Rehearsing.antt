@@ -13,6 +13,7 @@ use Rattle.line.specs.Line.{Moment, rehearsing, loaded, left_flash, Rehearses}
 use Rattle.line.specs.declared.rehearse.Load.{Load}
 use Rattle.order.specs.Sizes.{right_sizes}
 use Rattle.packet.specs.Packet.{packet_most}
+use Rattle.session.specs.Course as course
 use Rattle.session.specs.Session.{Sent, measured, started}
 
 module _ (board : ℕ) (image m f : List ℕ) (x : Moment) where
@@ -37,11 +38,11 @@ module _ (board : ℕ) (image m f : List ℕ) (x : Moment) where
 
   module _ (size : length f ≡ start_of board) (kind : RunKind) where
     refused-too : {n : ℕ} → started board image m packet_most kind ≡ refused n → whole ≡ refused n
-    unfolding rehearsing started
+    unfolding rehearsing course.started
     refused-too e = rw (eq-eqb (length f) (start_of board) size) (alike _ _ _ e)
 
     given-too : {s : Sent} → started board image m packet_most kind ≡ given s → whole ≡ given x
-    unfolding rehearsing started
+    unfolding rehearsing course.started
     given-too e = rw (eq-eqb (length f) (start_of board) size) (through _ _ _ e)
 
     -- by a buffer of so many bytes, which has room for the longest packet

@@ -1,7 +1,9 @@
 -- Laws of decimal numbers.
-use Rattle.std.specs.Prelude.{◌≡◌, ℕ, zero, suc, ◌/◌, ◌%◌, ◌^◌, ◌<◌, ◌≤◌, [], ◌∷◌, ◌++◌, length, nat_lt, refl}
+use Rattle.std.specs.Prelude.{◌≡◌, ℕ, zero, suc, ◌/◌, ◌%◌, ◌^◌, ◌<◌, ◌≤◌, List, [], ◌∷◌, ◌++◌, length, nat_lt, refl}
 use Rattle.std.proofs.Math.Nat.{pow-succ'}
-use Rattle.std.proofs.Common.{arith, lt-ltb, le-ltb, ltb-true, ltb-false, length-append}
+use Rattle.std.proofs.Common.{ap, ◌∙◌, arith, lt-ltb, le-ltb, ltb-true, ltb-false, length-append}
+use Rattle.std.proofs.lemmas.Fmt.{decimal_by_steps}
+use Rattle.std.specs.Fmt.{decimal}
 use Rattle.basis.specs.Laws.Choice.{decide}
 use Rattle.listing.specs.Numbers.{numeral, decimal_by, decimal_of}
 
@@ -39,3 +41,9 @@ decimal-length (suc k) n h =
 -- 64 bits make at most 20 digits
 pub decimal-most : (n : ℕ) → n < 2 ^ 64 → length (decimal_of n) ≤ 20
 decimal-most n h = decimal-length 19 n (omega arith)
+
+-- the digits that `{}` writes
+pub decimal-is : (n : ℕ) → n < 2 ^ 64 → decimal_of n ≡ decimal n
+decimal-is =
+    decimal_by_steps (λ n s. decimal_of n ≡ s) decimal-one
+    (λ n s h e. decimal-more n h ∙ ap (λ (t : List ℕ). t ++ (numeral (n % 10) ∷ [])) e)

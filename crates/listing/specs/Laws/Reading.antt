@@ -172,7 +172,7 @@ verdict-shut t (right h) = refl
 
 module _ (size : ℕ) where
   -- a refusal stays
-  feed-stopped : (x : Blame) (line image map text : List ℕ)
+  pub feed-stopped : (x : Blame) (line image map text : List ℕ)
       → feed_in size (state (stopped x) line image map) text ≡ state (stopped x) line image map
   unfolding feed_in
   feed-stopped x line image map [] = refl

@@ -1,8 +1,8 @@
 -- Two outcomes that the entry's contract permits are equal: the paper's numbers tell all cases apart.
-use Rattle.std.specs.Prelude.{ℕ, List, ◌≡◌, refl, eqb}
-use Rattle.std.proofs.Common.{ap, sym, ◌∙◌}
+use Rattle.std.specs.Prelude.{ℕ, List, ◌≡◌, refl, eqb, Result}
+use Rattle.std.proofs.Common.{sym, ◌∙◌}
 use Rattle.basis.specs.Choice.{pick}
-use Rattle.basis.specs.Laws.Refusals.{back_one, apart, refused-one, determined}
+use Rattle.basis.specs.Laws.Refusals.{answer-one, back_one, determined}
 use Rattle.basis.specs.Refusals.{Answer}
 use Rattle.loader.specs.Commands.{Effect}
 use Rattle.loader.specs.Paper.{paper_refusal, paper_verdict}
@@ -10,8 +10,6 @@ use Rattle.loader.specs.Take.{Takes}
 use Rattle.loader.specs.declared.state.Loader.{Loader}
 use Rattle.loader.specs.declared.verdict.Refusal.{Refusal}
 use Rattle.loader.specs.declared.verdict.Refusal.TheVariants.{Size, Unheard, Unread, Sequence, Address, Protected, Differs}
-use Rattle.loader.specs.declared.verdict.Verdict.{Verdict}
-use Rattle.loader.specs.declared.verdict.Verdict.TheVariants.{Accepted, Refused}
 use Rattle.packet.specs.Laws.Determined.{refusal_by as unread_by}
 use Rattle.packet.specs.declared.table.Refusal.TheVariants as unread
 
@@ -44,14 +42,11 @@ refusal-back Differs = refl
 refusal-one : (x y : Refusal) → paper_refusal x ≡ paper_refusal y → x ≡ y
 refusal-one = back_one paper_refusal refusal_by refusal-back
 
-pub verdict-one : (v w : Verdict) → paper_verdict v ≡ paper_verdict w → v ≡ w
-verdict-one Accepted Accepted e = refl
-verdict-one Accepted (Refused y) e = absurd (apart (sym e))
-verdict-one (Refused x) Accepted e = absurd (apart e)
-verdict-one (Refused x) (Refused y) e = ap Refused (refusal-one x y (refused-one e))
+pub verdict-one : (v w : Result (Unit {0}) Refusal) → paper_verdict v ≡ paper_verdict w → v ≡ w
+verdict-one = answer-one paper_refusal (λ (u : Unit {0}). u) refusal-one (λ u v e. e)
 
 pub take-determined : {board : ℕ} {x : Answer Effect} {l : Loader} {f old : List ℕ}
-    (v w : Verdict) (m n : Loader) (i j : ℕ) (g h a b : List ℕ)
+    (v w : Result (Unit {0}) Refusal) (m n : Loader) (i j : ℕ) (g h a b : List ℕ)
     → Takes board x l f old (paper_verdict v) m i g a → Takes board x l f old (paper_verdict w) n j h b
     → (v ≡ w) × (m ≡ n) × (i ≡ j) × (g ≡ h) × (a ≡ b)
 take-determined v w m n i j g h a b p q = (

@@ -20,8 +20,7 @@ use Rattle.session.specs.Laws.Series.{not-ack, not-greeting}
 use Rattle.session.specs.Laws.States.{greeting-state, ack-next, ack-last, step-state, waiting-fits}
 use Rattle.session.specs.Laws.Steps.{step-taken}
 use Rattle.session.specs.Phases.{ended}
-use Rattle.session.specs.Session.{Sent, at_greeting, state_at, took_of, sent_of, step_of, Loadable}
-use Rattle.session.specs.declared.session.Session.{Session}
+use Rattle.session.specs.Session.{Session, Sent, at_greeting, state_at, took_of, sent_of, step_of, Loadable}
 
 -- after n exchanges: the greeting is awaited; or n - 1 packets are acknowledged and the next is out; or the
 -- session has ended

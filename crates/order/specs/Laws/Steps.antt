@@ -1,5 +1,5 @@
 -- Laws of steps: those that stand in a file are the ones after its acknowledgements; each leads to the next.
-use Rattle.std.specs.Prelude.{ℕ, ◌+◌, ◌-◌, ◌≤◌, ◌<◌, Bool, true, false, List, ◌≡◌, eqb, ltb, length}
+use Rattle.std.specs.Prelude.{ℕ, ◌+◌, ◌-◌, ◌≤◌, ◌<◌, Bool, true, false, List, ◌≡◌, eqb, ltb, length, Option, Some, None}
 use Rattle.std.proofs.Math.Path.{refl, sym, ap}
 use Rattle.std.proofs.Common.{subst, ◌∙◌, arith, eq-eqb, eqb-true, ltb-true, ltb-false, lt-ltb, le-ltb}
 use Rattle.basis.specs.Laws.Choice.{decide, both_true, true-false}
@@ -16,7 +16,6 @@ use Rattle.order.specs.Laws.Kinds.{r-one, r-none, r-sent}
 use Rattle.order.specs.Laws.Starts.{some-page, run-below, piece-below, first-piece-below, first-run-below}
 use Rattle.order.specs.Steps.{erase_at, write_at, verify_at, step_at, following_at, lowest_piece, next_run, next_piece, first_of, behind_last, follow_of, at_start, ranked, stands_at}
 use Rattle.order.specs.Plan.{sends_r, total, before_r, before_verify}
-use Rattle.order.specs.declared.cursor.Following.{Following}
 use Rattle.order.specs.declared.step.Step.{Step}
 
 -- ---- ranks
@@ -146,17 +145,17 @@ at-stands board m kind k l =
 
 -- ---- what is left after k acknowledgements
 
-step_or : Step → Following → Step
-step_or s (Following.Step t) = t
-step_or s Following.End = s
+step_or : Step → Option Step → Step
+step_or s (Some t) = t
+step_or s None = s
 
-is_step : Following → Bool
-is_step (Following.Step s) = true
-is_step Following.End = false
+is_step : Option Step → Bool
+is_step (Some s) = true
+is_step None = false
 
 module _ (board : ℕ) (m : List ℕ) (kind : RunKind) (k : ℕ) where
   -- the step then, while not all are acknowledged
-  pub left_step : (s : Step) → following_at board m kind k ≡ Following.Step s
+  pub left_step : (s : Step) → following_at board m kind k ≡ Some s
       → (k < total board m kind) × (s ≡ step_at board m k)
   unfolding step_or is_step
   left_step s e =
@@ -165,7 +164,7 @@ module _ (board : ℕ) (m : List ℕ) (kind : RunKind) (k : ℕ) where
       (λ d. absurd (true-false (sym (ap is_step (rw d at e)))))
 
   -- and else nothing
-  pub left_end : following_at board m kind k ≡ Following.End → total board m kind ≤ k
+  pub left_end : following_at board m kind k ≡ None → total board m kind ≤ k
   unfolding is_step
   left_end e =
       decide (ltb k (total board m kind))
@@ -174,16 +173,16 @@ module _ (board : ℕ) (m : List ℕ) (kind : RunKind) (k : ℕ) where
 -- ---- from step to step
 
 -- what is left after k acknowledgements: a step that stands there, or nothing where all are acknowledged
-abbrev left_at : ℕ → List ℕ → RunKind → Following → ℕ → Bool
-left_at board m kind (Following.Step s) k = stands_at board m kind s k
-left_at board m kind Following.End k = eqb (total board m kind) k
+abbrev left_at : ℕ → List ℕ → RunKind → Option Step → ℕ → Bool
+left_at board m kind (Some s) k = stands_at board m kind s k
+left_at board m kind None k = eqb (total board m kind) k
 
-left-at : (board : ℕ) (m : List ℕ) → length m ≡ map_bytes board → (kind : RunKind) (f : Following) (k : ℕ)
+left-at : (board : ℕ) (m : List ℕ) → length m ≡ map_bytes board → (kind : RunKind) (f : Option Step) (k : ℕ)
     → left_at board m kind f k ≡ true → f ≡ following_at board m kind k
-left-at board m long kind (Following.Step s) k h =
+left-at board m long kind (Some s) k h =
     rw (lt-ltb k (total board m kind) (stands-below board m long kind s k h))
-    (ap Following.Step (stands-at board m long kind s k h))
-left-at board m long kind Following.End k h =
+    (ap Some (stands-at board m long kind s k h))
+left-at board m long kind None k h =
     let l : total board m kind ≤ k = omega (arith, eqb-true (total board m kind) k h) in
     rw (le-ltb k (total board m kind) l)
 
@@ -194,7 +193,7 @@ module _ (board : ℕ) (m : List ℕ) (long : length m ≡ map_bytes board) (som
       first-ranked (named m) piece_most (start_of board) (bytes_past board m long) base
       (first-piece-below board m long some)
 
-  first-stands : stands_at board m kind (first_of board m) 0 ≡ true
+  pub first-stands : stands_at board m kind (first_of board m) 0 ≡ true
   unfolding stands_at
   first-stands =
       first-ranked (touched m) board board (pages-past board m long) 0 (first-run-below board m long some)
@@ -274,11 +273,11 @@ module _ (board : ℕ) (m : List ℕ) (long : length m ≡ map_bytes board) (som
       (follow-stands (step_at board m k) k (at-stands board m kind k l))
 
   pub follow-next : (k : ℕ) → k + 1 < total board m kind
-      → follow_of board m kind (step_at board m k) ≡ Following.Step (step_at board m (k + 1))
+      → follow_of board m kind (step_at board m k) ≡ Some (step_at board m (k + 1))
   follow-next k l = follow-at k (omega arith) ∙ rw (lt-ltb (k + 1) (total board m kind) l)
 
   pub follow-end : (k : ℕ) → k + 1 ≡ total board m kind
-      → follow_of board m kind (step_at board m k) ≡ Following.End
+      → follow_of board m kind (step_at board m k) ≡ None
   follow-end k e =
       let l : total board m kind ≤ k + 1 = omega arith in
       follow-at k (omega arith) ∙ rw (le-ltb (k + 1) (total board m kind) l)
@@ -288,7 +287,7 @@ module _ (board : ℕ) (m : List ℕ) (long : length m ≡ map_bytes board) (som
   first-start = stands-start board m long kind (first_of board m) 0 first-stands
 
   pub follow-start : (s t : Step) (k : ℕ) → stands_at board m kind s k ≡ true
-      → follow_of board m kind s ≡ Following.Step t → at_start board m t ≡ true
+      → follow_of board m kind s ≡ Some t → at_start board m t ≡ true
   follow-start s t k h e =
       stands-start board m long kind t (k + 1)
-      (sym (ap (λ (f : Following). left_at board m kind f (k + 1)) e) ∙ follow-stands s k h)
+      (sym (ap (λ (f : Option Step). left_at board m kind f (k + 1)) e) ∙ follow-stands s k h)

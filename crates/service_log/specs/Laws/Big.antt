@@ -1,7 +1,8 @@
 -- Laws of numbers as bytes: how many they are, and that what fits reads back.
-use Rattle.std.specs.Prelude.{ℕ, zero, suc, ◌+◌, ◌*◌, ◌/◌, ◌%◌, ◌^◌, ◌<◌, List, [], ◌∷◌, ◌++◌, ◌≡◌, refl, length, get_or}
+use Rattle.std.specs.Prelude.{ℕ, zero, suc, ◌+◌, ◌*◌, ◌/◌, ◌%◌, ◌^◌, ◌<◌, ◌≤◌, ◌-◌, List, [], ◌∷◌, ◌++◌, ◌≡◌, refl, length, get_or, take, drop}
 use Rattle.std.proofs.Common.{append_assoc, sym, ap, ◌∙◌, pow-suc, div-lt_iff_lt-mul, div-add-mod', zero-lt-suc, arith, length-append}
 use Rattle.std.proofs.lemmas.List.{get_or_at}
+use Rattle.std.specs.Int.{w32, to_be_bytes}
 use Rattle.service_log.specs.Big.{big_of, big_at}
 
 pub big-length : (w x : ℕ) → length (big_of w x) ≡ w
@@ -29,3 +30,19 @@ big-back (suc w) x p q a e l =
       get_or_at (p ++ big_of w y) r q 0 (a + w) n,
       div-add-mod' x 256,
     )
+
+-- the last w bytes of a number of four
+pub big-bytes : (w x : ℕ) → w ≤ 4 → take (4 - (4 - w)) (drop (4 - w) (to_be_bytes w32 x)) ≡ big_of w x
+unfolding big_of
+big-bytes zero x h = refl
+big-bytes (suc zero) x h = refl
+big-bytes (suc (suc zero)) x h = refl
+big-bytes (suc (suc (suc zero))) x h =
+    let e : x / 65536 % 256 ≡ x / 256 / 256 % 256 = omega arith in
+    ap (λ (b : ℕ). b ∷ x / 256 % 256 ∷ x % 256 ∷ []) e
+big-bytes (suc (suc (suc (suc zero)))) x h =
+    let e : x / 65536 % 256 ≡ x / 256 / 256 % 256 = omega arith in
+    let f : x / 16777216 % 256 ≡ x / 256 / 256 / 256 % 256 = omega arith in
+    ap (λ (b : ℕ). b ∷ x / 65536 % 256 ∷ x / 256 % 256 ∷ x % 256 ∷ []) f
+    ∙ ap (λ (b : ℕ). x / 256 / 256 / 256 % 256 ∷ b ∷ x / 256 % 256 ∷ x % 256 ∷ []) e
+big-bytes (suc (suc (suc (suc (suc w))))) x h = absurd (omega arith)

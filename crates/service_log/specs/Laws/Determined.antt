@@ -1,16 +1,17 @@
 -- Two outcomes that a contract permits are equal: the paper's numbers and values tell all cases apart.
-use Rattle.std.specs.Prelude.{ℕ, List, ◌≡◌, refl, eqb}
-use Rattle.std.proofs.Common.{ap, sym, ◌∙◌}
+use Rattle.std.specs.Prelude.{ℕ, List, ◌≡◌, refl, eqb, Result, Option, Some, None}
+use Rattle.std.proofs.Common.{sym, ap, ◌∙◌, arith}
 use Rattle.basis.specs.Choice.{pick}
-use Rattle.basis.specs.Laws.Refusals.{determined}
+use Rattle.basis.specs.Laws.Refusals.{answer-one, back_one, determined}
 use Rattle.basis.specs.Lists.{overlay}
-use Rattle.basis.specs.Refusals.{Answer, refused, given, counted, written}
-use Rattle.service_log.specs.Paper.{paper_unwritten, paper_unread, paper_written, paper_reading}
-use Rattle.service_log.specs.declared.read.Reading.{Reading}
+use Rattle.basis.specs.Refusals.{Answer, counted, written}
+use Rattle.events.specs.Endings.{paper_outcome}
+use Rattle.events.specs.Laws.Endings.{outcome-one}
+use Rattle.events.specs.declared.ending.Outcome.{Outcome}
+use Rattle.service_log.specs.Paper.{paper_logged, paper_unwritten, paper_unread, paper_written, paper_reading}
 use Rattle.service_log.specs.declared.read.Record.{Record}
 use Rattle.service_log.specs.declared.read.Unread.{Unread}
 use Rattle.service_log.specs.declared.write.Unwritten.{Unwritten}
-use Rattle.service_log.specs.declared.write.Written.{Written}
 
 -- the refusal of a number
 unwritten_by : ℕ → Unwritten
@@ -33,33 +34,36 @@ unread-back Unread.Length = refl
 unread-back Unread.Version = refl
 unread-back Unread.False = refl
 
--- what the paper's answer stands for
-written_by : Answer ℕ → Written
-written_by (given n) = Written.Record n
-written_by (refused n) = Written.Refused (unwritten_by n)
+written-one : (r s : Result ℕ Unwritten) → paper_written r ≡ paper_written s → r ≡ s
+written-one =
+    answer-one paper_unwritten (λ n. n) (back_one paper_unwritten unwritten_by unwritten-back) (λ n m e. e)
 
-written_back : (r : Written) → written_by (paper_written r) ≡ r
-unfolding written_by
-written_back (Written.Record n) = refl
-written_back (Written.Refused x) = ap Written.Refused (unwritten-back x)
-
-reading_by : Answer Record → Reading
-reading_by (given x) = Reading.Record x
-reading_by (refused n) = Reading.Refused (unread_by n)
-
-reading-back : (r : Reading) → reading_by (paper_reading r) ≡ r
-unfolding reading_by
-reading-back (Reading.Record x) = refl
-reading-back (Reading.Refused x) = ap Reading.Refused (unread-back x)
-
-pub write-determined : (b : Answer (List ℕ)) (r s : Written) (x y old : List ℕ)
+pub write-determined : (b : Answer (List ℕ)) (r s : Result ℕ Unwritten) (x y old : List ℕ)
     → (paper_written r ≡ counted b) × (x ≡ overlay (written b) old)
     → (paper_written s ≡ counted b) × (y ≡ overlay (written b) old) → (r ≡ s) × (x ≡ y)
-write-determined b r s x y old p q = (
-  determined paper_written (λ r s e. sym (written_back r) ∙ ap written_by e ∙ written_back s) r s p.0
-      q.0,
-  p.1 ∙ sym q.1,
-)
+write-determined b r s x y old p q = (determined paper_written written-one r s p.0 q.0, p.1 ∙ sym q.1)
 
-pub read-determined : {a : Answer Record} (r s : Reading) → paper_reading r ≡ a → paper_reading s ≡ a → r ≡ s
-read-determined = determined paper_reading (λ r s e. sym (reading-back r) ∙ ap reading_by e ∙ reading-back s)
+pub read-determined : {a : Answer Record} (r s : Result Record Unread)
+    → paper_reading r ≡ a → paper_reading s ≡ a
+    → r ≡ s
+read-determined =
+    determined paper_reading
+    (answer-one paper_unread (λ (x : Record). x) (back_one paper_unread unread_by unread-back) (λ x y e. e))
+
+-- the outcome that a session's record tells: no outcome has the number 45
+none-apart : (o : Outcome) → 45 ≡ paper_outcome o → ⊥
+none-apart Outcome.Valid e = omega arith
+none-apart Outcome.Held e = omega arith
+none-apart Outcome.Silence e = omega arith
+none-apart Outcome.Bel e = omega arith
+none-apart Outcome.NoGreeting e = omega arith
+none-apart Outcome.Other e = omega arith
+
+logged-one : (r s : Option Outcome) → paper_logged r ≡ paper_logged s → r ≡ s
+logged-one None None e = refl
+logged-one None (Some o) e = absurd (none-apart o e)
+logged-one (Some o) None e = absurd (none-apart o (sym e))
+logged-one (Some o) (Some p) e = ap Some (outcome-one o p e)
+
+pub logged-determined : {n : ℕ} (r s : Option Outcome) → paper_logged r ≡ n → paper_logged s ≡ n → r ≡ s
+logged-determined r s p q = logged-one r s (p ∙ sym q)

@@ -1,5 +1,5 @@
 -- Laws of the log: each row of its tables, and what is given where no row holds.
-use Rattle.std.specs.Prelude.{ℕ, ◌+◌, ◌*◌, ◌≤◌, ◌<◌, true, false, List, ◌≡◌, refl, ltb, length, get_or, take}
+use Rattle.std.specs.Prelude.{ℕ, ◌+◌, ◌*◌, ◌≤◌, ◌<◌, true, false, List, ◌≡◌, refl, ltb, length, get_or, take, Option, Some, None}
 use Rattle.std.proofs.Math.Bool.{not}
 use Rattle.std.proofs.Common.{sym, ap, ◌∙◌, arith, eq-eqb, ne_eqb, lt-ltb, le-ltb, ltb-true, ltb-false, length-append, length-take, take_all}
 use Rattle.basis.specs.Board.{pages_of, version_of, count_bytes, board_logged}
@@ -9,9 +9,8 @@ use Rattle.basis.specs.Laws.Refusals.{skip, stop, done}
 use Rattle.basis.specs.Lists.{pair_at}
 use Rattle.basis.specs.Refusals.{refused, given}
 use Rattle.basis.specs.declared.board.Board.{Board}
-use Rattle.basis.specs.declared.board.Known.{Known}
 use Rattle.session.specs.Phases.{ended}
-use Rattle.session.specs.declared.session.Session.{Session}
+use Rattle.session.specs.Session.{Session}
 use Rattle.service_log.specs.Big.{big_of, big_at}
 use Rattle.service_log.specs.Laws.Big.{big-length}
 use Rattle.service_log.specs.Log.{record_size, record_least, record_most, is_false_of, outcome_of, counts_fit, record_bytes, counts_on, write_on, read_on, read_by, read_of}
@@ -103,9 +102,9 @@ module _ (b : Board) (s : List ℕ) where
 pub read-long : (s : List ℕ) → record_most < length s → read_of s ≡ refused 51
 read-long s l = read-by s (omega arith) ∙ go (board_logged (pair_at s 0))
   where
-    go : (x : Known) → read_by x s ≡ refused 51
-    go Known.Unknown = refl
-    go (Known.Board b) = let fit = counts-fit b in read_length b s (λ e. omega arith)
+    go : (x : Option Board) → read_by x s ≡ refused 51
+    go None = refl
+    go (Some b) = let fit = counts-fit b in read_length b s (λ e. omega arith)
 
 -- so a reader need take no more than one byte behind it
 pub read_first : (s : List ℕ) → read_of (take (record_most + 1) s) ≡ read_of s

@@ -1,6 +1,6 @@
 -- A session is written as its outcome and counts are, what is written reads back, a record that reads as
 -- valid or held says that all is acknowledged, and the log of a session tells its file's own counts.
-use Rattle.std.specs.Prelude.{ℕ, ◌+◌, ◌*◌, ◌^◌, ◌≤◌, ◌<◌, true, false, not, ◌≡◌, eqb, ltb}
+use Rattle.std.specs.Prelude.{ℕ, ◌+◌, ◌*◌, ◌^◌, ◌≤◌, ◌<◌, true, false, not, ◌≡◌, eqb, ltb, Option, Some, None}
 use Rattle.std.proofs.Math.Path.{refl, sym, ap}
 use Rattle.std.proofs.Common.{◌∙◌, arith, eq-eqb, ne_eqb, eqb-true, ltb-true, lt-ltb, le-ltb, leb-true, le-leb, List, [], ◌∷◌, ◌++◌, append_assoc, append-nil}
 use Rattle.std.proofs.lemmas.Bool.{not-false}
@@ -14,7 +14,6 @@ use Rattle.basis.specs.Lists.{pair_at}
 use Rattle.basis.specs.Refusals.{refused, given, on_board}
 use Rattle.basis.specs.Units.{start_of, map_bytes}
 use Rattle.basis.specs.declared.board.Board.{Board}
-use Rattle.basis.specs.declared.board.Known.{Known}
 use Rattle.basis.specs.declared.kind.RunKind.{RunKind}
 use Rattle.events.specs.Endings.{paper_outcome, asked, ending_for, failing}
 use Rattle.events.specs.Laws.Endings.{fails-suits, asked-good, asked-suits}
@@ -26,9 +25,8 @@ use Rattle.order.specs.Plan.{sends_r, total}
 use Rattle.runs.specs.Pieces.{named_count}
 use Rattle.session.specs.Laws.Series.{came}
 use Rattle.session.specs.Phases.{ended}
-use Rattle.session.specs.Session.{session_with, Came, waits, stands, fails, ends, at_greeting, series}
+use Rattle.session.specs.Session.{Session, session_with, Came, waits, stands, fails, ends, at_greeting, series}
 use Rattle.session.specs.declared.phase.Phase.{Phase}
-use Rattle.session.specs.declared.session.Session.{Session}
 use Rattle.service_log.specs.Big.{big_of, big_at, fits_in}
 use Rattle.service_log.specs.Laws.Big.{big-length, big-back}
 use Rattle.service_log.specs.Laws.FalseRecords.{false-unknown, false-good, true-greeted, false-ungreeted}
@@ -51,21 +49,36 @@ unfinished-unknown kind Phase.Greeting e = refl
 unfinished-unknown kind (Phase.Out s) e = refl
 unfinished-unknown kind (Phase.Ended o) e = absurd (true-false e)
 
--- whatever its phase and its board
+-- by its outcome, whatever its phase
+write-by : (b : Board) (room : ℕ) (s : Session)
+    → write_on b room s ≡ counts_on b room (outcome_of s.kind s.phase) s.acknowledged s.total s.named
+write-by b room s =
+    decide (ended s.phase) (write-counts b room s)
+    (λ e. write-unfinished b room s e
+    ∙ sym (counts-unknown b room _ _ _ _ (unfinished-unknown s.kind s.phase e)))
+
+-- told as an outcome, or as none
+pub write-none : (b : Board) (room : ℕ) (s : Session) → 45 ≡ outcome_of s.kind s.phase
+    → write_on b room s ≡ refused 45
+write-none b room s e =
+    write-by b room s ∙ counts-unknown b room _ _ _ _ (rw (← e) refl)
+
+pub write-some : (b : Board) (room : ℕ) (s : Session) (n : ℕ) → n ≡ outcome_of s.kind s.phase
+    → write_on b room s ≡ counts_on b room n s.acknowledged s.total s.named
+write-some b room s n e = rw e (write-by b room s)
+
+-- and whatever its board
 pub write-alike : (room : ℕ) (s : Session)
     → write_of room s
     ≡ counts_by s.board room (logged_outcome_of s) s.acknowledged s.total s.named
 write-alike room s = go (board_of s.board)
   where
-    go : (x : Known)
+    go : (x : Option Board)
         → on_board x (λ (b : Board). write_on b room s)
         ≡ on_board x (λ (b : Board). counts_on b room (outcome_on x s.kind s.phase) s.acknowledged
         s.total s.named)
-    go Known.Unknown = refl
-    go (Known.Board b) =
-        decide (ended s.phase) (write-counts b room s)
-        (λ e. write-unfinished b room s e
-        ∙ sym (counts-unknown b room _ _ _ _ (unfinished-unknown s.kind s.phase e)))
+    go None = refl
+    go (Some b) = write-by b room s
 
 -- ---- what is written reads back
 
@@ -81,7 +94,7 @@ module _ (b : Board) (o k t n : ℕ) where
   w = count_bytes b
 
   -- its length field tells its board
-  record-board : board_logged (pair_at (record_bytes b o k t n) 0) ≡ Known.Board b
+  record-board : board_logged (pair_at (record_bytes b o k t n) 0) ≡ Some b
   unfolding record_bytes big_of
   record-board =
       let fit = counts-fit b in
@@ -118,7 +131,7 @@ module _ (b : Board) (o k t n : ℕ) where
       let q = both_true (fits_in w t) (fits_in w n) p.1 in
       let long = record-length b o k t n in
       read-by (record_bytes b o k t n) (omega (arith, fit.0))
-      ∙ ap (λ (x : Known). read_by x (record_bytes b o k t n)) record-board
+      ∙ ap (λ (x : Option Board). read_by x (record_bytes b o k t n)) record-board
       ∙ read-given b (record_bytes b o k t n) long refl refl
       (acknowledged-back (ltb-true k (256 ^ w) p.0)) (total-back (ltb-true t (256 ^ w) q.0))
       (bytes_back (ltb-true n (256 ^ w) q.1)) e
@@ -139,10 +152,11 @@ pub counts-read : (board room o k t n : ℕ) (w : List ℕ) → counts_by board 
     → (b : Board) × (board ≡ pages_of b) × (read_of w ≡ given (said b o k t n))
 counts-read board room o k t n w e = go (board_of board) refl e
   where
-    go : (x : Known) → board_of board ≡ x → on_board x (λ (b : Board). counts_on b room o k t n) ≡ given w
+    go : (x : Option Board) → board_of board ≡ x
+        → on_board x (λ (b : Board). counts_on b room o k t n) ≡ given w
         → (b : Board) × (board ≡ pages_of b) × (read_of w ≡ given (said b o k t n))
-    go Known.Unknown q e = absurd (apart e)
-    go (Known.Board b) q e = (b, sym (board-by pages_of board b q), on-reads b room o k t n w e)
+    go None q e = absurd (apart e)
+    go (Some b) q e = (b, sym (board-by pages_of board b q), on-reads b room o k t n w e)
 
 -- so a session that is written reads back with its board's version, its outcome and its counts
 pub written-reads : (room : ℕ) (s : Session) (w : List ℕ) → write_of room s ≡ given w
@@ -168,11 +182,11 @@ whole board o k t n e =
     (λ g. rw g (either-none (eqb k t) _ (rw g at d.1)).0)
 
 -- what a reader was given is not false, on the board that its length tells
-read-true : (x : Known) (s : List ℕ) (r : Record) → read_by x s ≡ given r
+read-true : (x : Option Board) (s : List ℕ) (r : Record) → read_by x s ≡ given r
     → (b : Board) × (is_false_of (pages_of b) r.outcome r.acknowledged r.total r.bytes ≡ false)
 unfolding read_on
-read-true Known.Unknown s r e = absurd (apart e)
-read-true (Known.Board b) s r e =
+read-true None s r e = absurd (apart e)
+read-true (Some b) s r e =
     let p₁ = passed _ _ _ _ e in
     let p₂ = passed _ _ _ _ p₁.1 in
     let p₃ = passed _ _ _ _ p₂.1 in

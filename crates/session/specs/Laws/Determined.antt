@@ -1,22 +1,22 @@
 -- Two outcomes that a contract permits are equal: the paper's numbers and values tell all cases apart.
-use Rattle.std.specs.Prelude.{ℕ, List, ◌≡◌}
-use Rattle.std.proofs.Common.{ap, sym, ◌∙◌}
-use Rattle.basis.specs.Laws.Refusals.{apart, given-one, refused-one, determined}
+use Rattle.std.specs.Prelude.{List, ◌≡◌, Result}
+use Rattle.std.proofs.Common.{sym, ◌∙◌, ℕ}
+use Rattle.basis.specs.Laws.Refusals.{answer-one, determined}
 use Rattle.basis.specs.Lists.{overlay}
 use Rattle.basis.specs.Refusals.{Answer}
 use Rattle.events.specs.Laws.Determined.{refusal-one}
+use Rattle.events.specs.Paper.{paper_refusal}
+use Rattle.events.specs.declared.refusal.Refusal.{Refusal}
+use Rattle.session.specs.Course.{Sent, measured, sent_bytes}
 use Rattle.session.specs.Paper.{paper_stepped}
-use Rattle.session.specs.Session.{Sent, measured, sent_bytes}
-use Rattle.session.specs.declared.session.Stepped.{Stepped}
+use Rattle.session.specs.declared.state.Next.{Next}
 
--- starting and stepping
-pub stepped-one : (r s : Stepped) → paper_stepped r ≡ paper_stepped s → r ≡ s
-stepped-one (Stepped.Next x) (Stepped.Next y) e = ap Stepped.Next (given-one e)
-stepped-one (Stepped.Next x) (Stepped.Refused y) e = absurd (apart (sym e))
-stepped-one (Stepped.Refused x) (Stepped.Next y) e = absurd (apart e)
-stepped-one (Stepped.Refused x) (Stepped.Refused y) e = ap Stepped.Refused (refusal-one x y (refused-one e))
+module _ {P : Type 0} where
+  -- starting and stepping
+  pub stepped-one : (r s : Result (Next P) Refusal) → paper_stepped r ≡ paper_stepped s → r ≡ s
+  stepped-one = answer-one paper_refusal (λ (x : Next P). x) refusal-one (λ x y e. e)
 
-pub step-determined : (a : Answer Sent) (r s : Stepped) (x y old : List ℕ)
-    → (paper_stepped r ≡ measured a) × (x ≡ overlay (sent_bytes a) old)
-    → (paper_stepped s ≡ measured a) × (y ≡ overlay (sent_bytes a) old) → (r ≡ s) × (x ≡ y)
-step-determined a r s x y old p q = (determined paper_stepped stepped-one r s p.0 q.0, p.1 ∙ sym q.1)
+  pub step-determined : (a : Answer (Sent P)) (r s : Result (Next P) Refusal) (x y old : List ℕ)
+      → (paper_stepped r ≡ measured a) × (x ≡ overlay (sent_bytes a) old)
+      → (paper_stepped s ≡ measured a) × (y ≡ overlay (sent_bytes a) old) → (r ≡ s) × (x ≡ y)
+  step-determined a r s x y old p q = (determined paper_stepped stepped-one r s p.0 q.0, p.1 ∙ sym q.1)

@@ -22,15 +22,15 @@ use Rattle.order.specs.Plan.{total}
 use Rattle.order.specs.Sizes.{right_sizes}
 use Rattle.order.specs.Steps.{step_at}
 use Rattle.runs.specs.Pieces.{named_count}
-use Rattle.session.specs.Laws.Fits.{Fitting, fitting, fits_by}
+use Rattle.session.specs.Course as course
+use Rattle.session.specs.Laws.Course.{Fitting, fitting, fits_by}
 use Rattle.session.specs.Laws.Marks.{marked-carried, proved-is}
 use Rattle.session.specs.Laws.Series.{came, acks-state, acks-asked, event-taken, series-nil, series-ack, series-last, series-first, series-fails, first-fails}
 use Rattle.session.specs.Laws.States.{ack-next, greeting-state, waiting-fits, state-fits}
 use Rattle.session.specs.Laws.Steps.{step-taken}
 use Rattle.session.specs.Phases.{ended}
-use Rattle.session.specs.Session.{session_with, at_greeting, state_at, took_of, sent_of, came_at, fits_of, step_of, series, proved_of, Came, waits, stands, fails, ends, Acknowledged, Shown}
+use Rattle.session.specs.Session.{Session, quick, session_with, at_greeting, state_at, took_of, sent_of, came_at, fits_of, step_of, series, proved_of, Came, waits, stands, fails, ends, Acknowledged, Shown}
 use Rattle.session.specs.declared.phase.Phase.{Phase}
-use Rattle.session.specs.declared.session.Session.{Session}
 
 -- one series behind another
 series-append : (board : ℕ) (m : List ℕ) (s : Session) (es ds : List Event)
@@ -47,7 +47,7 @@ module _ (board : ℕ) (m : List ℕ) (long : length m ≡ map_bytes board) (som
   pub ended-fits : (o : Outcome) (k : ℕ) → ends_at (asked kind) (total board m kind) o k ≡ true
       → fits_of board m (session_with board m kind (Phase.Ended o) k) ≡ true
   ended-fits o k h =
-      fits_by board m (session_with board m kind (Phase.Ended o) k)
+      fits_by quick board m (session_with board m kind (Phase.Ended o) k)
       (record { board-is = refl; some = some; named-is = refl; total-is = refl; came-to = h })
 
   pub came-fits : (s : Session) → Came board m kind s → fits_of board m s ≡ true
@@ -82,8 +82,8 @@ pub fits-came : (board : ℕ) (m : List ℕ) → length m ≡ map_bytes board �
     → (0 < named_count board m) × Came board m s.kind s
 fits-came board m long s h = (f.some, go s.phase refl)
   where
-    f : Fitting board m s
-    f = fitting board m s h
+    f : Fitting quick board m s
+    f = fitting quick board m s h
 
     k : ℕ
     k = s.acknowledged
@@ -136,7 +136,7 @@ module _ (board : ℕ) (m : List ℕ) (long : length m ≡ map_bytes board) (som
   failed-series : (o : Outcome) (k : ℕ) → k < total board m kind → failing o k ≡ true
       → (es : List Event)
       × (session_with board m kind (Phase.Ended o) k ≡ series board m (at_greeting board m kind) es)
-  unfolding took_of series
+  unfolding course.took_of series
   failed-series Outcome.Valid k l f = absurd (true-false (sym f))
   failed-series Outcome.Held k l f = absurd (true-false (sym f))
   failed-series Outcome.Silence k l f =
@@ -272,7 +272,7 @@ fits-series board m long s h =
 
 pub proved-shown : (board : ℕ) (m : List ℕ) (s : Session) (a : ℕ) → proved_of board m s a ≡ given true
     → Shown board m s a
-unfolding proved_of
+unfolding course.proved_of
 proved-shown board m s a h =
     let p = passed 20 _ _ _ h in
     let q = passed 46 _ _ _ p.1 in
@@ -282,7 +282,7 @@ proved-shown board m s a h =
     record {
       events = e.0;
       lead-here = e.1;
-      acknowledged = λ es d. series-acknowledged board m long (fitting board m s f).some s.kind es a
+      acknowledged = λ es d. series-acknowledged board m long (fitting quick board m s f).some s.kind es a
           (ap (λ (x : Session). marked board m x.acknowledged a) (sym d)
           ∙ given-one (sym (proved-is board m long s a f) ∙ h));
     }

@@ -1,7 +1,11 @@
 -- Laws of 46: what it is that a session fits a file.
-use Rattle.std.specs.Prelude.{ℕ, ◌≤◌, ◌<◌, true, List, ◌≡◌, refl, eqb, ltb, length}
-use Rattle.std.proofs.Common.{arith, eq-eqb, eqb-true, ltb-true, lt-ltb}
-use Rattle.basis.specs.Laws.Choice.{decide, both_true}
+use Rattle.std.specs.Prelude.{ℕ, ◌≤◌, ◌<◌, ◌^◌, true, List, ◌≡◌, refl, length, Option, Some, None}
+use Rattle.std.proofs.Common.{arith, eqb-true}
+use Rattle.basis.specs.Board.{pages_of}
+use Rattle.basis.specs.Laws.Boards.{pages-few}
+use Rattle.basis.specs.declared.board.Board.{Board}
+use Rattle.order.specs.Laws.Totals.{total-most}
+use Rattle.basis.specs.Laws.Choice.{decide}
 use Rattle.basis.specs.Units.{map_bytes}
 use Rattle.basis.specs.declared.kind.RunKind.{RunKind}
 use Rattle.events.specs.Endings.{goes_on, asked}
@@ -9,47 +13,14 @@ use Rattle.events.specs.Laws.Endings.{ends_by}
 use Rattle.events.specs.declared.event.Event.{Event}
 use Rattle.order.specs.Laws.Steps.{stands-start, stands-below, first-start, follow-start}
 use Rattle.order.specs.Plan.{total}
+use Rattle.order.specs.declared.step.Step.{Step}
 use Rattle.order.specs.Steps.{follow_of}
-use Rattle.order.specs.declared.cursor.Following.{Following}
 use Rattle.runs.specs.Pieces.{named_count}
+use Rattle.session.specs.Course as course
 use Rattle.session.specs.Phases.{after_of, awaits_of, on_start, reached_of}
-use Rattle.session.specs.Session.{took_of, came_at, came_of, fits_of}
+use Rattle.session.specs.Laws.Course.{fitting}
+use Rattle.session.specs.Session.{Session, quick, took_of, came_at, fits_of}
 use Rattle.session.specs.declared.phase.Phase.{Phase}
-use Rattle.session.specs.declared.session.Session.{Session}
-
--- the board is the session's, the file has a named byte, the session's counts are the file's, and its phase
--- is one to which events lead
-pub record Fitting (board : ℕ) (m : List ℕ) (s : Session) : Type 0 where
-  pub board-is : s.board ≡ board
-  pub some : 0 < named_count board m
-  pub named-is : s.named ≡ named_count board m
-  pub total-is : s.total ≡ total board m s.kind
-  pub came-to : came_at board m s.kind s.phase s.acknowledged ≡ true
-
-pub fitting : (board : ℕ) (m : List ℕ) (s : Session) → fits_of board m s ≡ true → Fitting board m s
-unfolding fits_of came_of
-fitting board m s h =
-    let o = both_true (eqb s.board board) _ h in
-    let a = both_true (ltb 0 (named_count board m)) _ o.1 in
-    let b = both_true (eqb s.named (named_count board m)) _ a.1 in
-    let d = both_true (eqb s.total (total board m s.kind)) _ b.1 in
-    record {
-      board-is = eqb-true _ _ o.0;
-      some = ltb-true _ _ a.0;
-      named-is = eqb-true _ _ b.0;
-      total-is = eqb-true _ _ d.0;
-      came-to = d.1;
-    }
-
-pub fits_by : (board : ℕ) (m : List ℕ) (s : Session) → Fitting board m s → fits_of board m s ≡ true
-unfolding fits_of came_of
-fits_by board m s f =
-    rw (
-      eq-eqb s.board board f.board-is,
-      lt-ltb 0 (named_count board m) f.some,
-      eq-eqb s.named (named_count board m) f.named-is,
-      eq-eqb s.total (total board m s.kind) f.total-is,
-    ) f.came-to
 
 -- ---- the phases to which events lead
 
@@ -72,17 +43,41 @@ module _ (board : ℕ) (m : List ℕ) (long : length m ≡ map_bytes board) (kin
   after-start some Phase.Greeting h = first-start board m long some kind
   after-start some (Phase.Out s) h = go (follow_of board m kind s) refl
     where
-      go : (f : Following) → follow_of board m kind s ≡ f → on_start board m (reached_of kind f) ≡ true
-      go (Following.Step t) e = follow-start board m long some kind s t k h e
-      go Following.End e = refl
+      go : (f : Option Step) → follow_of board m kind s ≡ f → on_start board m (reached_of kind f) ≡ true
+      go (Some t) e = follow-start board m long some kind s t k h e
+      go None e = refl
   after-start some (Phase.Ended o) h = refl
 
 -- after any event the cursor stands at a start
 pub took-start : (board : ℕ) (m : List ℕ) → length m ≡ map_bytes board → (s : Session) (e : Event)
     → fits_of board m s ≡ true → on_start board m (took_of board m s e).phase ≡ true
-unfolding took_of
+unfolding course.took_of
 took-start board m long s e h =
-    let f = fitting board m s h in
+    let f = fitting quick board m s h in
     decide (goes_on (awaits_of s.phase) e)
     (λ t. rw t (after-start board m long s.kind s.acknowledged f.some s.phase f.came-to))
     (λ t. rw t)
+
+-- ---- a session that fits its board's file
+
+module _ (b : Board) (m : List ℕ) (s : Session) (long : length m ≡ map_bytes (pages_of b))
+    (h : fits_of (pages_of b) m s ≡ true) where
+  -- its cursor stands at a start, before and after an event
+  pub fits-ready : on_start (pages_of b) m s.phase ≡ true
+  fits-ready =
+      came-start (pages_of b) m long s.kind s.acknowledged s.phase (fitting quick (pages_of b) m s h).came-to
+
+  -- and there is room for one acknowledgement more
+  pub fits-few : s.acknowledged < 2 ^ 31
+  fits-few =
+      let f = fitting quick (pages_of b) m s h in
+      omega (
+        arith,
+        came-most (pages_of b) m long s.kind s.acknowledged s.phase f.came-to,
+        total-most (pages_of b) m s.kind,
+        pages-few b,
+      )
+
+pub took-ready : (b : Board) (m : List ℕ) (s : Session) (e : Event) → length m ≡ map_bytes (pages_of b)
+    → fits_of (pages_of b) m s ≡ true → on_start (pages_of b) m (took_of (pages_of b) m s e).phase ≡ true
+took-ready b m s e long h = took-start (pages_of b) m long s e h

@@ -1,12 +1,11 @@
 -- Laws of marks: a byte is marked by the ACK to the V that carries it, and R is out only when all named
 -- bytes are, where it was asked for.
 use Rattle.std.proofs.lemmas.Bool.{eqb-false}
-use Rattle.std.proofs.Math.Bool.{true, not}
+use Rattle.std.proofs.Math.Bool.{true}
 use Rattle.std.specs.Prelude.{List, ◌≡◌, eqb, length, get_or}
 use Rattle.std.proofs.Math.Path.{refl, sym}
-use Rattle.std.proofs.Common.{ap, subst, ◌∙◌, ℕ, ◌+◌, ◌≤◌, ◌<◌, arith, eq-eqb, eqb-true, le-leb, leb-true}
+use Rattle.std.proofs.Common.{ap, subst, ◌∙◌, ℕ, ◌+◌, ◌≤◌, ◌<◌, arith, eqb-true, le-leb, leb-true}
 use Rattle.basis.specs.Laws.Choice.{decide, both_true, both-second, both_false}
-use Rattle.basis.specs.Laws.Refusals.{skip, done}
 use Rattle.basis.specs.Refusals.{given}
 use Rattle.basis.specs.Units.{start_of, map_bytes}
 use Rattle.basis.specs.declared.kind.RunKind.{RunKind}
@@ -22,10 +21,9 @@ use Rattle.runs.specs.Laws.Runs.{count-mono}
 use Rattle.runs.specs.Map.{named}
 use Rattle.runs.specs.Pieces.{piece_most, piece_starts, piece_len}
 use Rattle.runs.specs.Runs.{count, home}
-use Rattle.session.specs.Laws.Fits.{fitting}
-use Rattle.session.specs.Session.{came_at, fits_of, proved_of, Carried}
+use Rattle.session.specs.Laws.Course.{fitting, mark-given}
+use Rattle.session.specs.Session.{Session, quick, came_at, fits_of, proved_of, Carried}
 use Rattle.session.specs.declared.phase.Phase.{Phase}
-use Rattle.session.specs.declared.session.Session.{Session}
 
 -- V has the same place whatever the run kind: these laws look at hold's plan, with which each other begins
 module _ (board : ℕ) (m : List ℕ) where
@@ -100,7 +98,7 @@ module _ (board : ℕ) (m : List ℕ) (long : length m ≡ map_bytes board) wher
   r-out s h e =
       stands-r board m s.kind s.acknowledged
       (sym (ap (λ (ph : Phase). came_at board m s.kind ph s.acknowledged) e)
-      ∙ (fitting board m s h).came-to)
+      ∙ (fitting quick board m s h).came-to)
 
   -- so R is out only when every named byte is marked
   pub r-marked : (s : Session) (a : ℕ) → fits_of board m s ≡ true → s.phase ≡ Phase.Out Step.Run
@@ -152,5 +150,4 @@ module _ (board : ℕ) (m : List ℕ) (long : length m ≡ map_bytes board) wher
   -- over its own file the session's `proved` says what is marked
   pub proved-is : (s : Session) (a : ℕ) → fits_of board m s ≡ true
       → proved_of board m s a ≡ given (marked board m s.acknowledged a)
-  unfolding proved_of
-  proved-is s a h = skip 20 _ _ _ (ap not (eq-eqb _ _ long)) ∙ skip 46 _ _ _ (ap not h) ∙ done _
+  proved-is s a h = mark-given quick board m s a long h

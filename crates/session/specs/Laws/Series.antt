@@ -16,11 +16,11 @@ use Rattle.order.specs.Laws.Totals.{total-some}
 use Rattle.order.specs.Plan.{total}
 use Rattle.order.specs.Steps.{step_at}
 use Rattle.runs.specs.Pieces.{named_count}
+use Rattle.session.specs.Course as course
 use Rattle.session.specs.Laws.States.{greeting-state, ack-next, ack-last}
 use Rattle.session.specs.Phases.{ended, awaits_of, phase_at}
-use Rattle.session.specs.Session.{session_with, at_greeting, state_at, as_asked, heard_by, took_of, series, Came, waits, stands, fails, ends}
+use Rattle.session.specs.Session.{Session, session_with, at_greeting, state_at, as_asked, heard_by, took_of, series, Came, waits, stands, fails, ends}
 use Rattle.session.specs.declared.phase.Phase.{Phase}
-use Rattle.session.specs.declared.session.Session.{Session}
 
 -- with no event nothing changes, nor after the end
 pub series-nil : (board : ℕ) (m : List ℕ) (s : Session) → series board m s [] ≡ s
@@ -36,7 +36,7 @@ series-ended board m s (e ∷ es) h = rw h (series-ended board m s es h)
 -- silence ends a session with 40, wherever it stands
 pub silence-ends : (board : ℕ) (m : List ℕ) (s : Session)
     → (took_of board m s Event.Silence).phase ≡ Phase.Ended Outcome.Silence
-unfolding took_of
+unfolding course.took_of
 silence-ends board m s = go (awaits_of s.phase)
   where
     go : (w : Awaited) → (heard_by board m s w Event.Silence).phase ≡ Phase.Ended Outcome.Silence
@@ -89,7 +89,7 @@ module _ (board : ℕ) (m : List ℕ) (long : length m ≡ map_bytes board) (som
   pub not-ack : (k : ℕ) (e : Event) → is_ack e ≡ false → k < total board m kind
       → (o : Outcome) × (failing o k ≡ true)
       × (took_of board m (state_at board m kind k) e ≡ session_with board m kind (Phase.Ended o) k)
-  unfolding took_of
+  unfolding course.took_of
   not-ack k Event.Greeting h l = (Outcome.Other, refl, rw add-zero)
   not-ack k Event.Ack h l = absurd (true-false h)
   not-ack k Event.Bel h l = (Outcome.Bel, refl, rw add-zero)
@@ -116,7 +116,7 @@ module _ (board : ℕ) (m : List ℕ) (long : length m ≡ map_bytes board) (som
   pub not-greeting : (e : Event) → is_greeting e ≡ false
       → (o : Outcome) × (failing o 0 ≡ true)
       × (took_of board m (at_greeting board m kind) e ≡ session_with board m kind (Phase.Ended o) 0)
-  unfolding took_of
+  unfolding course.took_of
   not-greeting Event.Greeting h = absurd (true-false h)
   not-greeting Event.Ack h = (Outcome.NoGreeting, refl, refl)
   not-greeting Event.Bel h = (Outcome.NoGreeting, refl, refl)

@@ -1,6 +1,6 @@
 -- Laws of states: the state after k acknowledgements, what leads
 -- to the next, and that these fit a file.
-use Rattle.std.specs.Prelude.{ℕ, ◌+◌, ◌<◌, true, false, List, [], ◌≡◌, refl, length, get_or}
+use Rattle.std.specs.Prelude.{ℕ, ◌+◌, ◌<◌, true, false, List, [], ◌≡◌, refl, length, get_or, Option}
 use Rattle.std.proofs.Common.{sym, ◌∙◌, arith}
 use Rattle.std.proofs.Math.Path.{ap}
 use Rattle.basis.specs.Board.{pages_of, greeting_of}
@@ -19,15 +19,14 @@ use Rattle.order.specs.Laws.Steps.{at-stands, first-at, follow-next, follow-end}
 use Rattle.order.specs.Laws.Totals.{total-some}
 use Rattle.order.specs.Plan.{plan, total}
 use Rattle.order.specs.Sizes.{right_sizes}
-use Rattle.order.specs.declared.cursor.Following.{Following}
 use Rattle.order.specs.declared.step.Step.{Step}
 use Rattle.runs.specs.Pieces.{named_count}
-use Rattle.session.specs.Laws.Fits.{fits_by}
+use Rattle.session.specs.Course as course
+use Rattle.session.specs.Laws.Course.{fits_by}
 use Rattle.session.specs.Laws.Steps.{step-taken}
 use Rattle.session.specs.Phases.{packet_out, reached_of}
-use Rattle.session.specs.Session.{session_with, at_greeting, state_at, as_asked, Sent, took_of, sent_of, fits_of, step_of, step_by}
+use Rattle.session.specs.Session.{Session, quick, session_with, at_greeting, state_at, as_asked, Sent, took_of, sent_of, fits_of, step_of, step_by}
 use Rattle.session.specs.declared.phase.Phase.{Phase}
-use Rattle.session.specs.declared.session.Session.{Session}
 
 -- ---- from state to state
 
@@ -35,24 +34,24 @@ module _ (board : ℕ) (m : List ℕ) (long : length m ≡ map_bytes board) (som
     (kind : RunKind) where
   -- the greeting: the first packet is out
   pub greeting-state : took_of board m (at_greeting board m kind) Event.Greeting ≡ state_at board m kind 0
-  unfolding took_of
+  unfolding course.took_of
   greeting-state =
       ap (λ (s : Step). session_with board m kind (Phase.Out s) 0) (first-at board m long some kind)
 
   -- ACK: the state after k leads to the state after k + 1
   pub ack-next : (k : ℕ) → k + 1 < total board m kind
       → took_of board m (state_at board m kind k) Event.Ack ≡ state_at board m kind (k + 1)
-  unfolding took_of
+  unfolding course.took_of
   ack-next k l =
-      ap (λ (f : Following). session_with board m kind (reached_of kind f) (k + 1))
+      ap (λ (f : Option Step). session_with board m kind (reached_of kind f) (k + 1))
       (follow-next board m long some kind k l)
 
   -- ACK to the last packet ends as was asked
   pub ack-last : (k : ℕ) → k + 1 ≡ total board m kind
       → took_of board m (state_at board m kind k) Event.Ack ≡ as_asked board m kind
-  unfolding took_of
+  unfolding course.took_of
   ack-last k l =
-      ap (λ (f : Following). session_with board m kind (reached_of kind f) (k + 1))
+      ap (λ (f : Option Step). session_with board m kind (reached_of kind f) (k + 1))
       (follow-end board m long some kind k l)
       ∙ ap (session_with board m kind (Phase.Ended (asked kind))) l
 
@@ -60,12 +59,12 @@ module _ (board : ℕ) (m : List ℕ) (long : length m ≡ map_bytes board) (som
 
   pub waiting-fits : fits_of board m (at_greeting board m kind) ≡ true
   waiting-fits =
-      fits_by board m (at_greeting board m kind)
+      fits_by quick board m (at_greeting board m kind)
       (record { board-is = refl; some = some; named-is = refl; total-is = refl; came-to = refl })
 
   pub state-fits : (k : ℕ) → k < total board m kind → fits_of board m (state_at board m kind k) ≡ true
   state-fits k l =
-      fits_by board m (state_at board m kind k)
+      fits_by quick board m (state_at board m kind k)
       (record {
         board-is = refl;
         some = some;
@@ -132,7 +131,7 @@ pub other-ends : (a b : Board) → (a ≡ b → ⊥) → (image m : List ℕ) (r
       session = session_with (pages_of a) m kind (Phase.Ended Outcome.NoGreeting) 0;
       packet = [];
     })
-unfolding took_of
+unfolding course.took_of
 other-ends a b other image m room kind right some =
     let long = (sizes-right (pages_of a) (length image) (length m) room right).1 in
     rw (board-back a, other-board a b other)

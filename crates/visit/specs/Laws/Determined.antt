@@ -1,57 +1,50 @@
 -- Two outcomes that a contract permits are equal: the numbers and values tell all cases apart.
-use Rattle.std.specs.Prelude.{ℕ, ◌<◌, List, ◌≡◌, refl}
+use Rattle.std.specs.Prelude.{ℕ, ◌<◌, ◌≢◌, List, ◌≡◌, refl, Result, Ok, Err}
 use Rattle.std.proofs.Common.{sym, ap, ◌∙◌, arith, lit<}
-use Rattle.basis.specs.Laws.Refusals.{apart, refused-one, determined}
+use Rattle.basis.specs.Laws.Refusals.{answer-one, determined}
 use Rattle.basis.specs.Lists.{overlay}
-use Rattle.basis.specs.Refusals.{Answer, refused}
+use Rattle.basis.specs.Refusals.{Answer}
+use Rattle.events.specs.Laws.Determined.{refusal-one}
 use Rattle.events.specs.Paper as events
 use Rattle.events.specs.declared.refusal.Refusal as session
 use Rattle.image.specs.Hex.{Settled, settled_as}
 use Rattle.image.specs.Laws.Determined.{close-determined}
 use Rattle.image.specs.Laws.Pointed.{pointed-apart, wrong-one}
 use Rattle.image.specs.Paper as image
-use Rattle.image.specs.Record.{wrong}
-use Rattle.image.specs.declared.hex.Read.{Read}
+use Rattle.image.specs.declared.hex.Hex.{Hex}
+use Rattle.image.specs.declared.record.Blame.{Blame}
 use Rattle.image.specs.declared.record.Refusal as hex
-use Rattle.session.specs.Laws.Determined.{stepped-one}
-use Rattle.session.specs.Paper.{paper_stepped}
-use Rattle.session.specs.Session.{Sent, measured, sent_bytes}
-use Rattle.session.specs.declared.session.Stepped.{Stepped}
-use Rattle.visit.specs.Paper.{paper_opened, paper_started}
-use Rattle.visit.specs.declared.open.Opened.{Opened}
-use Rattle.visit.specs.declared.start.Started.{Started}
+use Rattle.session.specs.Session.{Next, Sent, measured, sent_bytes}
+use Rattle.visit.specs.Paper.{paper_opened, paper_unstarted, paper_started}
+use Rattle.visit.specs.declared.open.Unopened as opening
+use Rattle.visit.specs.declared.open.Unopened.TheVariants as unopened
+use Rattle.visit.specs.declared.start.Unstarted.{Unstarted}
+use Rattle.visit.specs.declared.start.Unstarted.TheVariants.{Unknown, Outside, Session}
 
 -- ---- starting: no session's refusal is 60 or 64
 
-session-other : (x : session.Refusal) → (events.paper_refusal x ≡ 60 → ⊥) × (events.paper_refusal x ≡ 64 → ⊥)
+session-other : (x : session.Refusal) → (events.paper_refusal x ≢ 60) × (events.paper_refusal x ≢ 64)
 session-other session.Refusal.Board = (λ e. omega arith, λ e. omega arith)
 session-other session.Refusal.Size = (λ e. omega arith, λ e. omega arith)
 session-other session.Refusal.Empty = (λ e. omega arith, λ e. omega arith)
 session-other session.Refusal.Ended = (λ e. omega arith, λ e. omega arith)
 session-other session.Refusal.Foreign = (λ e. omega arith, λ e. omega arith)
 
-known_start : (x : Stepped) → paper_stepped x ≡ refused 60 → ⊥
-known_start (Stepped.Next y) e = apart (sym e)
-known_start (Stepped.Refused y) e = (session-other y).0 (refused-one e)
+unstarted-one : (x y : Unstarted) → paper_unstarted x ≡ paper_unstarted y → x ≡ y
+unstarted-one Unknown Unknown e = refl
+unstarted-one Unknown Outside e = absurd (let z : ◌≡◌ {A = ℕ} 60 64 = e in omega arith)
+unstarted-one Unknown (Session y) e = absurd ((session-other y).0 (sym e))
+unstarted-one Outside Unknown e = absurd (let z : ◌≡◌ {A = ℕ} 64 60 = e in omega arith)
+unstarted-one Outside Outside e = refl
+unstarted-one Outside (Session y) e = absurd ((session-other y).1 (sym e))
+unstarted-one (Session x) Unknown e = absurd ((session-other x).0 e)
+unstarted-one (Session x) Outside e = absurd ((session-other x).1 e)
+unstarted-one (Session x) (Session y) e = ap Session (refusal-one x y e)
 
-inside-start : (x : Stepped) → paper_stepped x ≡ refused 64 → ⊥
-inside-start (Stepped.Next y) e = apart (sym e)
-inside-start (Stepped.Refused y) e = (session-other y).1 (refused-one e)
+started-one : (r s : Result Next Unstarted) → paper_started r ≡ paper_started s → r ≡ s
+started-one = answer-one paper_unstarted (λ (x : Next). x) unstarted-one (λ x y e. e)
 
-started-one : (r s : Started) → paper_started r ≡ paper_started s → r ≡ s
-started-one Started.Unknown Started.Unknown e = refl
-started-one Started.Unknown Started.Outside e =
-    absurd (let z : ◌≡◌ {A = ℕ} 60 64 = refused-one e in omega arith)
-started-one Started.Unknown (Started.Start y) e = absurd (known_start y (sym e))
-started-one Started.Outside Started.Unknown e =
-    absurd (let z : ◌≡◌ {A = ℕ} 64 60 = refused-one e in omega arith)
-started-one Started.Outside Started.Outside e = refl
-started-one Started.Outside (Started.Start y) e = absurd (inside-start y (sym e))
-started-one (Started.Start x) Started.Unknown e = absurd (known_start x e)
-started-one (Started.Start x) Started.Outside e = absurd (inside-start x e)
-started-one (Started.Start x) (Started.Start y) e = ap Started.Start (stepped-one x y e)
-
-pub start-determined : (a : Answer Sent) (r s : Started) (x y old : List ℕ)
+pub start-determined : (a : Answer Sent) (r s : Result Next Unstarted) (x y old : List ℕ)
     → (paper_started r ≡ measured a) × (x ≡ overlay (sent_bytes a) old)
     → (paper_started s ≡ measured a) × (y ≡ overlay (sent_bytes a) old) → (r ≡ s) × (x ≡ y)
 start-determined a r s x y old p q =
@@ -76,17 +69,26 @@ hex-below hex.Refusal.NoData = lit< tt
 hex-below hex.Refusal.Short = lit< tt
 hex-below hex.Refusal.Rules = lit< tt
 
-known-open : (r : Read) → image.paper_read r ≡ wrong 60 0 → ⊥
-known-open (Read.Taken h) e = pointed-apart (sym e)
-known-open (Read.Refused x c) e = let w = wrong-one e in omega (arith, w.0, hex-below x)
+-- what the reader answers is told on
+abbrev told : Result Hex Blame → Result Hex opening.Unopened
+told (Ok h) = Ok h
+told (Err why) = Err (unopened.Hex why)
 
-opened_one : (r s : Opened) → paper_opened r ≡ paper_opened s → r ≡ s
-opened_one Opened.Unknown Opened.Unknown e = refl
-opened_one Opened.Unknown (Opened.Read y) e = absurd (known-open y (sym e))
-opened_one (Opened.Read x) Opened.Unknown e = absurd (known-open x e)
-opened_one (Opened.Read x) (Opened.Read y) e = ap Opened.Read (close-determined x y e refl)
+opened_one : (r s : Result Hex opening.Unopened) → paper_opened r ≡ paper_opened s → r ≡ s
+opened_one (Ok h) (Ok k) e = ap told (close-determined (Ok h) (Ok k) e refl)
+opened_one (Ok h) (Err unopened.Unknown) e = absurd (pointed-apart (sym e))
+opened_one (Ok h) (Err (unopened.Hex y)) e = absurd (pointed-apart (sym e))
+opened_one (Err unopened.Unknown) (Ok k) e = absurd (pointed-apart e)
+opened_one (Err unopened.Unknown) (Err unopened.Unknown) e = refl
+opened_one (Err unopened.Unknown) (Err (unopened.Hex y)) e =
+    absurd (let w = wrong-one e in omega (arith, w.0, hex-below y.refusal))
+opened_one (Err (unopened.Hex x)) (Ok k) e = absurd (pointed-apart e)
+opened_one (Err (unopened.Hex x)) (Err unopened.Unknown) e =
+    absurd (let w = wrong-one e in omega (arith, w.0, hex-below x.refusal))
+opened_one (Err (unopened.Hex x)) (Err (unopened.Hex y)) e =
+    ap told (close-determined (Err x) (Err y) e refl)
 
-pub open-determined : {o : Settled} (r s : Opened) (i j m n : List ℕ)
+pub open-determined : {o : Settled} (r s : Result Hex opening.Unopened) (i j m n : List ℕ)
     → settled_as (paper_opened r) i m ≡ o
     → settled_as (paper_opened s) j n ≡ o
     → (r ≡ s) × (i ≡ j) × (m ≡ n)

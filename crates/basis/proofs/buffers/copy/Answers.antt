@@ -1,15 +1,10 @@
 -- `copy` meets its contract: copying what is left, from here, gives what was to be given.
-use Rattle.std.proofs.Common.{sym, ◌∙◌, arith, length-set}
-use Rattle.basis.specs.Lists.{new}
-use Rattle.basis.specs.Laws.Lists.{stored-turn, stored-ended}
+use Rattle.std.proofs.Common.{◌∙◌, arith, length-set}
+use Rattle.basis.proofs.Steps.{copy-turn}
 use Rattle.basis.proofs.buffers.copy.Goals as goal
 
 pub loop-i-preserved : goal.loop-i-preserved
 loop-i-preserved c = (
-  omega arith,
   simp length-set (omega arith),
-  stored-turn new _ _ _ _ (omega arith) ∙ c.loop-i.invariant.2,
+  copy-turn _ _ _ _ c.loop-i-test.true ∙ c.loop-i.invariant.1,
 )
-
-pub returns : goal.returns
-returns c = sym (stored-ended new _ _ _ _ c.loop-i-test.false) ∙ c.loop-i.invariant.2

@@ -1,12 +1,9 @@
--- What each turn of `copy` keeps, and what falls.
-use Rattle.std.proofs.Common.{◌≡◌, ◌+◌, ◌-◌, ◌≤◌, length, drop}
+-- What each turn of `copy` keeps.
+use Rattle.std.proofs.Common.{◌≡◌, ◌+◌, length, drop}
 use Rattle.basis.specs.Lists.{copy_of}
 use Rattle.basis.proofs.buffers.copy.Given as goal
 
 abbrev pub invariant-loop-i : goal.invariant-loop-i
 invariant-loop-i l =
-    (l.i ≤ length l.bytes) × (length l.buffer ≡ length l.initial.buffer) ×
+    (length l.buffer ≡ length l.initial.buffer) ×
     (copy_of l.buffer (l.at + l.i) (drop l.i l.bytes) ≡ copy_of l.initial.buffer l.at l.bytes)
-
-abbrev pub decreases-loop-i : goal.decreases-loop-i
-decreases-loop-i l = length l.bytes - l.i

@@ -6,6 +6,8 @@ use Rattle.basis.specs.Laws.Lists.{overlay-next, copy-overlay}
 use Rattle.basis.specs.Laws.Sums.{sum-append}
 use Rattle.image.specs.Writer.{spelt, content, text, record_room}
 use Rattle.image.specs.Laws.Writer.{length-spelt, spelt-append}
+use Rattle.image.specs.Paper.{paper_kind}
+use Rattle.image.proofs.Halves.{two-bytes}
 use Rattle.image.proofs.writer.print.Goals as goal
 
 -- the sum of two parts makes the checksum of the whole
@@ -58,12 +60,16 @@ pub returns : goal.returns
 returns c =
     let pre = c.requires in
     let a = c.args in
+    let k : ℕ = paper_kind a.kind in
     let s = a.bytes.now in
-    let four = length s ∷ a.address / 256 ∷ a.address % 256 ∷ a.kind ∷ [] in
-    let sums = checksum-parts four s c.wrapping_add_u8-total.result
-    (omega (arith, c.wrapping_add_u8-total.ensures.value, c.sum.ensures, c.sum-2.ensures)) in record {
-      length = sym (text-length a.address a.kind s a.buffer.now pre.0 pre.1);
-      buffer = print-done a.address a.kind s a.buffer.now pre.0 pre.1 _ _ _ _
-          (omega (arith, c.complement.ensures) ∙ sums) c.spell.ensures c.spell-2.ensures
-          c.spell-3.ensures;
+    let old = a.buffer.now in
+    let e : c.to_be_bytes.result ≡ a.address / 256 ∷ a.address % 256 ∷ [] =
+    c.to_be_bytes.ensures ∙ two-bytes a.address c.ranges.address.fits in
+    let first = rw (e, c.from.ensures) at c.sum.ensures in
+    let spelt_head = rw (e, c.from.ensures) at c.spell.ensures in
+    let sums = checksum-parts (head a.address k s old pre.few pre.room) s _
+    (rw (first, c.sum-2.ensures) refl) in record {
+      length = sym (text-length a.address k s old pre.few pre.room);
+      buffer = print-done a.address k s old pre.few pre.room _ _ _ _
+          (c.complement.ensures ∙ sums) spelt_head c.spell-2.ensures c.spell-3.ensures;
     }

@@ -2,7 +2,7 @@
 use Rattle.std.proofs.Common.{ℕ, List, ◌≡◌, ap, sym, ◌∙◌}
 use Rattle.basis.specs.Board.{pages_of}
 use Rattle.loader.specs.Commands.{erasing, writing, keeping, protecting, obey_of}
-use Rattle.loader.specs.Laws.Commands.{obey-erase, obey-write, obey-verify, obey-protect, obey-run}
+use Rattle.loader.specs.Laws.Commands.{obey-erase, obey-write, obey-protect, obey-run}
 use Rattle.packet.specs.Paper.{paper_command}
 use Rattle.packet.specs.declared.table.Command.{Command}
 use Rattle.loader.proofs.judge.judge.Goals as goal
@@ -34,13 +34,6 @@ returns-in-Write c =
     ∙ obey-write b a.loader a.packet.address.0 a.sent.now a.flash.now
     ∙ ap (λ (w : List ℕ). writing b a.loader a.packet.address.0 w a.flash.now) d)
     (c.write.ensures s a.flash.now h)
-
-pub returns-in-Verify : goal.returns-in-Verify
-returns-in-Verify c =
-    let a = c.args in let b = pages_of a.board in
-    λ s h d. rw (by_byte (goal.at.returns-in-Verify c).Start c.in-Verify.is
-    ∙ obey-verify b a.loader a.packet.address.0 a.sent.now a.flash.now)
-    (c.verify.ensures s)
 
 pub returns-in-Protect : goal.returns-in-Protect
 returns-in-Protect c =

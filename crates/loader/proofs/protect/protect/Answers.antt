@@ -1,5 +1,5 @@
 -- `protect` meets its contract: the type decides.
-use Rattle.std.proofs.Common.{ne_eqb}
+use Rattle.std.proofs.Common.{ne_eqb, rules}
 use Rattle.loader.specs.Commands.{protecting}
 use Rattle.loader.proofs.protect.protect.Goals as goal
 
@@ -15,5 +15,5 @@ pub returns-in_default : goal.returns-in_default
 unfolding protecting
 returns-in_default c =
     λ s f. simp
-    (ne_eqb _ _ c.in_default.in_default-own.rest.0.1, ne_eqb _ _ c.in_default.in_default-own.rest.1)
+    (ne_eqb c.args.kind 0x00 (search rules), ne_eqb c.args.kind 0x0F (search rules))
     (c.close.ensures _ s f)

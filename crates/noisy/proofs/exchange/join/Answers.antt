@@ -2,9 +2,10 @@
 use Rattle.noisy.proofs.Joining.{joined-fits, joined-more}
 use Rattle.noisy.proofs.exchange.join.Goals as goal
 
-pub returns : goal.returns
-returns c =
-    let e = c.first-more.ensures in (
-      joined-fits c.args.joined.now _ _ c.args.heard c.requires e,
-      joined-more c.args.joined.now _ _ _ c.args.heard c.requires e c.copy.ensures,
-    )
+pub returns-clause-fits : goal.returns-clause-fits
+returns-clause-fits c =
+    joined-fits c.args.joined.now _ _ c.args.heard c.requires c.first-more.ensures
+
+pub returns-clause-bytes : goal.returns-clause-bytes
+returns-clause-bytes c =
+    joined-more c.args.joined.now _ _ _ c.args.heard c.requires c.first-more.ensures c.copy.ensures

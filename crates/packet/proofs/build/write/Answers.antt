@@ -6,6 +6,7 @@ use Rattle.basis.specs.Laws.Lists.{overlay-part, overlay-next}
 use Rattle.basis.specs.Lists.{overlay}
 use Rattle.basis.specs.Sums.{checksum_of}
 use Rattle.packet.specs.Packet.{front_of, carried_of, summed, packet}
+use Rattle.packet.specs.Paper.{paper_command}
 use Rattle.packet.proofs.build.write.Goals as goal
 
 -- a buffer F with the front written, its part P behind the front with the data, and the checksum x of what
@@ -28,10 +29,10 @@ module _ (c a : ℕ) (d old F P : List ℕ) (e_f : F ≡ overlay (front_of (leng
 
 pub returns : goal.returns
 returns c =
-    let fill = c.fill in
-    let front = c.front in
-    let a = c.args in (
-      omega arith,
-      closed a.command a.address.0 a.plain.now a.buffer.now front.new.buffer fill.new.part
-          front.ensures fill.ensures c.checksum.result c.checksum.ensures (omega arith),
-    )
+    let a = c.args in
+    let x : ℕ = c.checksum.result in record {
+      length = omega arith;
+      bytes =
+          closed (paper_command a.command) a.address.0 a.plain.now a.buffer.now c.front.new.buffer c.fill.new.part
+          c.front.ensures c.fill.ensures x c.checksum.ensures (omega arith);
+    }

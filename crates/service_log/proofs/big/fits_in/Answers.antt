@@ -1,6 +1,6 @@
 -- `fits_in` meets its contract: nothing is left above so many bytes.
 use Rattle.std.proofs.Common.{ℕ, zero, suc, ◌*◌, ◌/◌, ◌^◌, ◌≡◌, refl, sym, ◌∙◌, mul-suc, pow-suc, div-lt_iff_lt-mul, arith, eq-eqb, ne_eqb, ltb-true, ltb-false, eqb, ltb, pow_pos, pow-add}
-use native.Mathlib.Nat.{div-eq_of_lt}
+use Rattle.std.proofs.Math.Nat.{div-eq_of_lt}
 use Rattle.basis.specs.Laws.Choice.{decide}
 use Rattle.service_log.specs.Big.{fits_in}
 use Rattle.service_log.proofs.big.fits_in.Goals as goal
@@ -23,4 +23,4 @@ above w x =
     )) ∙ sym t))
 
 pub returns : goal.returns
-returns c = above c.args.width c.args.x
+returns c = rw c.from.ensures (above c.args.width c.args.x)

@@ -1,5 +1,5 @@
 -- `put_record` meets its contract: four bytes and the three counts follow one another.
-use Rattle.std.proofs.Common.{ℕ, ◌+◌, ◌*◌, ◌/◌, ◌%◌, ◌≤◌, List, [], ◌∷◌, ◌++◌, ◌≡◌, refl, arith, length, length-append}
+use Rattle.std.proofs.Common.{ℕ, ◌+◌, ◌*◌, ◌/◌, ◌%◌, ◌≤◌, List, [], ◌∷◌, ◌++◌, ◌≡◌, refl, arith, rules, length, length-append}
 use Rattle.basis.specs.Board.{version_of, count_bytes, log_length}
 use Rattle.basis.specs.Laws.Lists.{copy-overlay}
 use Rattle.basis.specs.Lists.{overlay, copy_of}
@@ -44,7 +44,9 @@ put b o k t n l v w old F K T N room el ev ew e_f e_k e_t e_n =
 pub returns : goal.returns
 returns c =
     let a = c.args in
-    put a.board a.outcome a.acknowledged a.total a.bytes _ _ _ a.buffer.now _ _ _ _
-    c.requires c.log_length-length.ensures.0 c.log_version-version.ensures
-    c.count_bytes-width.ensures.0 c.write.ensures c.put_big.ensures
+    let l = c.log_length.result in
+    let e : c.to_be_bytes.result ≡ l / 256 % 256 ∷ l % 256 ∷ [] = c.to_be_bytes.ensures in
+    put a.board a.counts.outcome a.counts.acknowledged a.counts.total a.counts.bytes
+    l c.log_version-version.result c.count_bytes-width.result a.buffer.now _ _ _ _
+    c.requires (search rules) (search rules) (search rules) (rw e at c.write.ensures) c.put_big.ensures
     c.put_big-2.ensures c.put_big-3.ensures

@@ -1,13 +1,13 @@
 -- `empty` meets its contract: every byte is filled.
-use Rattle.std.proofs.Common.{refl, sym, ◌∙◌}
-use Rattle.basis.specs.Laws.Lists.{copy-all}
-use Rattle.stations.specs.Laws.Rows.{empty-size, empty-given}
+use Rattle.std.proofs.Common.{sym, ap, ◌∙◌}
+use Rattle.stations.specs.Laws.Rows.{empty-given}
+use Rattle.stations.specs.Table.{table_after}
+use Rattle.stations.proofs.Turns.{emptied}
 use Rattle.stations.proofs.table.empty.Goals as goal
 
-pub returns-then-table-ne-TABLE : goal.returns-then-table-ne-TABLE
-returns-then-table-ne-TABLE c = rw (empty-size _ c.if-table-ne-TABLE.true) (refl, refl)
-
-pub returns : goal.returns
-returns c =
-    rw (empty-given _ c.if-table-ne-TABLE.false)
-    (refl, c.fill.ensures ∙ copy-all _ _ (sym c.if-table-ne-TABLE.false))
+pub returns-clause-table : goal.returns-clause-table
+returns-clause-table c =
+    let whole = c.in-Some.ensures.cases in
+    let t = c.args.table.now in
+    c.fill.ensures ∙ rw whole.same (emptied t whole.long)
+    ∙ sym (ap (table_after t) (empty-given t whole.long))

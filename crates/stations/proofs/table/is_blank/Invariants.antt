@@ -1,10 +1,7 @@
--- What each turn of `is_blank` keeps, and what falls.
-use Rattle.std.proofs.Common.{◌-◌, ◌≡◌, length, drop}
+-- What each turn of `is_blank` keeps: what all bytes tell is what those from here on tell.
+use Rattle.std.proofs.Common.{◌≡◌, drop}
 use Rattle.stations.specs.Table.{blank}
 use Rattle.stations.proofs.table.is_blank.Given as goal
 
-abbrev pub invariant-loop-i : goal.invariant-loop-i
-invariant-loop-i l = blank (drop l.from l.bytes) ≡ blank (drop l.i l.bytes)
-
-abbrev pub decreases-loop-i : goal.decreases-loop-i
-decreases-loop-i l = length l.bytes - l.i
+abbrev pub invariant-loop-b : goal.invariant-loop-b
+invariant-loop-b l = blank (drop l.b-index l.bytes) ≡ blank l.bytes

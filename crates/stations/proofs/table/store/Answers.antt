@@ -1,14 +1,19 @@
--- `store` meets its contract: the table's size, then what reading the record gives.
-use Rattle.std.proofs.Common.{refl, sym, ap, ◌∙◌}
-use Rattle.stations.specs.Laws.Rows.{store-size, store-unread}
-use Rattle.stations.specs.Paper.{paper_reading}
+-- `store` meets its contract: what is no record is refused as reading refuses it.
+use Rattle.std.proofs.Common.{sym, ap, ◌∙◌}
+use Rattle.stations.specs.Table.{after_store}
+use Rattle.stations.proofs.Turns.{handed, unread}
 use Rattle.stations.proofs.table.store.Goals as goal
 
-pub returns-then-table-ne-TABLE : goal.returns-then-table-ne-TABLE
-returns-then-table-ne-TABLE c = rw (store-size _ _ c.if-table-ne-TABLE.true) (refl, refl)
+pub returns-in_err-station-clause-answer : goal.returns-in_err-station-clause-answer
+returns-in_err-station-clause-answer c =
+    let size = c.in-Some.ensures.cases.long in
+    handed c.from_residual.result _ c.from_residual.ensures.1
+    ∙ sym (unread c.args.table.now c.args.input.now _ _ size c.read.ensures.answer c.in_err-station.was)
 
-pub returns-in-Refused : goal.returns-in-Refused
-returns-in-Refused c =
-    rw (store-unread _ _ c.if-table-ne-TABLE.false
-    (sym c.read.ensures ∙ ap paper_reading c.in-Refused.is))
-    (refl, refl)
+pub returns-in_err-station-clause-table : goal.returns-in_err-station-clause-table
+returns-in_err-station-clause-table c =
+    let t = c.args.table.now in
+    let r = c.args.input.now in
+    let whole = c.in-Some.ensures.cases in
+    whole.same
+    ∙ sym (ap (after_store t r) (unread t r _ _ whole.long c.read.ensures.answer c.in_err-station.was))

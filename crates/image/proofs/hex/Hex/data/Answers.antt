@@ -1,6 +1,6 @@
 -- `data` meets its contract: one lemma for each way out.
 use Rattle.std.proofs.lemmas.Bool.{not-true, not-false}
-use Rattle.std.proofs.Common.{◌≡◌, ℕ, ◌+◌, ◌-◌, ◌<◌, ◌≤◌, Bool, true, false, ltb, List, length, get_or, take, drop, sym, ◌∙◌, arith, le-ltb, lt-ltb}
+use Rattle.std.proofs.Common.{◌≡◌, ℕ, ◌+◌, ◌-◌, ◌<◌, ◌≤◌, Bool, true, false, ltb, List, length, get_or, is_ok, Result, ap, take, drop, sym, ◌∙◌, arith, le-ltb, lt-ltb}
 use Rattle.basis.specs.Refusals.{first}
 use Rattle.basis.specs.Choice.{either, any}
 use Rattle.basis.specs.Laws.Choice.{both-no}
@@ -9,6 +9,10 @@ use Rattle.image.specs.Record.{count, address, column_of, wrong, right, pointed}
 use Rattle.image.specs.Hex.{Settled, hex, settled_as, settled, past_board, named_before, put_each, name_each, base_of, row_of, Puts, data_in}
 use Rattle.image.specs.Laws.Places.{near, row, rest, near_bytes, rest_bytes, near-length, rest-length, past-rows, named-rows, put-rows, name-rows}
 use Rattle.image.specs.declared.hex.Hex.{Hex}
+use Rattle.image.specs.Paper.{paper_refusal, paper_read}
+use Rattle.image.specs.declared.record.Blame.{Blame}
+use Rattle.image.specs.declared.record.Refusal.{Refusal}
+use Rattle.image.proofs.Handed.{handed}
 use Rattle.image.proofs.hex.Hex.data.Goals as goal
 use Rattle.image.proofs.hex.Hex.data.Goals.{After-put, After-row-row, Else-count-eq0, Else-image-place}
 
@@ -82,7 +86,7 @@ lent h b image map i m a c k n r t ea ec ek en er p =
     rw (ea, ec, ek, en, er, first, second) at p
 
 some : (c : Else-count-eq0) → 0 < count c.args.bytes.now
-some c = omega (arith, c.wide-count.ensures.0, c.if-count-eq0.false)
+some c = omega (arith, c.from-count.ensures, c.if-count-eq0.false)
 
 known : (c : Else-count-eq0) (k : ℕ) → get_or c.args.bytes.now k 0 < 256
 known c k = omega (arith, c.type_inv.bytes k)
@@ -94,14 +98,14 @@ few : (c : Else-count-eq0) → count c.args.bytes.now ≤ 65536
 few c = omega (arith, known c 0)
 
 near-is : (c : After-row-row)
-    → c.base-base.result + c.pair_at-offset.result ≡ near c.args.self c.args.bytes.now
-near-is c = omega (arith, c.base-base.ensures.0, c.pair_at-offset.ensures)
+    → c.base-base.result + c.from.result ≡ near c.args.self c.args.bytes.now
+near-is c = omega (arith, c.base-base.ensures.base, c.from.ensures, c.pair_at-offset.ensures)
 
 row_is : (c : After-row-row) → c.row-row.result ≡ row c.args.self c.args.bytes.now
 row_is c =
     let s = c.args.self in
-    c.row-row.ensures.0
-    ∙ (λ i. row_of s (c.pair_at-offset.ensures i) (c.wide-count.ensures.0 i))
+    c.row-row.ensures.row
+    ∙ (λ i. row_of s (c.pair_at-offset.ensures i) (c.from-count.ensures i))
 
 fits : (c : Else-image-place) → near c.args.self c.args.bytes.now + row c.args.self c.args.bytes.now
     ≤ length c.args.image.now
@@ -113,23 +117,24 @@ fits c =
       c.if-image-place.false,
     )
 
-putting : (c : After-put) (t : Bool) → c.put.result ≡ t
+putting : (c : After-put) (t : Bool) → is_ok c.put.result ≡ t
     → Puts c.args.image.now c.args.map.now (near c.args.self c.args.bytes.now)
     (near_bytes c.args.self c.args.bytes.now) (base_of c.args.self)
     (rest_bytes c.args.self c.args.bytes.now) t c.put.new.image c.put.new.map
 putting c t e =
     lent c.args.self c.args.bytes.now _ _ _ _
-    (c.base-base.result + c.pair_at-offset.result) c.base-base.result
-    c.row-row.result c.wide-count.result _ t (near-is (goal.at.After-put c).After-row-row)
-    c.base-base.ensures.0
-    (row_is (goal.at.After-put c).After-row-row) c.wide-count.ensures.0 e c.put.ensures
+    (c.base-base.result + c.from.result) c.base-base.result
+    c.row-row.result c.from-count.result _ t (near-is (goal.at.After-put c).After-row-row)
+    c.base-base.ensures.base
+    (row_is (goal.at.After-put c).After-row-row) c.from-count.ensures e c.put.ensures.rows
 
 pub returns-then-count-eq0 : goal.returns-then-count-eq0
-returns-then-count-eq0 c line = data-none _ _ _ _ _ line (sym c.wide-count.ensures.0 ∙ c.if-count-eq0.true)
+returns-then-count-eq0 c line = data-none _ _ _ _ _ line (sym c.from-count.ensures ∙ c.if-count-eq0.true)
 
 pub returns-then-image-place : goal.returns-then-image-place
 returns-then-image-place c line =
-    data-high _ _ c.args.bytes.now _ _ line (offset (goal.at.returns-then-image-place c).Else-count-eq0)
+    rw c.into.ensures
+    (data-high _ _ c.args.bytes.now _ _ line (offset (goal.at.returns-then-image-place c).Else-count-eq0)
     (few (goal.at.returns-then-image-place c).Else-count-eq0)
     (some (goal.at.returns-then-image-place c).Else-count-eq0)
     (omega (
@@ -137,19 +142,22 @@ returns-then-image-place c line =
       near-is (goal.at.returns-then-image-place c).After-row-row,
       row_is (goal.at.returns-then-image-place c).After-row-row,
       c.if-image-place.true,
-    ))
+    )))
 
-pub returns-then-not-put : goal.returns-then-not-put
-returns-then-not-put c line =
-    data-twice _ _ c.args.bytes.now _ _ line (offset (goal.at.returns-then-not-put c).Else-count-eq0)
-    (few (goal.at.returns-then-not-put c).Else-count-eq0)
-    (some (goal.at.returns-then-not-put c).Else-count-eq0)
-    (fits (goal.at.returns-then-not-put c).Else-image-place) c.requires.0 _ _
-    (putting (goal.at.returns-then-not-put c).After-put false (c.if-not-put.true))
+pub returns-in_err-put : goal.returns-in_err-put
+returns-in_err-put c line =
+    let i = c.put.new.image in
+    let m = c.put.new.map in
+    ap (λ (r : Result Hex Blame). settled_as (paper_read r) i m) (handed _ _ c.from_residual.ensures.1)
+    ∙ ap (λ (why : Refusal). settled_as (wrong (paper_refusal why) 0) i m) c.in_err-put.ensures.why
+    ∙ data-twice _ _ c.args.bytes.now _ _ line (offset (goal.at.returns-in_err-put c).Else-count-eq0)
+    (few (goal.at.returns-in_err-put c).Else-count-eq0) (some (goal.at.returns-in_err-put c).Else-count-eq0)
+    (fits (goal.at.returns-in_err-put c).Else-image-place) c.requires.whole _ _
+    (putting (goal.at.returns-in_err-put c).After-put false (ap is_ok c.in_err-put.was))
 
 pub returns : goal.returns
 returns c line =
     data-given _ _ c.args.bytes.now _ _ line (offset (goal.at.returns c).Else-count-eq0)
     (few (goal.at.returns c).Else-count-eq0) (some (goal.at.returns c).Else-count-eq0)
-    (fits (goal.at.returns c).Else-image-place) c.requires.0 _ _
-    (putting (goal.at.returns c).After-put true (c.if-not-put.false))
+    (fits (goal.at.returns c).Else-image-place) c.requires.whole _ _
+    (putting (goal.at.returns c).After-put true (ap is_ok c.in_ok-put.was))

@@ -1,0 +1,5 @@
+pub mod Boards
+pub mod Turns
+pub mod Decoding
+pub mod Halves
+pub mod Handed
