@@ -7,10 +7,10 @@ ghost use Rattle.basis.specs.Lists.{overlay};
 ghost use Rattle.basis.specs.Refusals.{on_board, counted, written};
 ghost use Rattle.basis.specs.RunKinds.{kind_of};
 ghost use Rattle.basis.specs.declared.board.Board.{Board};
+ghost use Rattle.course.specs.Paper.{paper_stepped};
 ghost use Rattle.gremolunde.specs.Answers.{length_answer, mark_answer, no_plain, plain_stepped_answer};
 ghost use Rattle.gremolunde.specs.States.{is_set, plain_meant};
 ghost use Rattle.plain.specs.Plain.{measured, sent_bytes, started, step_by, proved_by, outcome_by};
-ghost use Rattle.session.specs.Paper.{paper_stepped};
 
 use crate::answers::{Length, length_answer};
 use crate::sessions::{SessionMark, mark_answer, started, stepped};

@@ -5,12 +5,12 @@ ghost use Rattle.basis.specs.Lists.{overlay};
 ghost use Rattle.basis.specs.Refusals.{answer_of, on_board};
 ghost use Rattle.basis.specs.RunKinds.{kind_of};
 ghost use Rattle.basis.specs.declared.board.Board.{Board};
+ghost use Rattle.course.specs.Course as course;
+ghost use Rattle.course.specs.Paper.{paper_stepped};
 ghost use Rattle.events.specs.Paper.{paper_mark};
 ghost use Rattle.gremolunde.specs.Answers.{no_session, stepped_answer, mark_answer};
 ghost use Rattle.gremolunde.specs.States.{is_set, session_meant};
 ghost use Rattle.service_log.specs.Log.{logged_outcome_of};
-ghost use Rattle.session.specs.Course as course;
-ghost use Rattle.session.specs.Paper.{paper_stepped};
 ghost use Rattle.session.specs.Session.{measured, sent_bytes, started, step_by, proved_by};
 
 use crate::states::{SessionState, session_meant, session_shown};
@@ -18,12 +18,12 @@ use basis::board::Board;
 use basis::kind::RunKind;
 use basis::numbered::Numbered;
 use basis::units::Address;
+use course::course::Course;
+use course::state;
+use course::state::State;
 use events::refusal::{Mark, Refusal};
 use service_log::write::logged_outcome;
-use session::course::Course;
 use session::session::Next;
-use session::state;
-use session::state::State;
 
 /// The number of a refusal, else 0 with the length of the packet in the buffer, in bytes, and the next state; a
 /// refusal hands the state back as it came.

@@ -5,14 +5,14 @@ use Rattle.basis.specs.Board.{board_of}
 use Rattle.basis.specs.Refusals.{Answer}
 use Rattle.basis.specs.declared.board.Board.{Board}
 use Rattle.basis.specs.declared.kind.RunKind.{RunKind}
+use Rattle.course.specs.Course as course
+use Rattle.course.specs.Course.{Keeping}
+use Rattle.course.specs.declared.state.Next as state
+use Rattle.course.specs.declared.state.State.{State}
 use Rattle.events.specs.declared.event.Event.{Event}
 use Rattle.order.specs.Plan.{plan}
 use Rattle.plain.specs.Stages.{ended, awaits_of, stage_at, came_at, outcome_of}
 use Rattle.plain.specs.declared.stage.Stage.{Stage}
-use Rattle.session.specs.Course as course
-use Rattle.session.specs.Course.{Keeping}
-use Rattle.session.specs.declared.state.Next as state
-use Rattle.session.specs.declared.state.State.{State}
 
 -- the session whose place in the file is how many packets are acknowledged
 abbrev pub Plain : Type 0

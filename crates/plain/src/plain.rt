@@ -4,7 +4,7 @@ ghost use Rattle.plain.specs.Plain.{outcome_by};
 
 use crate::stage::Stage;
 use basis::board::Board;
-use session::state::{self, State};
+use course::state::{self, State};
 
 /// A session whose place is told by how many packets are acknowledged.
 pub type Plain = State<Stage>;

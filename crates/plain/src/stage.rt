@@ -13,11 +13,11 @@ use crate::list::{bytes, list, named_bytes, pages};
 use crate::sending::send_due;
 use basis::kind::RunKind;
 use basis::units::Address;
+use course::course::{Course, Load};
+use course::state::State;
 use events::ending::{Awaited, Outcome};
 use runs::file::File;
 use runs::map::Map;
-use session::course::{Course, Load};
-use session::state::State;
 
 /// What a plain session waits for, or how it ended.
 // Beside the session's `Phase`, which has a step: C and the definitions name the cases of each.
@@ -92,7 +92,7 @@ impl Course for Stage {
         }
     }
 
-    #[tactic(auto, unfolding(session::specs::Course::came_of))]
+    #[tactic(auto, unfolding(course::specs::Course::came_of))]
     fn comes_from(session: State<Stage>, map: Map<'_>) -> bool
         ensures { result ≡ came_of (pages_of map.entry.board) map.entry.bits.now session }
     {

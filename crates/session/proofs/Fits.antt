@@ -5,6 +5,7 @@ use Rattle.basis.specs.Choice.{both}
 use Rattle.basis.specs.Laws.Boards.{pages-few, pages-some}
 use Rattle.basis.specs.Units.{start_of, map_bytes}
 use Rattle.basis.specs.declared.kind.RunKind.{RunKind}
+use Rattle.course.specs.Course as course
 use Rattle.events.specs.Endings.{ends_at, asked}
 use Rattle.order.specs.Laws.Surveys.{Told, told, told-stands, past-stands}
 use Rattle.order.specs.Plan.{r_count, total}
@@ -14,7 +15,6 @@ use Rattle.events.specs.declared.ending.Outcome.{Outcome}
 use Rattle.runs.specs.Pieces.{named_count}
 use Rattle.runs.specs.Survey.{survey_of}
 use Rattle.runs.specs.declared.survey.Surveyed.{Surveyed}
-use Rattle.session.specs.Course as course
 use Rattle.session.specs.Phases.{cursor_of}
 use Rattle.session.specs.Session.{Session, came_at, came_of}
 use Rattle.session.specs.declared.phase.Phase.{Phase}

@@ -1,6 +1,4 @@
 -- The host session. Definitions stand here in the paper's order, what is proved of them under Laws.
-pub mod Paper
-pub mod Course
 pub mod Phases
 pub mod Session
 pub mod Laws

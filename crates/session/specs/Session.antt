@@ -4,6 +4,10 @@ use Rattle.basis.specs.Choice.{pick}
 use Rattle.basis.specs.Refusals.{Answer}
 use Rattle.basis.specs.Units.{start_of, map_bytes}
 use Rattle.basis.specs.declared.kind.RunKind.{RunKind}
+use Rattle.course.specs.Course as course
+use Rattle.course.specs.Course.{Keeping}
+use Rattle.course.specs.declared.state.Next as state
+use Rattle.course.specs.declared.state.State.{State}
 use Rattle.events.specs.Endings.{failing, ends_at, asked}
 use Rattle.events.specs.declared.ending.Awaited.{Awaited}
 use Rattle.events.specs.declared.ending.Outcome.{Outcome}
@@ -11,12 +15,8 @@ use Rattle.events.specs.declared.event.Event.{Event}
 use Rattle.order.specs.Plan.{before_r, total}
 use Rattle.order.specs.Steps.{step_at, stands_at, verify_at}
 use Rattle.runs.specs.Pieces.{named_count, piece_len}
-use Rattle.session.specs.Course as course
-use Rattle.session.specs.Course.{Keeping}
 use Rattle.session.specs.Phases.{ended, packet_out, after_of, awaits_of}
 use Rattle.session.specs.declared.phase.Phase.{Phase}
-use Rattle.session.specs.declared.state.Next as state
-use Rattle.session.specs.declared.state.State.{State}
 
 -- the session whose place in the file is a cursor
 abbrev pub Session : Type 0

@@ -8,11 +8,11 @@ ghost use Rattle.session.specs.Phases.{reached_of, cursor_of, on_start, after_of
 ghost use Rattle.session.specs.Session.{quick, came_of};
 ghost use Rattle.session.specs.Laws.Fits.{fits-ready, fits-few, took-ready};
 
-use crate::course::{Course, Load};
-use crate::state::State;
 use basis::board::Board;
 use basis::kind::RunKind;
 use basis::units::Address;
+use course::course::{Course, Load};
+use course::state::State;
 use events::ending::{Awaited, Outcome};
 use order::counts::{before_verify, stands, total};
 use order::cursor::{first, follow, place};

@@ -1,6 +1,6 @@
 // The session that keeps a cursor: each step goes on from the one before.
 use crate::phase::Phase;
-use crate::state::{self, State};
+use course::state::{self, State};
 
 /// The host's session, whose place is a cursor in the file.
 pub type Session = State<Phase>;

@@ -13,6 +13,8 @@ use Rattle.basis.specs.Refusals.{given, on_board}
 use Rattle.basis.specs.Units.{map_bytes}
 use Rattle.basis.specs.declared.board.Board.{Board}
 use Rattle.basis.specs.declared.kind.RunKind.{RunKind}
+use Rattle.course.specs.Course as course
+use Rattle.course.specs.Laws.Course as laws
 use Rattle.events.specs.Endings.{goes_on, acknowledges}
 use Rattle.events.specs.Events.{classify_of}
 use Rattle.events.specs.declared.ending.Awaited.{Awaited}
@@ -33,8 +35,6 @@ use Rattle.runs.specs.Pieces.{named_count}
 use Rattle.service_log.specs.Laws.Sessions.{write-alike}
 use Rattle.service_log.specs.Log.{logged_outcome_of, outcome_on, counts_by, write_of}
 use Rattle.session.specs.Laws.Exact.{fits-series}
-use Rattle.session.specs.Course as course
-use Rattle.session.specs.Laws.Course as laws
 use Rattle.session.specs.Phases as phases
 use Rattle.session.specs.Session as quick
 use Rattle.session.specs.declared.phase.Phase.{Phase}

@@ -9,11 +9,11 @@ use Rattle.basis.specs.Laws.Refusals.{stop, alike, through, apart, refused-one}
 use Rattle.basis.specs.Refusals.{Answer, refused, given}
 use Rattle.basis.specs.Units.{start_of}
 use Rattle.basis.specs.declared.kind.RunKind.{RunKind}
+use Rattle.course.specs.Course as course
 use Rattle.line.specs.Line.{Moment, rehearsing, loaded, left_flash, Rehearses}
 use Rattle.line.specs.declared.rehearse.Load.{Load}
 use Rattle.order.specs.Sizes.{right_sizes}
 use Rattle.packet.specs.Packet.{packet_most}
-use Rattle.session.specs.Course as course
 use Rattle.session.specs.Session.{Sent, measured, started}
 
 module _ (board : ℕ) (image m f : List ℕ) (x : Moment) where

@@ -8,6 +8,8 @@ use Rattle.basis.specs.Laws.Choice.{decide, both-no}
 use Rattle.basis.specs.Units.{map_bytes}
 use Rattle.basis.specs.declared.board.Board.{Board}
 use Rattle.basis.specs.declared.kind.RunKind.{RunKind}
+use Rattle.course.specs.Course as course
+use Rattle.course.specs.Laws.Course.{fitting}
 use Rattle.events.specs.Endings.{goes_on, acknowledges, asked}
 use Rattle.events.specs.Laws.Endings.{ends_by}
 use Rattle.events.specs.declared.event.Event.{Event}
@@ -17,8 +19,6 @@ use Rattle.plain.specs.Plain.{Plain, by_number, took_of, fits_of}
 use Rattle.plain.specs.Stages.{awaits_of, packet_left, came_at}
 use Rattle.plain.specs.declared.stage.Stage.{Stage}
 use Rattle.runs.specs.Pieces.{named_count}
-use Rattle.session.specs.Course as course
-use Rattle.session.specs.Laws.Course.{fitting}
 
 -- one at a stage to which no events lead fits no file
 both-none : (a : Bool) {b : Bool} → b ≡ false → both a b ≡ false

@@ -10,6 +10,8 @@ use Rattle.basis.specs.Laws.Refusals.{passed, given-one}
 use Rattle.basis.specs.Refusals.{given}
 use Rattle.basis.specs.Units.{map_bytes}
 use Rattle.basis.specs.declared.kind.RunKind.{RunKind}
+use Rattle.course.specs.Course as course
+use Rattle.course.specs.Laws.Course.{Fitting, fitting, fits_by}
 use Rattle.events.specs.Endings.{failing, ends_at, asked}
 use Rattle.events.specs.Laws.Endings.{outcome-one, ends_asked, ends_by, fails-ends}
 use Rattle.events.specs.Laws.Events.{ack-or, greeting-or}
@@ -22,8 +24,6 @@ use Rattle.order.specs.Plan.{total}
 use Rattle.order.specs.Sizes.{right_sizes}
 use Rattle.order.specs.Steps.{step_at}
 use Rattle.runs.specs.Pieces.{named_count}
-use Rattle.session.specs.Course as course
-use Rattle.session.specs.Laws.Course.{Fitting, fitting, fits_by}
 use Rattle.session.specs.Laws.Marks.{marked-carried, proved-is}
 use Rattle.session.specs.Laws.Series.{came, acks-state, acks-asked, event-taken, series-nil, series-ack, series-last, series-first, series-fails, first-fails}
 use Rattle.session.specs.Laws.States.{ack-next, greeting-state, waiting-fits, state-fits}

@@ -4,6 +4,8 @@ use Rattle.std.proofs.Common.{arith, eqb-true}
 use Rattle.basis.specs.Board.{pages_of}
 use Rattle.basis.specs.Laws.Boards.{pages-few}
 use Rattle.basis.specs.declared.board.Board.{Board}
+use Rattle.course.specs.Course as course
+use Rattle.course.specs.Laws.Course.{fitting}
 use Rattle.order.specs.Laws.Totals.{total-most}
 use Rattle.basis.specs.Laws.Choice.{decide}
 use Rattle.basis.specs.Units.{map_bytes}
@@ -16,9 +18,7 @@ use Rattle.order.specs.Plan.{total}
 use Rattle.order.specs.declared.step.Step.{Step}
 use Rattle.order.specs.Steps.{follow_of}
 use Rattle.runs.specs.Pieces.{named_count}
-use Rattle.session.specs.Course as course
 use Rattle.session.specs.Phases.{after_of, awaits_of, on_start, reached_of}
-use Rattle.session.specs.Laws.Course.{fitting}
 use Rattle.session.specs.Session.{Session, quick, took_of, came_at, fits_of}
 use Rattle.session.specs.declared.phase.Phase.{Phase}
 

@@ -9,6 +9,7 @@ use Rattle.basis.specs.Laws.Choice.{decide, both_true, both-second, both_false}
 use Rattle.basis.specs.Refusals.{given}
 use Rattle.basis.specs.Units.{start_of, map_bytes}
 use Rattle.basis.specs.declared.kind.RunKind.{RunKind}
+use Rattle.course.specs.Laws.Course.{fitting, mark-given}
 use Rattle.order.specs.Laws.Plan.{plan-at}
 use Rattle.order.specs.Laws.Steps.{ranked-is, ranked-by, stands-below, stands-at, at-stands, stands-r}
 use Rattle.order.specs.Marks.{marked_from, marked}
@@ -21,7 +22,6 @@ use Rattle.runs.specs.Laws.Runs.{count-mono}
 use Rattle.runs.specs.Map.{named}
 use Rattle.runs.specs.Pieces.{piece_most, piece_starts, piece_len}
 use Rattle.runs.specs.Runs.{count, home}
-use Rattle.session.specs.Laws.Course.{fitting, mark-given}
 use Rattle.session.specs.Session.{Session, quick, came_at, fits_of, proved_of, Carried}
 use Rattle.session.specs.declared.phase.Phase.{Phase}
 

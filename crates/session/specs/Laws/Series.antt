@@ -6,6 +6,7 @@ use Rattle.basis.specs.Choice.{pick}
 use Rattle.basis.specs.Laws.Choice.{decide, true-false}
 use Rattle.basis.specs.Units.{map_bytes}
 use Rattle.basis.specs.declared.kind.RunKind.{RunKind}
+use Rattle.course.specs.Course as course
 use Rattle.events.specs.Endings.{failing, asked}
 use Rattle.events.specs.Events.{is_greeting, is_ack}
 use Rattle.events.specs.Laws.Events.{ack-or, greeting-or}
@@ -16,7 +17,6 @@ use Rattle.order.specs.Laws.Totals.{total-some}
 use Rattle.order.specs.Plan.{total}
 use Rattle.order.specs.Steps.{step_at}
 use Rattle.runs.specs.Pieces.{named_count}
-use Rattle.session.specs.Course as course
 use Rattle.session.specs.Laws.States.{greeting-state, ack-next, ack-last}
 use Rattle.session.specs.Phases.{ended, awaits_of, phase_at}
 use Rattle.session.specs.Session.{Session, session_with, at_greeting, state_at, as_asked, heard_by, took_of, series, Came, waits, stands, fails, ends}

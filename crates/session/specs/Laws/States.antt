@@ -9,6 +9,8 @@ use Rattle.basis.specs.Refusals.{given}
 use Rattle.basis.specs.Units.{map_bytes}
 use Rattle.basis.specs.declared.board.Board.{Board}
 use Rattle.basis.specs.declared.kind.RunKind.{RunKind}
+use Rattle.course.specs.Course as course
+use Rattle.course.specs.Laws.Course.{fits_by}
 use Rattle.events.specs.Endings.{asked}
 use Rattle.events.specs.Laws.Events.{other-board}
 use Rattle.events.specs.declared.ending.Outcome.{Outcome}
@@ -21,8 +23,6 @@ use Rattle.order.specs.Plan.{plan, total}
 use Rattle.order.specs.Sizes.{right_sizes}
 use Rattle.order.specs.declared.step.Step.{Step}
 use Rattle.runs.specs.Pieces.{named_count}
-use Rattle.session.specs.Course as course
-use Rattle.session.specs.Laws.Course.{fits_by}
 use Rattle.session.specs.Laws.Steps.{step-taken}
 use Rattle.session.specs.Phases.{packet_out, reached_of}
 use Rattle.session.specs.Session.{Session, quick, session_with, at_greeting, state_at, as_asked, Sent, took_of, sent_of, fits_of, step_of, step_by}

@@ -9,14 +9,14 @@ use Rattle.basis.specs.Laws.Refusals.{done, passed, apart, given-one}
 use Rattle.basis.specs.Refusals.{given}
 use Rattle.basis.specs.declared.board.Board.{Board}
 use Rattle.basis.specs.declared.kind.RunKind.{RunKind}
+use Rattle.course.specs.Course as course
+use Rattle.course.specs.Laws.Course as laws
 use Rattle.events.specs.Endings.{goes_on}
 use Rattle.events.specs.Events.{classify_of}
 use Rattle.events.specs.declared.event.Event.{Event}
 use Rattle.order.specs.Laws.Sizes.{sizes-right}
 use Rattle.order.specs.Sizes.{right_sizes}
 use Rattle.runs.specs.Pieces.{named_count}
-use Rattle.session.specs.Course as course
-use Rattle.session.specs.Laws.Course as laws
 use Rattle.session.specs.Phases.{ended, awaits_of}
 use Rattle.session.specs.Session.{Session, Next, quick, at_greeting, Sent, measured, started, took_of, sent_of, fits_of, step_of, step_by, proved_of, proved_by, Loadable}
 

@@ -1,10 +1,10 @@
 -- `exchange` meets its contract: what arrives stands at the start of the buffer, and the session steps on it.
 use Rattle.std.proofs.Common.{◌≤◌, ◌≡◌, ap, ◌∙◌, sym, arith, rules, length, take, length-take-le}
 use Rattle.basis.specs.Board.{pages_of}
+use Rattle.course.specs.Paper.{paper_stepped}
 use Rattle.line.proofs.Delivering.{goes, keeps}
 use Rattle.line.proofs.Heard.{told}
 use Rattle.line.specs.Line.{Moment, moment_on}
-use Rattle.session.specs.Paper.{paper_stepped}
 use Rattle.line.proofs.exchange.exchange.Goals as goal
 use Rattle.line.proofs.exchange.exchange.Goals.{Start}
 

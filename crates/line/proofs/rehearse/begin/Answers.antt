@@ -1,11 +1,11 @@
 -- `begin` meets its contract: what the start refuses is refused, and what it gives is a moment just begun.
 use Rattle.std.proofs.Common.{sym, ap, ◌∙◌, length, rules}
 use Rattle.basis.specs.Board.{pages_of}
+use Rattle.course.specs.Paper.{paper_stepped}
 use Rattle.line.proofs.Beginning.{begun-again, begun-load, handed}
 use Rattle.line.specs.Laws.Rehearsing.{start-refused, start-driven}
 use Rattle.line.specs.Line.{loss_at, rehearse_of}
 use Rattle.session.specs.Laws.Steps.{Starts, starting}
-use Rattle.session.specs.Paper.{paper_stepped}
 use Rattle.line.proofs.rehearse.begin.Goals as goal
 use Rattle.line.proofs.rehearse.begin.Goals.{In_ok-next}
 

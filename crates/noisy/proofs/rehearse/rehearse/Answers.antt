@@ -2,8 +2,8 @@
 use Rattle.std.proofs.Common.{sym, ap, refl, arith}
 use Rattle.basis.specs.Board.{pages_of}
 use Rattle.basis.specs.Laws.Choice.{both_false}
+use Rattle.course.specs.Laws.Course.{start-size}
 use Rattle.line.specs.Laws.Rehearsing.{flash-refused, start-refused}
-use Rattle.session.specs.Laws.Course.{start-size}
 use Rattle.session.specs.Session.{measured, quick}
 use Rattle.noisy.specs.Noisy.{noisy_rehearse_of}
 use Rattle.noisy.proofs.rehearse.rehearse.Goals as goal

@@ -6,6 +6,8 @@ use Rattle.basis.specs.Refusals.{Answer, refused, given, ◌when◌, first, on_b
 use Rattle.basis.specs.Units.{map_bytes}
 use Rattle.basis.specs.declared.board.Board.{Board}
 use Rattle.basis.specs.declared.kind.RunKind.{RunKind}
+use Rattle.course.specs.declared.state.Next.{Next}
+use Rattle.course.specs.declared.state.State.{State}
 use Rattle.events.specs.Endings.{goes_on, acknowledges, ending_of}
 use Rattle.events.specs.Events.{classify_of}
 use Rattle.events.specs.declared.ending.Awaited.{Awaited}
@@ -15,8 +17,6 @@ use Rattle.order.specs.Marks.{marked}
 use Rattle.order.specs.Plan.{total}
 use Rattle.order.specs.Sizes.{right_sizes}
 use Rattle.runs.specs.Pieces.{named_count}
-use Rattle.session.specs.declared.state.Next.{Next}
-use Rattle.session.specs.declared.state.State.{State}
 
 -- how a session keeps its place in the file
 pub record Keeping (P : Type 0) : Type 0 where

@@ -21,13 +21,13 @@ pub trait Course: Copy {
     ghost use Rattle.basis.specs.Units.{map_bytes};
     ghost use Rattle.basis.specs.declared.board.Board.{Board};
     ghost use Rattle.basis.specs.declared.kind.RunKind.{RunKind};
+    ghost use Rattle.course.specs.Course.{Keeping, came_of, took_of, fits_of};
+    ghost use Rattle.course.specs.declared.state.State.{State};
     ghost use Rattle.events.specs.declared.event.Event.{Event};
     ghost use Rattle.order.specs.Marks.{marked};
     ghost use Rattle.order.specs.Plan.{total};
     ghost use Rattle.packet.specs.Packet.{packet_most};
     ghost use Rattle.runs.specs.Pieces.{named_count};
-    ghost use Rattle.session.specs.Course.{Keeping, came_of, took_of, fits_of};
-    ghost use Rattle.session.specs.declared.state.State.{State};
 
     ghost keeping: { Keeping Self };
 

@@ -2,7 +2,7 @@
 use Rattle.std.proofs.Common.{ℕ, List, ◌≡◌, refl}
 use Rattle.basis.specs.Lists.{overlay}
 use Rattle.basis.specs.Refusals.{Answer, refused}
-use Rattle.session.specs.Course.{Sent, measured, sent_bytes}
+use Rattle.course.specs.Course.{Sent, measured, sent_bytes}
 
 pub left_alone : {P : Type 0} {a : Answer (Sent P)} {n : ℕ} (old : List ℕ) → a ≡ refused n
     → (refused n ≡ measured a) × (old ≡ overlay (sent_bytes a) old)

@@ -9,6 +9,8 @@ use Rattle.basis.specs.Laws.Refusals.{skip, stop, done}
 use Rattle.basis.specs.Refusals.{refused, given}
 use Rattle.basis.specs.Units.{map_bytes}
 use Rattle.basis.specs.declared.kind.RunKind.{RunKind}
+use Rattle.course.specs.Course.{Keeping, state_with, started, over_of, heard_by, sent_of, came_of, fits_of, step_of, proved_of}
+use Rattle.course.specs.declared.state.State.{State}
 use Rattle.events.specs.Endings.{goes_on}
 use Rattle.events.specs.declared.ending.Awaited.{Awaited}
 use Rattle.events.specs.declared.event.Event.{Event}
@@ -16,8 +18,6 @@ use Rattle.order.specs.Marks.{marked}
 use Rattle.order.specs.Plan.{total}
 use Rattle.order.specs.Sizes.{right_sizes}
 use Rattle.runs.specs.Pieces.{named_count}
-use Rattle.session.specs.Course.{Keeping, state_with, started, over_of, heard_by, sent_of, came_of, fits_of, step_of, proved_of}
-use Rattle.session.specs.declared.state.State.{State}
 
 module _ {P : Type 0} (by : Keeping P) where
   -- ---- the start

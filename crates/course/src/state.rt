@@ -41,8 +41,8 @@ pub struct Next<P> {
 }
 
 impl<P: Course> State<P> {
-    ghost use Rattle.session.specs.Course.{measured, sent_bytes, started, moved_of, onward_of, over_of, heard_by, took_of, sent_of, fits_of, step_of, step_by, proved_of, proved_by};
-    ghost use Rattle.session.specs.Paper.{paper_stepped};
+    ghost use Rattle.course.specs.Course.{measured, sent_bytes, started, moved_of, onward_of, over_of, heard_by, took_of, sent_of, fits_of, step_of, step_by, proved_of, proved_by};
+    ghost use Rattle.course.specs.Paper.{paper_stepped};
 
     /// Writes the byte that opens the board, and waits for its greeting. Refused are sizes that are not the board's or
     /// a buffer shorter than a packet (20), and a map that names no byte (32).

@@ -4,12 +4,12 @@ use Rattle.std.proofs.Common.{sym, ◌∙◌, ℕ}
 use Rattle.basis.specs.Laws.Refusals.{answer-one, determined}
 use Rattle.basis.specs.Lists.{overlay}
 use Rattle.basis.specs.Refusals.{Answer}
+use Rattle.course.specs.Course.{Sent, measured, sent_bytes}
+use Rattle.course.specs.Paper.{paper_stepped}
+use Rattle.course.specs.declared.state.Next.{Next}
 use Rattle.events.specs.Laws.Determined.{refusal-one}
 use Rattle.events.specs.Paper.{paper_refusal}
 use Rattle.events.specs.declared.refusal.Refusal.{Refusal}
-use Rattle.session.specs.Course.{Sent, measured, sent_bytes}
-use Rattle.session.specs.Paper.{paper_stepped}
-use Rattle.session.specs.declared.state.Next.{Next}
 
 module _ {P : Type 0} where
   -- starting and stepping
