@@ -1,6 +1,7 @@
 -- What the three walks tell of the list: where each kind of packet ends, and the step that is due.
 use Rattle.std.specs.Prelude.{leb}
-use Rattle.std.proofs.Common.{ℕ, ◌+◌, ◌-◌, ◌≤◌, ◌<◌, true, List, ◌≡◌, ap, arith, lt-ltb, le-ltb}
+use Rattle.std.proofs.Common.{ℕ, ◌+◌, ◌-◌, ◌*◌, ◌≤◌, ◌<◌, Bool, true, false, List, ◌≡◌, sym, ap, ◌∙◌, zero-add, arith, lt-ltb, le-ltb}
+use Rattle.basis.specs.Laws.Choice.{decide, true-false}
 use Rattle.basis.specs.Units.{start_of}
 use Rattle.order.specs.Plan.{before_verify, before_r}
 use Rattle.order.specs.Steps.{erase_at, write_at, verify_at, step_at}
@@ -8,13 +9,16 @@ use Rattle.order.specs.declared.step.Step.{Step}
 use Rattle.order.specs.Laws.Marks.{mark-unnamed, mark-past, mark-by}
 use Rattle.order.specs.Marks.{marked}
 use Rattle.plain.specs.Laws.List.{walk-number, walk-most, walk-place, walk_none, walk-again, count-again}
-use Rattle.runs.specs.Laws.Runs.{count-zero, count-le}
+use Rattle.runs.specs.Laws.Pages.{touched-some}
+use Rattle.runs.specs.Laws.Pieces.{starts-fail}
+use Rattle.runs.specs.Laws.Runs.{count-zero, count-le, count-skip, rank_below}
 use Rattle.basis.specs.Laws.Boards.{pages-few, pages-some}
 use Rattle.plain.specs.List.{walk_at}
 use Rattle.plain.specs.declared.list.Walk.{Walk}
 use Rattle.runs.specs.Map.{named}
 use Rattle.runs.specs.Pages.{touched}
-use Rattle.runs.specs.Pieces.{piece_most, run_count}
+use Rattle.runs.specs.Pieces.{piece_most, run_count, named_count}
+use Rattle.runs.specs.Runs.{count, starts}
 
 module _ (board : ℕ) (m : List ℕ) (due : ℕ) where
   -- ---- where the walks end
@@ -91,11 +95,42 @@ module _ (board : ℕ) (m : List ℕ) (due : ℕ) where
         le-ltb due (before_r board m) d,
       )
 
+-- a file that names no byte has no packet but R
+module _ (board : ℕ) (m : List ℕ) (none : named_count board m ≡ 0) where
+  unnamed : (a : ℕ) → a < start_of board → named m a ≡ false
+  unnamed a l =
+      decide (named m a) (λ t. absurd (omega (arith, rank_below (named m) (start_of board) a l t))) (λ t. t)
+
+  untouched : (q : ℕ) → q < board → touched m q ≡ false
+  untouched q l =
+      decide (touched m q)
+      (λ t. let s = touched-some m q t in
+      absurd (true-false (sym s.1 ∙ unnamed s.0 (omega (arith, s.3)))))
+      (λ t. t)
+
+  none-starts : (p : ℕ → Bool) (cap n : ℕ) → ((i : ℕ) → i < n → p i ≡ false) → count (starts p cap) n ≡ 0
+  none-starts p cap n h =
+      rw zero-add at (count-skip (starts p cap) 0 n (λ i g l. starts-fail p cap i (h i (omega arith))))
+      ∙ count-zero (starts p cap)
+
+  unlisted : before_r board m ≡ 0
+  unlisted =
+      omega (
+        arith,
+        none-starts (named m) piece_most (start_of board) unnamed,
+        none-starts (touched m) board board untouched,
+      )
+
+pub load-none : (board : ℕ) (m : List ℕ) {n : ℕ} → n ≡ named_count board m → n ≡ 0 → 0 ≡ before_r board m
+load-none board m e z = sym (unlisted board m (sym e ∙ z))
+
 pub ruleset walks = (walk_none, walk-again, walk-most, pages-few)
 
 pub ruleset counts = (count-zero, count-again, count-le, pages-few)
 
 pub ruleset marks = (mark-unnamed, mark-past, marked-at, writes-end, erases-end, pages-few, pages-some)
+
+pub ruleset loads = (load-none)
 
 pub ruleset lists = (
   at-erase,

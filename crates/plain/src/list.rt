@@ -124,8 +124,8 @@ pub fn list(map: Map<'_>, kind: RunKind, due: u32) -> Listed
     Listed { step, total }
 }
 
-// R is one packet more; to hold there is none.
-fn with_r(number: u32, kind: RunKind) -> u32
+/// R is one packet more; to hold there is none.
+pub fn with_r(number: u32, kind: RunKind) -> u32
     requires { number < 2 ^ 31 }
     ensures { result ≡ number + r_count kind }
 {
