@@ -1,6 +1,6 @@
 -- What the three walks tell of the list: where each kind of packet ends, and the step that is due.
 use Rattle.std.specs.Prelude.{leb}
-use Rattle.std.proofs.Common.{ℕ, ◌+◌, ◌-◌, ◌*◌, ◌≤◌, ◌<◌, Bool, true, false, List, ◌≡◌, sym, ap, ◌∙◌, zero-add, arith, lt-ltb, le-ltb}
+use Rattle.std.proofs.Common.{ℕ, ◌+◌, ◌-◌, ◌≤◌, ◌<◌, Bool, true, false, List, ◌≡◌, sym, ap, ◌∙◌, zero-add, arith, lt-ltb, le-ltb}
 use Rattle.basis.specs.Laws.Choice.{decide, true-false}
 use Rattle.basis.specs.Units.{start_of}
 use Rattle.order.specs.Plan.{before_verify, before_r}
