@@ -53,8 +53,8 @@ impl Board {
         ensures { result ≡ board_of pages }
     {
         match pages {
-            SHORT_PAGES => Some(Board::Short),
-            LONG_PAGES => Some(Board::Long),
+            124 => Some(Board::Short),
+            248 => Some(Board::Long),
             _ => None,
         }
     }

@@ -20,6 +20,8 @@ impl RunKind {
         match number {
             0 => RunKind::Reset,
             1 => RunKind::Jump,
+            2 => RunKind::Hold,
+            // The listed and the unlisted apart, as the paper has them.
             _ => RunKind::Hold,
         }
     }

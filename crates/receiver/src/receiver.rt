@@ -53,14 +53,15 @@ impl Receiver {
     {
         // The last byte of a packet comes behind so many.
         let last = usize::from(self.bytes[2]) + 3;
+        // Each arm returns by itself: as the value of the `match` the record is copied once more.
         match self.len {
-            0 => self.hunt(b).quiet(),
-            1 if b != NEXT_START => self.hunt(b).quiet(),
-            2 if b < 5 => self.gather(b).hand(),
-            1 | 2 => self.gather(b).quiet(),
-            len if len < last => self.gather(b).quiet(),
-            len if len == last => self.gather(b).hand(),
-            _ => self.hunt(b).quiet(),
+            0 => return self.hunt(b).quiet(),
+            1 if b != NEXT_START => return self.hunt(b).quiet(),
+            2 if b < 5 => return self.gather(b).hand(),
+            1 | 2 => return self.gather(b).quiet(),
+            len if len < last => return self.gather(b).quiet(),
+            len if len == last => return self.gather(b).hand(),
+            _ => return self.hunt(b).quiet(),
         }
     }
 
@@ -89,21 +90,24 @@ impl Receiver {
     }
 
     /// What was gathered is dropped; every byte stays.
-    pub fn emptied(self) -> Receiver
+    // In place: by `..self` the record's 272 bytes are copied once more.
+    pub fn emptied(mut self) -> Receiver
         ensures { result ≡ emptied self }
     {
-        Receiver { len: 0, ..self }
+        self.len = 0;
+        self
     }
 
     // What was gathered is dropped; the byte may itself begin a start.
     fn hunt(mut self, b: u8) -> Receiver
         ensures { result ≡ stored self (gathering (hunted b)) }
     {
-        if b != START {
-            return self.emptied();
+        if b == START {
+            self.bytes[0] = b;
+            self.len = 1;
+            return self;
         }
-        self.bytes[0] = b;
-        self.len = 1;
+        self.len = 0;
         self
     }
 
