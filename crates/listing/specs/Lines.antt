@@ -27,6 +27,10 @@ refusal_text b = field refused_word b.line ++ (field (codes " ") b.number ++ fie
 unfoldable pub refusal_at : Blame → List ℕ
 refusal_at b = refusal_text b ++ line_end
 
+-- no line of a refusal is longer: 8 characters, three numbers of 20 digits, two spaces and 0A
+abbrev pub refusal_room : ℕ
+refusal_room = 71
+
 -- REFUSED and the number
 unfoldable pub refusal_line : ℕ → List ℕ
 refusal_line k = field refused_word k ++ line_end
@@ -44,6 +48,10 @@ head_line = head_text ++ line_end
 -- step number, command letter and whole packet in hex; the command is the packet's fourth byte
 unfoldable pub step_line : ℕ → List ℕ → List ℕ
 step_line n p = decimal_of n ++ (0x20 ∷ command p ∷ 0x20 ∷ (spelt p ++ line_end))
+
+-- no line above or below the steps is longer: 6 characters, 20 digits and 0A
+abbrev pub total_room : ℕ
+total_room = 27
 
 -- TOTAL and the number of packets
 abbrev pub total_text : ℕ → List ℕ
@@ -75,6 +83,10 @@ record_text x =
 -- closed by 0A
 unfoldable pub record_line : Record → List ℕ
 record_line x = record_text x ++ line_end
+
+-- no line of a record is longer: 38 characters of words, five numbers of 20 digits and 0A
+abbrev pub log_room : ℕ
+log_room = 139
 
 -- what a record says, or REFUSED and the number
 abbrev pub log_text : Answer Record → List ℕ

@@ -1,7 +1,8 @@
 // A plan's lines: what a load that ends with a reset sends, packet by packet.
-ghost use Rattle.std.specs.Prelude.{◌≡◌, ◌++◌, ◌*◌, ◌<◌, ◌≤◌, length, OnOk, IfOk};
+ghost use Rattle.std.specs.Prelude.{◌≡◌, ◌*◌, ◌<◌, ◌≤◌, length, OnOk, IfOk};
 ghost use Rattle.std.specs.Io.KnownBytes.{Appends};
 ghost use Rattle.basis.specs.Board.{pages_of};
+ghost use Rattle.basis.specs.Lists.{overlay};
 ghost use Rattle.basis.specs.Refusals.{answer_of};
 ghost use Rattle.basis.specs.declared.kind.RunKind.{RunKind};
 ghost use Rattle.events.specs.Paper.{paper_refusal};
@@ -9,12 +10,13 @@ ghost use Rattle.order.specs.Plan.{plan, total as packets};
 ghost use Rattle.packet.specs.Packet.{packet_most, command};
 ghost use Rattle.runs.specs.Pieces.{named_count};
 ghost use Rattle.session.specs.Session.{started};
-ghost use Rattle.listing.specs.Lines.{line_end, line_text, head_line, step_line, total_line};
+ghost use Rattle.listing.specs.Lines.{head_line, step_line, total_room, total_line};
 ghost use Rattle.listing.specs.Plan.{step_lines, plan_text, listing_by};
-ghost use Rattle.listing.specs.declared.lines.Line.{Line};
 
 use crate::lines::Line;
+use crate::numbers::last_field;
 use basis::board::Board;
+use basis::buffers::write;
 use basis::kind::RunKind;
 use events::refusal::Refusal;
 use image::writer::spell;
@@ -77,29 +79,32 @@ impl<'a> Listing<'a> {
             (plan_text (pages_of self.entry.file.map.board) self.entry.file.image.now
             self.entry.file.map.bits.now)) }
     {
-        writeln!(out, "{}", head_line())?;
+        writeln!(out, "{}", Line::head())?;
         let mut packet = [0u8; PACKET];
         let mut hex = [0u8; 2 * PACKET];
         print_steps(out, self.file, &mut packet, &mut hex)?;
-        writeln!(out, "{}", total_line(self.total))
+        writeln!(out, "{}", Line::total(self.total))
     }
 }
 
-/// The line above the steps; its 0A comes with `writeln`.
-pub fn head_line() -> Line
-    ensures line { result ≡ Line.Head }
-    ensures text { line_text result ++ line_end ≡ head_line }
+/// The line above the steps, at the buffer's start; gives its length.
+pub fn head_line(buffer: &mut [u8]) -> usize
+    requires { total_room ≤ length buffer.old }
+    ensures end { result ≡ length head_line }
+    ensures buffer { buffer.new ≡ overlay head_line buffer.old }
 {
-    Line::Head
+    write(buffer, b"STEP KIND PACKET\n");
+    17
 }
 
-/// TOTAL and the number of packets; its 0A comes with `writeln`.
+/// The line below them, at the buffer's start; gives its length.
 #[tactic(auto, unfolding(crate::specs::Lines::total_line))]
-pub fn total_line(total: u32) -> Line
-    ensures line { result ≡ Line.Total total }
-    ensures text { line_text result ++ line_end ≡ total_line total }
+pub fn total_line(buffer: &mut [u8], total: u32) -> usize
+    requires { total_room ≤ length buffer.old }
+    ensures end { result ≡ length (total_line total) }
+    ensures buffer { buffer.new ≡ overlay (total_line total) buffer.old }
 {
-    Line::Total(total)
+    last_field(buffer, 0, b"TOTAL ", u64::from(total))
 }
 
 // A line for each packet; the packet's buffer is lent, as that of `start_with`.

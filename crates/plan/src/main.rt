@@ -3,13 +3,16 @@
 #![tactic(auto)]
 
 ghost use Rattle.std.specs.Prelude.{◌≤◌, length};
+ghost use Rattle.listing.specs.Plan.{longest_line};
 
 use basis::board::{Board, PAGE, SHORT_PAGES};
-use listing::plan::Listing;
-use listing::refusals;
+use basis::buffers::first;
+use listing::plan::{Listing, head_line, total_line};
+use listing::refusals::refusal_at;
+use listing::sheets::Sheets;
 use listing::text::{self, Blame, LINE, Text};
 use std::io;
-use std::io::{Read, Write};
+use std::io::Read;
 
 // The program is for the short board.
 const SIZE: usize = (SHORT_PAGES * PAGE) as usize;
@@ -22,29 +25,30 @@ const ROOM: usize = 65536;
 fn main(rt: HostRuntime) -> io::Result<()> {
     let mut image = [0u8; SIZE];
     let mut map = [0u8; MAP];
-    let reading = read_all(&rt, &mut image, &mut map)?;
+    // one buffer, of what is read and then of what is written
     let mut buffer = [0u8; ROOM];
-    let mut out = Gathered {
-        out: io::writer(&rt),
-        buffer: &mut buffer,
-        len: 0,
-    };
-    match reading {
-        Ok(_) => print(&mut out, &image, &map)?,
-        Err(blame) => refusals::print(&mut out, blame)?,
+    match read_all(&rt, &mut buffer, &mut image, &mut map)? {
+        Ok(_) => print(&rt, &image, &map, &mut buffer),
+        Err(blame) => {
+            let n = refusal_at(&mut buffer, blame);
+            rt.write_all(first(&buffer, n))
+        }
     }
-    out.flush()
 }
 
 // To the input's end, or to the first refusal: what comes after that counts for nothing.
-fn read_all(rt: &impl Input, image: &mut [u8], map: &mut [u8]) -> io::Result<Result<Text, Blame>> {
+fn read_all(
+    rt: &impl Input,
+    buffer: &mut [u8],
+    image: &mut [u8],
+    map: &mut [u8],
+) -> io::Result<Result<Text, Blame>> {
     let mut reader = rt.reader();
-    let mut buffer = [0u8; ROOM];
     let mut line = [0u8; LINE];
     let mut reading = text::start(Board::Short, image, map);
     // every loop ends; no input has so many reads
     for _ in 0..u64::MAX {
-        let n = reader.read(&mut buffer)?;
+        let n = reader.read(buffer)?;
         if n == 0 {
             return Ok(text::close(reading, Board::Short, &line, image, map));
         }
@@ -56,38 +60,21 @@ fn read_all(rt: &impl Input, image: &mut [u8], map: &mut [u8]) -> io::Result<Res
     Err(io::Error::other("standard input has no end"))
 }
 
-fn print(out: &mut impl Write, image: &[u8], map: &[u8]) -> io::Result<()> {
+fn print(rt: &impl Print, image: &[u8], map: &[u8], buffer: &mut [u8]) -> io::Result<()>
+    requires { longest_line ≤ length buffer.old }
+{
     // a file that closed names a byte, so its listing is never refused
     let Ok(listing) = Listing::start(Board::Short, image, map) else {
         return Err(io::Error::other("the file has no packets"));
     };
-    listing.print(out)
-}
-
-// What is written is gathered and goes out together. Not std's `BufWriter`: that takes memory, and the programs
-// trust no C function for it.
-#[derive(Drop)]
-struct Gathered<'a, W: Write + Drop> {
-    out: W,
-    buffer: &'a mut [u8],
-    len: usize,
-    ghost within: { len ≤ length buffer.now },
-}
-
-impl<W: Write + Drop> Write for Gathered<'_, W> {
-    fn write(&mut self, bytes: &[u8]) -> io::Result<usize> {
-        if self.len == self.buffer.len() {
-            self.flush()?;
-        }
-        let n = bytes.len().min(self.buffer.len() - self.len);
-        self.buffer[self.len..self.len + n].copy_from_slice(&bytes[..n]);
-        self.len += n;
-        Ok(n)
+    let head = head_line(buffer);
+    rt.write_all(first(buffer, head))?;
+    let mut sheets = Sheets::new(listing);
+    while sheets.listed < sheets.listing.total {
+        let sheet = sheets.sheet(buffer);
+        sheets = sheet.rest;
+        rt.write_all(first(buffer, sheet.end))?;
     }
-
-    fn flush(&mut self) -> io::Result<()> {
-        self.out.write_all(&self.buffer[..self.len])?;
-        self.len = 0;
-        self.out.flush()
-    }
+    let end = total_line(buffer, sheets.listing.total);
+    rt.write_all(first(buffer, end))
 }

@@ -3,7 +3,8 @@
 
 ghost use Rattle.std.specs.Prelude.{◌≤◌, length, IfOk};
 
-use listing::log::log_line;
+use basis::buffers::first;
+use listing::log::{ROOM, log_line};
 use service_log::read::MOST;
 use std::io;
 use std::io::Read;
@@ -11,8 +12,10 @@ use std::io::Read;
 fn main(rt: HostRuntime) -> io::Result<()> {
     // one byte more than the longest record has, to tell a longer input
     let mut input = [0u8; MOST + 1];
+    let mut line = [0u8; ROOM];
     let n = fill(&rt, &mut input)?;
-    rt.println(log_line(&input[..n]))
+    let len = log_line(&input[..n], &mut line);
+    rt.write_all(first(&line, len))
 }
 
 // Reads until the buffer is full or the input ends. Not std's `read_to_end`: that takes memory, and the programs

@@ -95,6 +95,19 @@ sheet-within room n (p ∷ ps) =
     (λ t. rw t (omega arith))
     (λ t. rw t (omega (arith, sheet-within (room - length (step_line (n + 1) p)) (n + 1) ps)))
 
+-- of a file's packets fewer are left after a sheet
+pub sheet-fewer : (board : ℕ) (image m : List ℕ) (room n k x y : ℕ) → n ≡ total board m RunKind.Reset
+    → longest_line ≤ room → k < n
+    → x ≡ (sheet_of room k (drop k (plan board image m RunKind.Reset))).listed → y ≡ n → y - x < n - k
+sheet-fewer board image m room n k x y all r h e f =
+    let rest : List (List ℕ) = drop k (plan board image m RunKind.Reset) in
+    let some : 0 < length rest = omega (
+      arith,
+      length-drop k (plan board image m RunKind.Reset),
+      plan-length board image m RunKind.Reset,
+    ) in
+    omega (arith, sheet-moves room k rest r some)
+
 -- sheets one after another are the plan's lines: each is followed by the lines of the packets after it
 pub sheet-text : (room n : ℕ) (ps : List (List ℕ))
     → step_lines n ps
