@@ -5,4 +5,5 @@ pub mod Lines
 pub mod Feed
 pub mod Plan
 pub mod Paper
+pub mod Printout
 pub mod Laws

@@ -1,7 +1,6 @@
 -- The paper's numbers and values for each case of the code's answers.
-use Rattle.std.specs.Prelude.{◌≡◌, ℕ, List, Result, Ok, Err}
+use Rattle.std.specs.Prelude.{Result, Ok, Err}
 use Rattle.basis.specs.Refusals.{Answer, answer_of}
-use Rattle.basis.specs.declared.board.Board.{Board}
 use Rattle.events.specs.Paper.{paper_refusal as session_refusal}
 use Rattle.events.specs.declared.refusal.Refusal.{Refusal}
 use Rattle.image.specs.Paper.{paper_refusal}
@@ -18,11 +17,6 @@ abbrev pub paper_reading : {A : Type 0} → Result A Code.Blame → Lined A
 paper_reading (Ok x) = going x
 paper_reading (Err b) = stopped (paper_blame b)
 
--- how many packets a listing has, or the refusal
-abbrev pub paper_begun : Result Listing Refusal → Answer ℕ
-paper_begun = answer_of session_refusal (λ (l : Listing). l.total)
-
--- the listing is of this board, image and map
-abbrev pub Lists : Board → List ℕ → List ℕ → Listing → Type 0
-Lists board image m l =
-    (l.file.map.board ≡ board) × (l.file.image.now ≡ image) × (l.file.map.bits.now ≡ m)
+-- a listing that is begun, or the refusal
+abbrev pub paper_begun : Result Listing Refusal → Answer Listing
+paper_begun = answer_of session_refusal (λ (l : Listing). l)

@@ -1,5 +1,5 @@
 // A plan's lines: what a load that ends with a reset sends, packet by packet.
-ghost use Rattle.std.specs.Prelude.{◌≡◌, ◌*◌, ◌<◌, ◌≤◌, length, OnOk, IfOk};
+ghost use Rattle.std.specs.Prelude.{◌≡◌, ◌*◌, ◌<◌, ◌≤◌, length, drop, OnOk, IfOk};
 ghost use Rattle.std.specs.Io.KnownBytes.{Appends};
 ghost use Rattle.basis.specs.Board.{pages_of};
 ghost use Rattle.basis.specs.Lists.{overlay};
@@ -11,16 +11,20 @@ ghost use Rattle.packet.specs.Packet.{packet_most, command};
 ghost use Rattle.runs.specs.Pieces.{named_count};
 ghost use Rattle.session.specs.Session.{started};
 ghost use Rattle.listing.specs.Lines.{head_line, step_line, total_room, total_line};
-ghost use Rattle.listing.specs.Plan.{step_lines, plan_text, listing_by};
+ghost use Rattle.listing.specs.Paper.{paper_begun};
+ghost use Rattle.listing.specs.Plan.{step_lines, plan_text, printout_by, listing_at, Listed, listing_by, sheet_of};
 
 use crate::lines::Line;
 use crate::numbers::last_field;
+pub use crate::sheets::LONGEST;
+use crate::sheets::Sheets;
 use basis::board::Board;
 use basis::buffers::write;
 use basis::kind::RunKind;
 use events::refusal::Refusal;
 use image::writer::spell;
 use order::sending::send;
+use order::step::Step;
 use order::steps::Steps;
 use packet::build::PACKET;
 use runs::file::File;
@@ -28,27 +32,114 @@ use runs::map::Map;
 use session::session::Session;
 use std::io;
 
+/// So many of the packets are listed; `next` is what is left then.
+#[derive(Clone, Copy, Debug, PartialEq, Eq)]
+pub struct Listing {
+    pub next: Option<Step>,
+    pub listed: u32,
+    pub total: u32,
+}
+
+/// The listing after what was written, and the place behind that.
+#[derive(Clone, Copy, Debug, PartialEq, Eq)]
+pub struct Sheet {
+    pub listing: Listing,
+    pub end: usize,
+}
+
+impl Listing {
+    /// Refused as a session's start is: 20 for other sizes than the board's, 32 for a file that names no byte.
+    #[tactic(auto, using(crate::proofs::Starts::printed))]
+    pub fn start(board: Board, image: &[u8], map: &[u8]) -> Result<Listing, Refusal>
+        ensures { paper_begun result
+            ≡ listing_by (pages_of board) map.now
+            (started (pages_of board) image.now map.now packet_most RunKind.Reset) }
+    {
+        let printout = Printout::start(board, image, map)?;
+        Ok(Listing::of(Sheets::new(printout)))
+    }
+
+    /// Whole lines of the packets that are left, as long as the longest one has room, at the buffer's start.
+    pub fn sheet(self, board: Board, image: &[u8], map: &[u8], buffer: &mut [u8]) -> Sheet
+        requires { Listed (pages_of board) image.now map.now self }
+        ensures listing { let g = sheet_of (length buffer.old) self.listed
+            (drop self.listed (plan (pages_of board) image.now map.now RunKind.Reset)) in
+            result.listing ≡ listing_at (pages_of board) map.now g.listed }
+        ensures end { let g = sheet_of (length buffer.old) self.listed
+            (drop self.listed (plan (pages_of board) image.now map.now RunKind.Reset)) in
+            result.end ≡ length g.text }
+        ensures buffer { let g = sheet_of (length buffer.old) self.listed
+            (drop self.listed (plan (pages_of board) image.now map.now RunKind.Reset)) in
+            buffer.new ≡ overlay g.text buffer.old }
+    {
+        let sheet = self.sheets(board, image, map).sheet(buffer);
+        Sheet {
+            listing: Listing::of(sheet.rest),
+            end: sheet.end,
+        }
+    }
+
+    // What is left, with the file that is lent anew.
+    #[tactic(auto, using(crate::proofs::Starts::listed))]
+    fn sheets<'a>(self, board: Board, image: &'a [u8], map: &'a [u8]) -> Sheets<'a>
+        requires { Listed (pages_of board) image.now map.now self }
+        ensures board { result.listing.file.map.board ≡ board }
+        ensures image { result.listing.file.image.now ≡ image.now }
+        ensures bits { result.listing.file.map.bits.now ≡ map.now }
+        ensures listed { result.listed ≡ self.listed }
+    {
+        let map = Map { board, bits: map };
+        let listing = Printout {
+            file: File { map, image },
+            total: self.total,
+        };
+        let steps = Steps {
+            map,
+            kind: RunKind::Reset,
+            next: self.next,
+        };
+        Sheets {
+            listing,
+            steps,
+            listed: self.listed,
+        }
+    }
+
+    // The same without the file.
+    #[tactic(auto, using(crate::proofs::Starts::told))]
+    fn of(sheets: Sheets<'_>) -> Listing
+        ensures { let m = sheets.entry.listing.file.map in
+            result ≡ listing_at (pages_of m.board) m.bits.now sheets.entry.listed }
+    {
+        Listing {
+            next: sheets.steps.next,
+            listed: sheets.listed,
+            total: sheets.listing.total,
+        }
+    }
+}
+
 /// A file that a load with a reset can take, and how many packets the load has.
 #[derive(Clone, Copy)]
-pub struct Listing<'a> {
+pub struct Printout<'a> {
     pub file: File<'a>,
     pub total: u32,
     pub ghost some: { 0 < named_count (pages_of file.map.board) file.map.bits.now },
     pub ghost whole: { total ≡ packets (pages_of file.map.board) file.map.bits.now RunKind.Reset },
 }
 
-impl<'a> Listing<'a> {
+impl<'a> Printout<'a> {
     /// Refused as a session's start is: 20 for other sizes than the board's, 32 for a file that names no byte.
-    // The clauses are `paper_begun` and `Lists`, which name this struct, so that this file cannot import them.
-    pub fn start(board: Board, image: &'a [u8], map: &'a [u8]) -> Result<Listing<'a>, Refusal>
+    // The clauses are `paper_printout` and `Lists`, which name this struct, so that this file cannot import them.
+    pub fn start(board: Board, image: &'a [u8], map: &'a [u8]) -> Result<Printout<'a>, Refusal>
         ensures begun { answer_of paper_refusal (λ l. l.total) result
-            ≡ listing_by (pages_of board) map.now
+            ≡ printout_by (pages_of board) map.now
             (started (pages_of board) image.now map.now packet_most RunKind.Reset) }
         ensures file { IfOk result (λ l. (l.file.map.board ≡ board) × (l.file.image.now ≡ image.now)
             × (l.file.map.bits.now ≡ map.now)) }
     {
         let mut packet = [0u8; PACKET];
-        Listing::start_with(board, image, map, &mut packet)
+        Printout::start_with(board, image, map, &mut packet)
     }
 
     // The packet's buffer is lent from another function: its 259 bytes would stand in every fact of this one.
@@ -58,16 +149,16 @@ impl<'a> Listing<'a> {
         image: &'a [u8],
         map: &'a [u8],
         packet: &mut [u8],
-    ) -> Result<Listing<'a>, Refusal>
+    ) -> Result<Printout<'a>, Refusal>
         ensures begun { answer_of paper_refusal (λ l. l.total) result
-            ≡ listing_by (pages_of board) map.now
+            ≡ printout_by (pages_of board) map.now
             (started (pages_of board) image.now map.now (length packet.old) RunKind.Reset) }
         ensures file { IfOk result (λ l. (l.file.map.board ≡ board) × (l.file.image.now ≡ image.now)
             × (l.file.map.bits.now ≡ map.now)) }
     {
         let next = Session::start(board, RunKind::Reset, image, map, packet)?;
         let map = Map { board, bits: map };
-        Ok(Listing {
+        Ok(Printout {
             file: File { map, image },
             total: next.session.total,
         })

@@ -1,5 +1,5 @@
 // A plan's lines sheet by sheet, into lent buffers.
-// Beside `Listing::print` since a sheet cannot fail, and asks for no writer.
+// Beside `Printout::print` since a sheet cannot fail, and asks for no writer.
 ghost use Rattle.std.specs.Prelude.{◌≡◌, ◌+◌, ◌-◌, ◌*◌, ◌<◌, ◌≤◌, length, drop};
 ghost use Rattle.basis.specs.Board.{pages_of};
 ghost use Rattle.basis.specs.Lists.{overlay, copy_of};
@@ -11,7 +11,7 @@ ghost use Rattle.listing.specs.Lines.{step_line};
 ghost use Rattle.listing.specs.Plan.{sheet_of};
 
 use crate::numbers::decimal;
-use crate::plan::{Listing, command_letter};
+use crate::plan::{Printout, command_letter};
 use basis::kind::RunKind;
 use image::writer::spell;
 use order::sending::send;
@@ -24,7 +24,7 @@ pub const LONGEST: usize = 542;
 /// A listing of which so many packets are listed, and the steps of those that are left.
 #[derive(Clone, Copy)]
 pub struct Sheets<'a> {
-    pub listing: Listing<'a>,
+    pub listing: Printout<'a>,
     pub steps: Steps<'a>,
     pub listed: u32,
     pub ghost left: { let m = listing.file.map in
@@ -42,7 +42,7 @@ pub struct Sheet<'a> {
 
 impl<'a> Sheets<'a> {
     /// Nothing is listed yet.
-    pub fn new(listing: Listing<'a>) -> Sheets<'a>
+    pub fn new(listing: Printout<'a>) -> Sheets<'a>
         ensures listing { result.listing ≡ listing.entry }
         ensures listed { result.listed ≡ 0 }
     {
@@ -73,7 +73,7 @@ impl<'a> Sheets<'a> {
         self.sheet_with(&mut packet, buffer)
     }
 
-    // The packet's buffer is lent, as that of `Listing::start_with`.
+    // The packet's buffer is lent, as that of `Printout::start_with`.
     fn sheet_with(self, packet: &mut [u8], buffer: &mut [u8]) -> Sheet<'a>
         requires { length packet.old ≡ packet_most }
         ensures listing { result.rest.listing ≡ self.entry.listing }

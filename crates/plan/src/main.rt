@@ -9,7 +9,6 @@ use basis::board::{Board, PAGE, SHORT_PAGES};
 use basis::buffers::first;
 use listing::plan::{Listing, head_line, total_line};
 use listing::refusals::refusal_at;
-use listing::sheets::Sheets;
 use listing::text::{self, Blame, LINE, Text};
 use std::io;
 use std::io::Read;
@@ -64,17 +63,17 @@ fn print(rt: &impl Print, image: &[u8], map: &[u8], buffer: &mut [u8]) -> io::Re
     requires { longest_line ≤ length buffer.old }
 {
     // a file that closed names a byte, so its listing is never refused
-    let Ok(listing) = Listing::start(Board::Short, image, map) else {
+    let Ok(begun) = Listing::start(Board::Short, image, map) else {
         return Err(io::Error::other("the file has no packets"));
     };
     let head = head_line(buffer);
     rt.write_all(first(buffer, head))?;
-    let mut sheets = Sheets::new(listing);
-    while sheets.listed < sheets.listing.total {
-        let sheet = sheets.sheet(buffer);
-        sheets = sheet.rest;
+    let mut listing = begun;
+    while listing.listed < listing.total {
+        let sheet = listing.sheet(Board::Short, image, map, buffer);
+        listing = sheet.listing;
         rt.write_all(first(buffer, sheet.end))?;
     }
-    let end = total_line(buffer, sheets.listing.total);
+    let end = total_line(buffer, listing.total);
     rt.write_all(first(buffer, end))
 }

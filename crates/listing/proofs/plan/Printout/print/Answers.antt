@@ -6,7 +6,7 @@ use Rattle.basis.specs.declared.kind.RunKind.{RunKind}
 use Rattle.order.specs.Plan.{plan, total}
 use Rattle.listing.specs.Lines.{line_end, head_line, total_line}
 use Rattle.listing.specs.Plan.{step_lines, plan_text}
-use Rattle.listing.proofs.plan.Listing.print.Goals as goal
+use Rattle.listing.proofs.plan.Printout.print.Goals as goal
 
 module _ (board : ℕ) (image m : List ℕ) (n : ℕ) (h t : List ℕ) (e : n ≡ total board m RunKind.Reset)
     (head : h ++ line_end ≡ head_line) (foot : t ++ line_end ≡ total_line n) where
