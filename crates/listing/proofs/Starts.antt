@@ -46,6 +46,14 @@ module _ (board : ℕ) (image m : List ℕ) (l : Listing) (h : Listed board imag
   pub listed-within : l.listed ≤ l.total
   listed-within = omega (arith, h.within, listed-total board image m l h)
 
-pub ruleset listed = (listed-right, listed-long, listed-some, listed-total, listed-stands, listed-steps, listed-within)
+pub ruleset listed = (
+  listed-right,
+  listed-long,
+  listed-some,
+  listed-total,
+  listed-stands,
+  listed-steps,
+  listed-within,
+)
 
 pub ruleset told = (steps-listing)
